@@ -1,0 +1,30 @@
+-- `fields::put_i32` meets its contract.
+-- Assumes nothing.
+use mathlib.Core.Path.{ap, _∙_}
+use Prim.Native.Nat.{ℕ}
+use lib.Seq.{sets}
+use mir.Syntax.{w32}
+use mir.ValLaws.{toZ-ofZ}
+use Rattle.fields.specs.Fields.{bytes32, bits32}
+use borrow.Author.Needs.{needs}
+use Rattle.fields.proofs.put_i32.Statement.{statement}
+use Rattle.fields.proofs.put_i32.Tie as tie
+
+bits-requires : tie.Need-bits-requires
+bits-requires c κs = search needs
+
+put-u32-requires : tie.Need-put-u32-requires
+put-u32-requires c κs = search needs
+
+same-length : tie.Need-same-length
+same-length c = search needs
+
+returns : tie.Need-returns
+returns c =
+    let s = c .before .before .before .before .before .before in
+    c .before .before .put-u32 .ensures
+    ∙ ap (λ (n : ℕ). sets (s .args .buf .now) (s .args .at) (bytes32 n))
+    (c .before .before .before .bits .ensures ∙ ap bits32 (toZ-ofZ w32 (s .args .z) (s .fits .z)))
+
+pub put-i32-spec : {M : Type 1} → statement M
+put-i32-spec = tie.close (tie.spec bits-requires put-u32-requires same-length returns)

@@ -1,0 +1,4 @@
+-- The root of the crate's specs.
+pub mod Answers
+pub mod Mapping
+pub mod Asking

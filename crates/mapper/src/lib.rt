@@ -1,0 +1,1 @@
+// The g., n. and c. questions to a transcript.
