@@ -1,16 +1,46 @@
 -- Matched columns: a place of one goes to its place on the other side, in both directions alike. Assumes nothing.
 use Prim.Native.Nat.{ℕ, _+_, _<_}
 use native.Mathlib.Omega.{arith}
-use mathlib.Core.Bool.{Bool}
-use mathlib.Core.List.{List, [], _∷_}
+use mathlib.Core.Bool.{Bool, true, false≢true}
+use mathlib.Core.List.{List, [], _∷_, _++_}
 use mathlib.Core.Path.{_≡_, refl, ap, _∙_}
+use lib.Dec.{eqb}
 use lib.IntN.{pos}
-use Rattle.cigar.specs.Elements.{Element, Side, Kind, kind, genome, transcript, total, alongGenome, alongTranscript}
+use borrow.Author.Tests.{eqb-true}
+use Rattle.whole.specs.Whole.{by-test}
+use Rattle.cigar.specs.Elements.{Element, Side, Kind, kindOf, kind, genome, transcript, total, alongGenome, alongTranscript}
 use Rattle.cigar.specs.Elements.Kind.{matches, inserts, deletes, skips}
 use Rattle.segments.specs.Places.{segmentFrom, surely, End, spotIn, mapPlace}
-use Rattle.promises.specs.Demands.{Column, AllZero}
+use Rattle.promises.specs.Bases.{isMatch}
 use Rattle.promises.proofs.Totals.{total-append}
 use Rattle.promises.proofs.Spots.{slid, amid-place}
+
+-- the place p on the one side and the place q on the other are one column of a matching element
+pub record Column (from to : Side) (es : List Element) (p q : ℕ) : Type 0 where
+  pub before : List Element
+  pub element : Element
+  pub after : List Element
+  pub at : ℕ
+  pub stands : es ≡ before ++ element ∷ after
+  pub match : kind element ≡ matches
+  pub within : at < element .count
+  pub on-from : p ≡ total from before + at
+  pub on-to : q ≡ total to before + at
+
+-- the three letters match
+pub match-kind : (x : Element) → isMatch x ≡ true → kind x ≡ matches
+unfolding isMatch kindOf
+match-kind x =
+    let c = x .letter in
+    by-test (eqb c 61)
+    (λ t. rw (eqb-true c 61 t) (λ h. refl))
+    (λ t.
+    by-test (eqb c 77)
+    (λ u. rw (eqb-true c 77 u) (λ h. refl))
+    (λ u.
+    by-test (eqb c 88)
+    (λ v. rw (eqb-true c 88 v) (λ h. refl))
+    (λ v. rw (t, u, v) (λ h. absurd (false≢true h)))))
 
 -- how far an element goes, by its kind
 pub match-genome : (x : Element) → kind x ≡ matches → genome x ≡ x .count
@@ -29,28 +59,26 @@ pub skip-transcript : (x : Element) → kind x ≡ skips → transcript x ≡ 0
 unfolding transcript
 skip-transcript x e = rw e
 
--- elements of count 0 go nowhere
-none-genome : (c : Kind) → alongGenome c 0 ≡ 0
-none-genome matches = refl
-none-genome inserts = refl
-none-genome deletes = refl
-none-genome skips = refl
+-- an element of count 0 goes nowhere
+pub none-genome : (x : Element) → x .count ≡ 0 → genome x ≡ 0
+unfolding genome
+none-genome x h = rw h (nowhere (kind x))
+  where
+    nowhere : (c : Kind) → alongGenome c 0 ≡ 0
+    nowhere matches = refl
+    nowhere inserts = refl
+    nowhere deletes = refl
+    nowhere skips = refl
 
-none-transcript : (c : Kind) → alongTranscript c 0 ≡ 0
-none-transcript matches = refl
-none-transcript inserts = refl
-none-transcript deletes = refl
-none-transcript skips = refl
-
-pub zeros-genome : (xs : List Element) → AllZero xs → total genome xs ≡ 0
-unfolding total genome
-zeros-genome [] h = refl
-zeros-genome (x ∷ xs) h = rw (h .0, none-genome (kind x), zeros-genome xs (h .1))
-
-pub zeros-transcript : (xs : List Element) → AllZero xs → total transcript xs ≡ 0
-unfolding total transcript
-zeros-transcript [] h = refl
-zeros-transcript (x ∷ xs) h = rw (h .0, none-transcript (kind x), zeros-transcript xs (h .1))
+pub none-transcript : (x : Element) → x .count ≡ 0 → transcript x ≡ 0
+unfolding transcript
+none-transcript x h = rw h (nowhere (kind x))
+  where
+    nowhere : (c : Kind) → alongTranscript c 0 ≡ 0
+    nowhere matches = refl
+    nowhere inserts = refl
+    nowhere deletes = refl
+    nowhere skips = refl
 
 -- a side on which a matching element goes as far as its count: both sides do
 abbrev pub Counts : Side → Type 0

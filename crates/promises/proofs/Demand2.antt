@@ -1,21 +1,25 @@
 -- Demand 2: in strict mode each base of a matched column, and each base of an intron between matched columns, maps to n. and c. and back to itself, on either strand; an intron base counts from the nearest exon base, halfway from the upstream one. Assumes nothing.
-use Prim.Native.Nat.{ℕ, zero, suc, _+_, _-_, _≤_, _<_}
+use Prim.Native.Nat.{ℕ, _+_, _-_, _≤_, _<_}
 use native.Mathlib.Omega.{arith}
 use mathlib.Core.Bool.{Bool, true, false}
 use mathlib.Core.List.{List, [], _∷_, _++_, append-assoc}
 use mathlib.Core.Path.{_≡_, refl, sym, ap, _∙_}
-use lib.IntN.{pos, negℤ, negℤ-negℤ, natAbs, _+ℤ_, _-ℤ_}
-use lib.Signed.{_<ℤ_}
-use Rattle.whole.specs.Whole.{by-test, order, sum, dif, neg}
-use Rattle.cigar.specs.Elements.{Element, genome, transcript, total}
+use lib.Dec.{leb}
+use lib.IntN.{ℤ, pos, negℤ, negℤ-negℤ, _+ℤ_, _-ℤ_}
+use borrow.Author.Tests.{leb-true, leb-false}
+use Rattle.whole.specs.Whole.{if_then_else_, by-test, order, sum, dif, neg}
+use Rattle.cigar.specs.Elements.{Element, kindOf, kind, genome, transcript, total}
+use Rattle.cigar.specs.Elements.Kind.{matches, skips}
 use Rattle.segments.specs.Places.{segmentFrom, End, leftNearer, nearer, spotIn, mapPlace}
-use Rattle.transcript.specs.Transcript.{Transcript}
+use Rattle.transcript.specs.Transcript.{Transcript, genomeLength, transcriptLength}
 use Rattle.mapper.specs.Mapping.{signed}
-use Rattle.promises.specs.Demands.{number, Named, Small, Column, Intron, FromNearest}
+use Rattle.promises.specs.Bases.{Name, Lies, Matched, upstreamOf, exonName, InIntron, placeBefore, placeAfter, apart, intronName}
+use Rattle.promises.specs.Demands.{ours, Sound, Named, FromNearest, Demand-2}
 use Rattle.promises.proofs.Totals.{total-append}
 use Rattle.promises.proofs.Spots.{slid, amid-place}
-use Rattle.promises.proofs.Turns.{sign-sign}
-use Rattle.promises.proofs.Columns.{match-genome, match-transcript, skip-genome, skip-transcript, zeros-genome, zeros-transcript, column-maps, column-within, across-column, total-one}
+use Rattle.promises.proofs.Turns.{across}
+use Rattle.promises.proofs.Columns.{Column, match-kind, match-genome, match-transcript, skip-genome, skip-transcript, column-maps, column-within, across-column, total-one}
+use Rattle.promises.proofs.Edges.{edge-before, edge-after}
 use Rattle.promises.proofs.Naming.{Reaches, has-name}
 
 -- ---- a matched column
@@ -24,159 +28,218 @@ unsigned : (forward : Bool) → signed forward (pos 0) ≡ pos 0
 unsigned true = refl
 unsigned false = refl
 
-module _ (t : Transcript) (p q : ℕ) (c : Column genome transcript (t .elements) p q) where
-  reaches-column : Reaches t p q p (pos 0)
+module _ {t : Transcript} {p : ℕ} (b : Matched t p) where
+  abbrev own : Lies (t .elements) p
+  own = b .lies
+
+  kind-is : kind (own .element) ≡ matches
+  kind-is = match-kind (own .element) (b .match)
+
+  -- its place on the transcript, along the genome
+  abbrev other : ℕ
+  other = total transcript (own .before) + own .at
+
+  at-in : own .at < own .element .count
+  at-in = omega (arith, own .within, match-genome (own .element) kind-is)
+
+  column : Column genome transcript (t .elements) p other
+  column = record {
+    before = own .before;
+    element = own .element;
+    after = own .after;
+    at = own .at;
+    stands = own .stands;
+    match = kind-is;
+    within = at-in;
+    on-from = own .place;
+    on-to = refl;
+  }
+
+  -- turned, it is the bases upstream
+  counted : across (t .forward) (transcriptLength t) other ≡ upstreamOf b
+  unfolding total
+  counted = go (t .forward)
+    where
+      length-is : transcriptLength t ≡ total transcript (own .before) + (own .element .count + total transcript (own .after))
+      length-is = ap (total transcript) (own .stands) ∙ omega (arith, total-append transcript (own .before) (own .element ∷ own .after), match-transcript (own .element) kind-is)
+
+      go : (forward : Bool) → across forward (transcriptLength t) other ≡ (if forward then other else total transcript (own .after) + (own .element .count - (own .at + 1)))
+      go true = refl
+      go false = omega (arith, length-is, at-in)
+
+  reaches-column : Reaches t p other p (pos 0)
   reaches-column = record {
-    there = λ e. column-maps genome transcript match-genome c e (t .forward);
-    here = λ e. column-maps transcript genome match-transcript (across-column c) e true;
+    there = λ e. column-maps genome transcript match-genome column e (t .forward);
+    here = λ e. column-maps transcript genome match-transcript (across-column column) e true;
     sums = omega (order, sum (pos p) (pos 0));
-    p-in = omega (arith, column-within genome transcript match-genome c);
-    q-in = column-within transcript genome match-transcript (across-column c);
+    p-in = omega (arith, column-within genome transcript match-genome column);
+    q-in = column-within transcript genome match-transcript (across-column column);
     o-in = omega arith;
   }
 
-  -- its n. number is q + 1, or on strand -1 the length less q; it has no offset
-  pub matched-base : Small t → Named t p (pos (number t q)) (pos 0)
-  matched-base small = rw (unsigned (t .forward)) at (has-name t small p q p (pos 0) reaches-column)
+  exon-named : Sound t → Named ours t p (exonName b)
+  exon-named sound = rw (unsigned (t .forward), counted) at (has-name t sound p other p (pos 0) reaches-column)
 
 -- ---- an intron
 
--- what the nearer side says of the two distances, and what is left halfway
-left-least : (forward : Bool) (l r : ℕ) → leftNearer forward (pos l) (pos r) ≡ true → l ≤ r
-left-least true l r e = omega order
-left-least false l r e = omega order
+module _ {t : Transcript} {p : ℕ} (b : InIntron t p) where
+  abbrev xs : List Element
+  xs = b .lies .before
 
-right-least : (forward : Bool) (l r : ℕ) → leftNearer forward (pos l) (pos r) ≡ false → r ≤ l
-right-least true l r e = omega order
-right-least false l r e = omega order
+  abbrev x : Element
+  x = b .lies .element
 
-left-halfway : (forward : Bool) (l r : ℕ) → 0 < l → leftNearer forward (pos l) (pos r) ≡ true → l ≡ r → pos 0 <ℤ signed forward (pos l)
-left-halfway true l r h e q = omega order
-left-halfway false l r h e q = absurd (omega order)
+  abbrev ys : List Element
+  ys = b .lies .after
 
-right-halfway : (forward : Bool) (l r : ℕ) → 0 < r → leftNearer forward (pos l) (pos r) ≡ false → l ≡ r → pos 0 <ℤ signed forward (negℤ (pos r))
-right-halfway true l r h e q = absurd (omega order)
-right-halfway false l r h e q = rw (negℤ-negℤ (pos r)) (omega order)
+  abbrev k : ℕ
+  k = b .lies .at
 
-size-neg : (n : ℕ) → natAbs (negℤ (pos n)) ≡ n
-size-neg zero = refl
-size-neg (suc n) = refl
+  skip-is : kind x ≡ skips
+  unfolding kindOf
+  skip-is = rw (b .skip)
 
-size : (forward : Bool) (n : ℕ) → natAbs (signed forward (pos n)) ≡ n
-size true n = refl
-size false n = size-neg n
+  k-in : k < x .count
+  k-in = omega (arith, b .lies .within, skip-genome x skip-is)
 
-size-of-neg : (forward : Bool) (n : ℕ) → natAbs (signed forward (negℤ (pos n))) ≡ n
-size-of-neg true n = size-neg n
-size-of-neg false n = rw (negℤ-negℤ (pos n))
-
-module _ {es xs : List Element} {x : Element} {ys : List Element} (i : Intron es xs x ys) where
-  -- the last exon base before the intron, and the first after it
-  before-is : (total genome xs ≡ total genome (i .left .rest) + i .left .edge .count) × (total transcript xs ≡ total transcript (i .left .rest) + i .left .edge .count)
+  -- the exon base before the intron, the last of the element that ends there
+  unfoldable left : Matched t (placeBefore b)
   unfolding total
+  left =
+      let (e, n) = edge-before xs (b .matched-before) in
+      let m = match-kind (e .element) (e .match) in
+      record {
+        lies = record {
+          before = e .left;
+          element = e .element;
+          after = e .right ++ x ∷ ys;
+          stands = b .lies .stands ∙ ap (λ (l : List Element). l ++ x ∷ ys) (e .stands) ∙ append-assoc (e .left) (e .element ∷ e .right) (x ∷ ys);
+          at = e .element .count - 1;
+          within = omega (arith, e .some, match-genome (e .element) m);
+          place = omega (arith, ap (total genome) (e .stands), total-append genome (e .left) (e .element ∷ e .right), n .on-genome, match-genome (e .element) m, e .some);
+        };
+        match = e .match;
+      }
+
+  before-is : (total genome xs ≡ placeBefore b + 1) × (total transcript xs ≡ other left + 1)
+  unfolding total left
   before-is =
-      let m = i .left in
-      rw (m .stands, total-append genome (m .rest) (m .edge ∷ m .zeros), total-append transcript (m .rest) (m .edge ∷ m .zeros), zeros-genome (m .zeros) (m .none), zeros-transcript (m .zeros) (m .none), match-genome (m .edge) (m .match), match-transcript (m .edge) (m .match)) (omega arith, omega arith)
+      let (e, n) = edge-before xs (b .matched-before) in
+      let m = match-kind (e .element) (e .match) in
+      (
+        omega (arith, ap (total genome) (e .stands), total-append genome (e .left) (e .element ∷ e .right), match-genome (e .element) m, e .some),
+        omega (arith, ap (total transcript) (e .stands), total-append transcript (e .left) (e .element ∷ e .right), n .on-transcript, match-transcript (e .element) m, e .some),
+      )
 
-  left-column : Column genome transcript es (total genome xs - 1) (total transcript xs - 1)
-  left-column =
-      let m = i .left in
-      record {
-        before = m .rest;
-        element = m .edge;
-        after = m .zeros ++ x ∷ ys;
-        at = m .edge .count - 1;
-        stands = i .stands ∙ ap (λ (l : List Element). l ++ x ∷ ys) (m .stands) ∙ append-assoc (m .rest) (m .edge ∷ m .zeros) (x ∷ ys);
-        match = m .match;
-        within = omega (arith, m .some);
-        on-from = omega (arith, m .some, before-is .0);
-        on-to = omega (arith, m .some, before-is .1);
-      }
-
-  right-column : Column genome transcript es (total genome xs + x .count) (total transcript xs)
+  -- the one after it, the first of the element that begins there
+  unfoldable right : Matched t (placeAfter b)
   unfolding total
-  right-column =
-      let m = i .right in
+  right =
+      let (e, n) = edge-after ys (b .matched-after) in
+      let m = match-kind (e .element) (e .match) in
       record {
-        before = xs ++ x ∷ m .zeros;
-        element = m .edge;
-        after = m .rest;
-        at = 0;
-        stands = i .stands ∙ ap (λ (l : List Element). xs ++ x ∷ l) (m .stands) ∙ sym (append-assoc xs (x ∷ m .zeros) (m .edge ∷ m .rest));
-        match = m .match;
-        within = m .some;
-        on-from = omega (arith, total-append genome xs (x ∷ m .zeros), zeros-genome (m .zeros) (m .none), skip-genome x (i .skip));
-        on-to = omega (arith, total-append transcript xs (x ∷ m .zeros), zeros-transcript (m .zeros) (m .none), skip-transcript x (i .skip));
+        lies = record {
+          before = xs ++ x ∷ e .left;
+          element = e .element;
+          after = e .right;
+          stands = b .lies .stands ∙ ap (λ (l : List Element). xs ++ x ∷ l) (e .stands) ∙ sym (append-assoc xs (x ∷ e .left) (e .element ∷ e .right));
+          at = 0;
+          within = omega (arith, e .some, match-genome (e .element) m);
+          place = omega (arith, total-append genome xs (x ∷ e .left), n .on-genome, skip-genome x skip-is);
+        };
+        match = e .match;
       }
 
-  module _ (k : ℕ) (within : k < x .count) where
-    -- the base at k of the intron, as the finder and the rule have it
-    alone : (e : End) (forward : Bool) → mapPlace genome transcript (x ∷ []) (pos k) e forward ≡ nearer forward 0 (pos (k + 1)) (pos (x .count - k))
-    unfolding mapPlace segmentFrom spotIn
-    alone e forward =
-        let l : pos k -ℤ pos 0 +ℤ pos 1 ≡ pos (k + 1) = omega (order, dif (pos k) (pos 0), sum (pos k -ℤ pos 0) (pos 1)) in
-        let r : pos (0 + genome x) -ℤ pos k ≡ pos (x .count - k) = omega (order, dif (pos (0 + genome x)) (pos k), skip-genome x (i .skip)) in
-        rw (i .skip, l, r)
+  after-is : other right ≡ total transcript xs
+  unfolding total right
+  after-is =
+      let (e, n) = edge-after ys (b .matched-after) in
+      omega (arith, total-append transcript xs (x ∷ e .left), n .on-transcript, skip-transcript x skip-is)
 
-    skip-maps : (e : End) (forward : Bool) → mapPlace genome transcript es (pos (total genome xs + k)) e forward ≡ slid (total transcript xs) (nearer forward 0 (pos (k + 1)) (pos (x .count - k)))
-    skip-maps e forward =
-        rw (i .stands)
-        (amid-place genome transcript xs (x ∷ []) ys k e forward (omega (arith, total-one genome x, skip-genome x (i .skip)))
-        ∙ ap (slid (total transcript xs)) (alone e forward))
+  -- the base at k of the intron, as the finder and the rule have it
+  alone : (e : End) (forward : Bool) → mapPlace genome transcript (x ∷ []) (pos k) e forward ≡ nearer forward 0 (pos (k + 1)) (pos (x .count - k))
+  unfolding mapPlace segmentFrom spotIn
+  alone e forward =
+      let l : pos k -ℤ pos 0 +ℤ pos 1 ≡ pos (k + 1) = omega (order, dif (pos k) (pos 0), sum (pos k -ℤ pos 0) (pos 1)) in
+      let r : pos (0 + genome x) -ℤ pos k ≡ pos (x .count - k) = omega (order, dif (pos (0 + genome x)) (pos k), skip-genome x skip-is, k-in) in
+      rw (skip-is, l, r)
 
-    -- it is an inner place
-    p-inside : total genome xs + x .count ≤ total genome es
-    p-inside = omega (arith, column-within genome transcript match-genome right-column)
+  skip-maps : (e : End) (forward : Bool) → mapPlace genome transcript (t .elements) (pos p) e forward ≡ slid (total transcript xs) (nearer forward 0 (pos (k + 1)) (pos (x .count - k)))
+  skip-maps e forward =
+      ap (λ (l : List Element). mapPlace genome transcript l (pos p) e forward) (b .lies .stands)
+      ∙ ap (λ (q : ℕ). mapPlace genome transcript (xs ++ x ∷ ys) (pos q) e forward) (b .lies .place)
+      ∙ (amid-place genome transcript xs (x ∷ []) ys k e forward (omega (arith, total-one genome x, b .lies .within))
+      ∙ ap (slid (total transcript xs)) (alone e forward))
 
-module _ (t : Transcript) {xs : List Element} {x : Element} {ys : List Element} (i : Intron (t .elements) xs x ys) (k : ℕ) (within : k < x .count) where
-  from-left : leftNearer (t .forward) (pos (k + 1)) (pos (x .count - k)) ≡ true → Reaches t (total genome xs + k) (total transcript xs - 1) (total genome xs - 1) (pos (k + 1))
+  -- it is an inner place
+  inner : total genome xs + x .count < genomeLength t
+  inner = column-within genome transcript match-genome (column right)
+
+  from-left : leftNearer (t .forward) (pos (k + 1)) (pos (x .count - k)) ≡ true → Reaches t p (other left) (placeBefore b) (pos (k + 1))
   unfolding nearer
   from-left near =
-      let m = i .left in
-      let one : pos (total transcript xs) +ℤ (pos 0 -ℤ pos 1) ≡ pos (total transcript xs - 1) = omega (order, sum (pos (total transcript xs)) (pos 0 -ℤ pos 1), before-is i .1, m .some) in
+      let one : pos (total transcript xs) +ℤ (pos 0 -ℤ pos 1) ≡ pos (other left) = omega (order, sum (pos (total transcript xs)) (pos 0 -ℤ pos 1), before-is .1) in
       record {
-        there = λ e. skip-maps i k within e (t .forward) ∙ (rw (near, one));
-        here = λ e. column-maps transcript genome match-transcript (across-column (left-column i)) e true;
-        sums = omega (order, before-is i .0, m .some);
-        p-in = omega (arith, p-inside i k within);
-        q-in = column-within transcript genome match-transcript (across-column (left-column i));
-        o-in = record { high = omega (arith, p-inside i k within); low = omega arith };
+        there = λ e. skip-maps e (t .forward) ∙ (rw (near, one));
+        here = λ e. column-maps transcript genome match-transcript (across-column (column left)) e true;
+        sums = omega (order, before-is .0, b .lies .place);
+        p-in = omega (arith, inner, k-in, b .lies .place);
+        q-in = column-within transcript genome match-transcript (across-column (column left));
+        o-in = record { high = omega (arith, inner, k-in); low = omega arith };
       }
 
-  from-right : leftNearer (t .forward) (pos (k + 1)) (pos (x .count - k)) ≡ false → Reaches t (total genome xs + k) (total transcript xs) (total genome xs + x .count) (negℤ (pos (x .count - k)))
+  from-right : leftNearer (t .forward) (pos (k + 1)) (pos (x .count - k)) ≡ false → Reaches t p (other right) (placeAfter b) (negℤ (pos (x .count - k)))
   unfolding nearer
   from-right far =
-      let none : total transcript xs + 0 ≡ total transcript xs = omega arith in
+      let none : total transcript xs + 0 ≡ other right = omega (arith, after-is) in
       record {
-        there = λ e. skip-maps i k within e (t .forward) ∙ (rw (far, none));
-        here = λ e. column-maps transcript genome match-transcript (across-column (right-column i)) e true;
-        sums = omega (order, sum (pos (total genome xs + x .count)) (negℤ (pos (x .count - k))), neg (pos (x .count - k)));
-        p-in = omega (arith, p-inside i k within);
-        q-in = column-within transcript genome match-transcript (across-column (right-column i));
-        o-in = record { high = omega (arith, neg (pos (x .count - k))); low = omega (arith, neg (pos (x .count - k)), p-inside i k within) };
+        there = λ e. skip-maps e (t .forward) ∙ (rw (far, none));
+        here = λ e. column-maps transcript genome match-transcript (across-column (column right)) e true;
+        sums = omega (order, sum (pos (placeAfter b)) (negℤ (pos (x .count - k))), neg (pos (x .count - k)), k-in, b .lies .place);
+        p-in = omega (arith, inner, k-in, b .lies .place);
+        q-in = column-within transcript genome match-transcript (across-column (column right));
+        o-in = record { high = omega (arith, neg (pos (x .count - k))); low = omega (arith, neg (pos (x .count - k)), inner) };
       }
 
-  -- the base at k of the intron
-  pub intron-base : Small t → FromNearest t (total genome xs + k) (k + 1) (x .count - k)
-  intron-base small =
-      by-test (leftNearer (t .forward) (pos (k + 1)) (pos (x .count - k)))
-      (λ near. record {
-        base = pos (number t (total transcript xs - 1));
-        offset = signed (t .forward) (pos (k + 1));
-        exon = total genome xs - 1;
-        named = has-name t small _ _ _ _ (from-left near);
-        of-exon = matched-base t _ _ (left-column i) small;
-        counted = sign-sign (t .forward) (pos (k + 1)) ∙ omega (order, dif (pos (total genome xs + k)) (pos (total genome xs - 1)), before-is i .0, i .left .some);
-        distance = size (t .forward) (k + 1) ∙ omega (arith, left-least (t .forward) (k + 1) (x .count - k) near);
-        halfway = left-halfway (t .forward) (k + 1) (x .count - k) (omega arith) near;
-      })
-      (λ far. record {
-        base = pos (number t (total transcript xs));
-        offset = signed (t .forward) (negℤ (pos (x .count - k)));
-        exon = total genome xs + x .count;
-        named = has-name t small _ _ _ _ (from-right far);
-        of-exon = matched-base t _ _ (right-column i) small;
-        counted = sign-sign (t .forward) (negℤ (pos (x .count - k))) ∙ omega (order, dif (pos (total genome xs + k)) (pos (total genome xs + x .count)), neg (pos (x .count - k)));
-        distance = size-of-neg (t .forward) (x .count - k) ∙ omega (arith, right-least (t .forward) (k + 1) (x .count - k) far);
-        halfway = right-halfway (t .forward) (k + 1) (x .count - k) (omega arith) far;
-      })
+  -- the two distances
+  left-apart : apart p (placeBefore b) ≡ k + 1
+  left-apart = omega (arith, before-is .0, b .lies .place)
+
+  right-apart : apart p (placeAfter b) ≡ x .count - k
+  right-apart = omega (arith, k-in, b .lies .place)
+
+  module _ (sound : Sound t) (forward : Bool) (is : t .forward ≡ forward) where
+    left-named : leftNearer forward (pos (k + 1)) (pos (x .count - k)) ≡ true → (o : ℤ) → signed forward (pos (apart p (placeBefore b))) ≡ o → Named ours t p (record { upstream = upstreamOf left; offset = o })
+    left-named near o o-is =
+        let near′ = ap (λ (f : Bool). leftNearer f (pos (k + 1)) (pos (x .count - k))) is ∙ near in
+        let o-is′ = ap (λ (f : Bool). signed f (pos (apart p (placeBefore b)))) is ∙ o-is in
+        rw (← left-apart, counted left, o-is′) at (has-name t sound p (other left) (placeBefore b) (pos (k + 1)) (from-left near′))
+
+    right-named : leftNearer forward (pos (k + 1)) (pos (x .count - k)) ≡ false → (o : ℤ) → signed forward (negℤ (pos (apart p (placeAfter b)))) ≡ o → Named ours t p (record { upstream = upstreamOf right; offset = o })
+    right-named far o o-is =
+        let far′ = ap (λ (f : Bool). leftNearer f (pos (k + 1)) (pos (x .count - k))) is ∙ far in
+        let o-is′ = ap (λ (f : Bool). signed f (negℤ (pos (apart p (placeAfter b))))) is ∙ o-is in
+        rw (← right-apart, counted right, o-is′) at (has-name t sound p (other right) (placeAfter b) (negℤ (pos (x .count - k))) (from-right far′))
+
+  nearest : Sound t → (forward : Bool) → t .forward ≡ forward → FromNearest ours t p (if forward then placeBefore b else placeAfter b) (if forward then placeAfter b else placeBefore b)
+  unfolding intronName
+  nearest sound true e = record {
+    up = left;
+    down = right;
+    named = by-test (leb (apart p (placeBefore b)) (apart p (placeAfter b)))
+        (λ h. rw h (left-named sound true e (omega (order, left-apart, right-apart, leb-true)) (pos (apart p (placeBefore b))) refl))
+        (λ h. rw h (right-named sound true e (omega (order, left-apart, right-apart, leb-false)) (negℤ (pos (apart p (placeAfter b)))) refl));
+  }
+  nearest sound false e = record {
+    up = right;
+    down = left;
+    named = by-test (leb (apart p (placeAfter b)) (apart p (placeBefore b)))
+        (λ h. rw h (right-named sound false e (omega (order, left-apart, right-apart, leb-true)) (pos (apart p (placeAfter b))) (negℤ-negℤ (pos (apart p (placeAfter b))))))
+        (λ h. rw h (left-named sound false e (omega (order, left-apart, right-apart, leb-false)) (negℤ (pos (apart p (placeBefore b)))) refl));
+  }
+
+pub bases-named : (t : Transcript) → Sound t → Demand-2 ours t
+bases-named t sound = record {
+  exon-base = λ p b. exon-named b sound;
+  intron-base = λ p b. nearest b sound (t .forward) refl;
+}

@@ -12,7 +12,7 @@ use Rattle.mapper.specs.Answers.{Answer, Plain, andThen, Answered}
 use Rattle.mapper.specs.Answers.Answer.{certain, uncertain, refused}
 use Rattle.mapper.specs.Answers.Plain.{denied}
 use Rattle.mapper.specs.Mapping.{nToC, cOfInterval, cToN, gToN, gToC, cToG}
-use Rattle.promises.specs.Demands.{AllSpan, InOrder, lengthened, Keeps, Small}
+use Rattle.promises.specs.Demands.{AllSpan, InOrder, ours, lengthened, Keeps, Sound}
 use Rattle.promises.proofs.Lengthening.{short, long, g-to-c-kept, c-to-g-kept}
 use Rattle.promises.proofs.Records.{lead, trail, split, lead-bases, trail-bases, lead-span}
 
@@ -22,7 +22,7 @@ nothing (certain x) f h = rw (h x) (λ bad. bad)
 nothing (uncertain x) f h = rw (h x) (λ bad. bad)
 nothing (refused k) f h = λ bad. bad
 
-uncoded : (t u : Transcript) → t .coding ≡ noCds → Keeps t u
+uncoded : (t u : Transcript) → t .coding ≡ noCds → Keeps ours t u
 unfolding gToC cToG cToN nToC cOfInterval
 uncoded t u e = record {
   g-to-c = λ i h k ok. absurd (nothing (gToN true t i) (nToC true (transcriptLength t) (t .coding)) (λ x. rw e) ok);
@@ -31,12 +31,12 @@ uncoded t u e = record {
 
 -- over elements
 module _ (forward : Bool) (first : ℕ) (xs ys zs : List Element) (s e : ℕ) where
-  keeps : Small (long forward first xs ys zs s e) → Keeps (short forward first xs ys zs s e) (long forward first xs ys zs s e)
-  keeps small = record {
+  keeps : Sound (long forward first xs ys zs s e) → Keeps ours (short forward first xs ys zs s e) (long forward first xs ys zs s e)
+  keeps sound = record {
     g-to-c = λ i (p, a, p-in) (q, b, q-in).
         let same : i ≡ record { from = pos (p + (first + total genome xs) + 1); to = pos (q + (first + total genome xs) + 1) } = λ j. record { from = a j; to = b j } in
-        rw same (g-to-c-kept forward first xs ys zs s e p q p-in q-in (small .transcript-small));
-    c-to-g = c-to-g-kept forward first xs ys zs s e (small .transcript-small);
+        rw same (g-to-c-kept forward first xs ys zs s e p q p-in q-in (sound .transcript-small));
+    c-to-g = c-to-g-kept forward first xs ys zs s e (sound .transcript-small);
   }
 
 -- over records
@@ -53,10 +53,10 @@ module _ (forward : Bool) (left : List Exon) (r : Exon) (rs right : List Exon) (
     unfolding build
     long-is = rw (split forward left r rs right, lead-bases forward left r, trail-bases forward r rs right)
 
-    coded : Small (lengthened forward left (r ∷ rs) right (cds s e)) → Keeps (build forward (r ∷ rs) (cds s e)) (lengthened forward left (r ∷ rs) right (cds s e))
+    coded : Sound (lengthened forward left (r ∷ rs) right (cds s e)) → Keeps ours (build forward (r ∷ rs) (cds s e)) (lengthened forward left (r ∷ rs) right (cds s e))
     coded = rw (short-is, long-is) (keeps forward first (lead forward left r) (elementsOf forward (r ∷ rs)) (trail forward r rs right) s e)
 
-  pub lengthened-keeps : (c : Cds) → Small (lengthened forward left (r ∷ rs) right c) → Keeps (build forward (r ∷ rs) c) (lengthened forward left (r ∷ rs) right c)
+  pub lengthened-keeps : (c : Cds) → Sound (lengthened forward left (r ∷ rs) right c) → Keeps ours (build forward (r ∷ rs) c) (lengthened forward left (r ∷ rs) right c)
   unfolding build
-  lengthened-keeps noCds small = uncoded (build forward (r ∷ rs) noCds) (lengthened forward left (r ∷ rs) right noCds) refl
-  lengthened-keeps (cds s e) small = coded s e small
+  lengthened-keeps noCds sound = uncoded (build forward (r ∷ rs) noCds) (lengthened forward left (r ∷ rs) right noCds) refl
+  lengthened-keeps (cds s e) sound = coded s e sound

@@ -11,6 +11,7 @@ pub mod Turns
 pub mod Fits
 pub mod Bounds
 pub mod Columns
+pub mod Edges
 pub mod Naming
 pub mod Demand2
 pub mod Shifts

@@ -1,113 +1,82 @@
--- What the promises speak of: matched columns, introns, records that span their bounds, and what it is that a base has a name and comes back from it. Assumes nothing.
-use Prim.Native.Nat.{ℕ, _+_, _-_, _≤_, _<_, min}
+-- Demands 2 and 3, as what is asked of a mapper. Assumes nothing.
+use Prim.Native.Nat.{ℕ, _+_, _≤_, _<_}
 use mathlib.Core.Bool.{Bool, true, cond}
 use mathlib.Core.List.{List, [], _∷_, _++_}
 use mathlib.Core.Path.{_≡_}
-use lib.IntN.{ℤ, pos, natAbs, _-ℤ_}
-use lib.Signed.{_<ℤ_}
-use Rattle.cigar.specs.Elements.{Element, Side, kind, genome, transcript, total}
-use Rattle.cigar.specs.Elements.Kind.{matches, skips}
+use lib.IntN.{ℤ, pos}
+use Rattle.refusals.specs.Numbers.{mostBases}
+use Rattle.cigar.specs.Elements.{genome, transcript, total}
 use Rattle.transcript.specs.Transcript.{Transcript, Cds, genomeLength, transcriptLength}
 use Rattle.transcript.specs.Transcript.Cds.{noCds, cds}
 use Rattle.transcript.specs.Building.{Exon, build}
-use Rattle.mapper.specs.Answers.{GInterval, NInterval, CPosition, CInterval, Answered}
+use Rattle.mapper.specs.Answers.{GInterval, NInterval, CInterval, Answer, Plain, Answered}
 use Rattle.mapper.specs.Answers.Answer.{certain}
-use Rattle.mapper.specs.Mapping.{signed, cPosition, gToN, nToG, gToC, cToG}
+use Rattle.mapper.specs.Mapping.{gToN, nToG, nToC, cToN, gToC, cToG}
+use Rattle.promises.specs.Bases.{Name, nName, cName, Matched, exonName, InIntron, upstreamPlace, downstreamPlace, intronName}
 
--- ---- names
+-- ---- a mapper
 
--- the base at place p, as a g. interval; and one position, as an n. or c. interval
+-- what a mapper answers to the six questions about a transcript; the first argument says whether it is strict
+pub record Mapper : Type 0 where
+  pub g-to-n : Bool → Transcript → GInterval → Answer NInterval
+  pub n-to-g : Bool → Transcript → NInterval → Answer GInterval
+  pub n-to-c : Bool → Transcript → NInterval → Plain CInterval
+  pub c-to-n : Bool → Transcript → CInterval → Plain NInterval
+  pub g-to-c : Bool → Transcript → GInterval → Answer CInterval
+  pub c-to-g : Bool → Transcript → CInterval → Answer GInterval
+
+-- the one that the definitions of `mapper` give
+abbrev pub ours : Mapper
+ours = record {
+  g-to-n = gToN;
+  n-to-g = nToG;
+  n-to-c = λ strict t. nToC strict (transcriptLength t) (t .coding);
+  c-to-n = λ strict t. cToN strict (transcriptLength t) (t .coding);
+  g-to-c = gToC;
+  c-to-g = cToG;
+}
+
+abbrev pub strict : Bool
+strict = true
+
+-- ---- a transcript that was built
+
+pub record Sound (t : Transcript) : Type 0 where
+  pub transcript-small : transcriptLength t ≤ mostBases
+  pub genome-small : t .first + genomeLength t ≤ mostBases
+  pub cds-inside : (s e : ℕ) → t .coding ≡ cds s e → (s ≤ e) × (e ≤ transcriptLength t)
+
+-- ---- demand 2
+
+-- the base at place p, as a g. interval; a name, as an n. and as a c. interval
 abbrev pub gAt : Transcript → ℕ → GInterval
 gAt t p = record { from = pos (p + t .first + 1); to = pos (p + t .first + 1) }
 
-abbrev pub nAt : ℤ → ℤ → NInterval
-nAt b o = record { from = record { base = b; offset = o }; to = record { base = b; offset = o } }
+abbrev pub nAt : Name → NInterval
+nAt x = record { from = nName x; to = nName x }
 
-abbrev pub cAt : CPosition → CInterval
-cAt c = record { from = c; to = c }
+abbrev pub cAt : ℕ → ℕ → Name → CInterval
+cAt s e x = record { from = cName s e x; to = cName s e x }
 
--- the n. number of the transcript's place q, which counts along the genome: on strand -1 from the other end
-abbrev pub number : Transcript → ℕ → ℕ
-number t q = cond (t .forward) (q + 1) (transcriptLength t - q)
+-- in strict mode the base at place p is answered with the name x, certainly, and the name with the base: in n., and in c. where there is a CDS
+pub record Named (m : Mapper) (t : Transcript) (p : ℕ) (x : Name) : Type 0 where
+  pub g-to-n : m .g-to-n strict t (gAt t p) ≡ certain (nAt x)
+  pub n-to-g : m .n-to-g strict t (nAt x) ≡ certain (gAt t p)
+  pub g-to-c : (s e : ℕ) → t .coding ≡ cds s e → m .g-to-c strict t (gAt t p) ≡ certain (cAt s e x)
+  pub c-to-g : (s e : ℕ) → t .coding ≡ cds s e → m .c-to-g strict t (cAt s e x) ≡ certain (gAt t p)
 
--- none of refusal 9 applies
-pub record Small (t : Transcript) : Type 0 where
-  pub transcript-small : transcriptLength t ≤ 2000000000
-  pub genome-small : t .first + genomeLength t ≤ 2000000000
+-- at u, upstream, and at d, downstream, are exon bases, and the base at place p has the name that counts from the nearer of the two
+pub record FromNearest (m : Mapper) (t : Transcript) (p u d : ℕ) : Type 0 where
+  pub up : Matched t u
+  pub down : Matched t d
+  pub named : Named m t p (intronName p up down)
 
--- in strict mode the base at place p has the n. name b with offset o, certainly, and the name gives the base back
-pub record NamedN (t : Transcript) (p : ℕ) (b o : ℤ) : Type 0 where
-  pub there : gToN true t (gAt t p) ≡ certain (nAt b o)
-  pub back : nToG true t (nAt b o) ≡ certain (gAt t p)
+-- each base in a matched column has the name of an exon base; each base of an intron counts from the nearest exon base
+pub record Demand-2 (m : Mapper) (t : Transcript) : Type 0 where
+  pub exon-base : (p : ℕ) (b : Matched t p) → Named m t p (exonName b)
+  pub intron-base : (p : ℕ) (b : InIntron t p) → FromNearest m t p (upstreamPlace b) (downstreamPlace b)
 
--- and the c. name c
-pub record NamedC (t : Transcript) (p : ℕ) (c : CPosition) : Type 0 where
-  pub there : gToC true t (gAt t p) ≡ certain (cAt c)
-  pub back : cToG true t (cAt c) ≡ certain (gAt t p)
-
--- the n. name, and the c. name for whatever CDS the transcript has (12 does not apply)
-pub record Named (t : Transcript) (p : ℕ) (b o : ℤ) : Type 0 where
-  pub in-n : NamedN t p b o
-  pub in-c : (s e : ℕ) → t .coding ≡ cds s e → s ≤ e → e ≤ transcriptLength t → NamedC t p (cPosition s e (record { base = b; offset = o }))
-
--- ---- columns and introns
-
--- the place p on the one side and the place q on the other are one column of an `=`, `M` or `X`
-pub record Column (from to : Side) (es : List Element) (p q : ℕ) : Type 0 where
-  pub before : List Element
-  pub element : Element
-  pub after : List Element
-  pub at : ℕ
-  pub stands : es ≡ before ++ element ∷ after
-  pub match : kind element ≡ matches
-  pub within : at < element .count
-  pub on-from : p ≡ total from before + at
-  pub on-to : q ≡ total to before + at
-
-abbrev pub AllZero : List Element → Type 0
-AllZero [] = Unit {0}
-AllZero (x ∷ xs) = (x .count ≡ 0) × AllZero xs
-
--- the last element of non-zero count matches
-pub record MatchedEnd (xs : List Element) : Type 0 where
-  pub rest : List Element
-  pub edge : Element
-  pub zeros : List Element
-  pub stands : xs ≡ rest ++ edge ∷ zeros
-  pub match : kind edge ≡ matches
-  pub some : 0 < edge .count
-  pub none : AllZero zeros
-
--- the first element of non-zero count matches
-pub record MatchedStart (ys : List Element) : Type 0 where
-  pub zeros : List Element
-  pub edge : Element
-  pub rest : List Element
-  pub stands : ys ≡ zeros ++ edge ∷ rest
-  pub match : kind edge ≡ matches
-  pub some : 0 < edge .count
-  pub none : AllZero zeros
-
--- x is an N between matched columns. A base of it is at k below its count
-pub record Intron (es xs : List Element) (x : Element) (ys : List Element) : Type 0 where
-  pub stands : es ≡ xs ++ x ∷ ys
-  pub skip : kind x ≡ skips
-  pub left : MatchedEnd xs
-  pub right : MatchedStart ys
-
--- the intron base at place p, which is `left` after the exon base before the intron and `right` before the one after it, has a name that counts from the nearest exon base;
--- halfway it counts from the upstream one, which an offset above 0 does
-pub record FromNearest (t : Transcript) (p left right : ℕ) : Type 0 where
-  pub base : ℤ
-  pub offset : ℤ
-  pub exon : ℕ
-  pub named : Named t p base offset
-  pub of-exon : Named t exon base (pos 0)
-  pub counted : signed (t .forward) offset ≡ pos p -ℤ pos exon
-  pub distance : natAbs offset ≡ min left right
-  pub halfway : left ≡ right → pos 0 <ℤ offset
-
--- ---- a transcript with records added at its ends
+-- ---- demand 3: a transcript with records added at its ends
 
 -- each record's elements span exactly its genome bounds
 abbrev pub AllSpan : List Exon → Type 0
@@ -138,6 +107,6 @@ abbrev pub BaseOf : Transcript → ℤ → Type 0
 BaseOf t z = (p : ℕ) × (z ≡ pos (p + t .first + 1)) × (p < genomeLength t)
 
 -- in strict mode u keeps the answers of t: the c. answer of each g. interval whose ends are bases of t's span, and the g. answer of each c. interval, certainty included
-pub record Keeps (t u : Transcript) : Type 0 where
-  pub g-to-c : (i : GInterval) → BaseOf t (i .from) → BaseOf t (i .to) → Answered (gToC true t i) → gToC true u i ≡ gToC true t i
-  pub c-to-g : (i : CInterval) → Answered (cToG true t i) → cToG true u i ≡ cToG true t i
+pub record Keeps (m : Mapper) (t u : Transcript) : Type 0 where
+  pub g-to-c : (i : GInterval) → BaseOf t (i .from) → BaseOf t (i .to) → Answered (m .g-to-c strict t i) → m .g-to-c strict u i ≡ m .g-to-c strict t i
+  pub c-to-g : (i : CInterval) → Answered (m .c-to-g strict t i) → m .c-to-g strict u i ≡ m .c-to-g strict t i
