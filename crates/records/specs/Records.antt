@@ -1,11 +1,11 @@
 -- Records as a card lays them out: five signed 32-bit numbers, a 16-bit CIGAR size, the CIGAR's bytes. Assumes nothing.
-use Prim.Native.Nat.{ℕ, zero, suc, _+_, _*_}
+use Prim.Native.Nat.{ℕ, zero, suc, _+_}
 use mathlib.Core.Bool.{Bool, _&&_}
 use mathlib.Core.List.{List, [], _∷_}
 use lib.IntN.{ℤ}
-use lib.ListN.{getD, length, take, drop}
+use lib.ListN.{length, take, drop}
 use lib.Dec.{eqb, leb}
-use Rattle.fields.specs.Fields.{le32, signed32}
+use Rattle.fields.specs.Fields.{le16, le32, signed32}
 use Rattle.records.specs.Layout.{altStart, altEnd, txStart, txEnd, ordAt, cigarSize, cigarText}
 
 -- one record. The CIGAR's bytes are in transcript direction
@@ -22,8 +22,8 @@ abbrev pub fieldAt : List ℕ → ℕ → ℤ
 fieldAt s at = signed32 (le32 s at)
 
 -- the size of the CIGAR of the record at a place
-unfoldable pub sizeAt : List ℕ → ℕ → ℕ
-sizeAt s at = getD s (at + cigarSize) 0 + 256 * getD s (at + cigarSize + 1) 0
+abbrev pub sizeAt : List ℕ → ℕ → ℕ
+sizeAt s at = le16 s (at + cigarSize)
 
 -- the place after the record at a place
 abbrev pub nextAt : List ℕ → ℕ → ℕ

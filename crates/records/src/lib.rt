@@ -2,7 +2,7 @@
 // place at which it begins, so that the loops hold unsigned numbers alone.
 ghost use mathlib.Core.Path.{_≡_};
 ghost use mathlib.Core.Bool.{true};
-ghost use Prim.Native.Nat.{_+_, _≤_, _<_};
+ghost use Prim.Native.Nat.{_+_, _≤_};
 ghost use lib.ListN.{length};
 ghost use Rattle.records.specs.Layout.{cigarText};
 ghost use Rattle.records.specs.Records.{fieldAt, nextAt, recordAt, exactly, recordsFrom};
@@ -31,21 +31,13 @@ pub fn field(s: &[u8], at: usize) -> i64
     fields::i32_at(s, at) as i64
 }
 
-fn wide(b: u8) -> usize
-    ensures { λ r. ⌜ (r ≡ b) × (r < 256) ⌝ }
-{
-    b as usize
-}
-
 // The place after the record at a place.
 pub fn next_at(s: &[u8], at: usize) -> usize
     requires { ⌜ at + cigarText ≤ length (now s) ⌝ }
     ensures { λ r. ⌜ r ≡ nextAt (now (s .entry)) at ⌝ }
 {
-    let low = wide(s[at + CIGAR_SIZE]);
-    let high = wide(s[at + CIGAR_SIZE + 1]);
-    let size = low + 256 * high;
-    at + CIGAR_TEXT + size
+    let size = fields::u16_at(s, at + CIGAR_SIZE);
+    at + CIGAR_TEXT + size as usize
 }
 
 // 4, where a bound is negative or the end is below the start.
