@@ -2,8 +2,14 @@
 ghost use mathlib.Core.Path.{_≡_};
 ghost use mathlib.Core.Bool.{true};
 ghost use Prim.Native.Nat.{_+_, _*_, _-_, _≤_, min};
-ghost use Rattle.cigar.specs.Elements.{isLetter};
+ghost use Rattle.refusals.specs.Numbers.{mostCount, mostSegments};
+ghost use Rattle.cigar.specs.Elements.{isLetter, kindOf, alongGenome, alongTranscript};
 ghost use Rattle.cigar.specs.Text.{isDigit, countOf, finished, stepAt, readAll, countedOf};
+use refusals::BAD_COUNT;
+use refusals::MOST_COUNT;
+use refusals::MOST_SEGMENTS;
+use refusals::NO_ELEMENT;
+use refusals::TOO_MUCH;
 
 pub mod write;
 
@@ -42,13 +48,16 @@ fn is_letter(b: u8) -> bool
     }
 }
 
-// The count with one digit more. No count above 2,147,483,647 is finished, so 2,147,483,648 stands for all of them.
+// One above the largest count. No count above the largest is finished, so this one stands for all of them.
+const OVER: u64 = MOST_COUNT as u64 + 1;
+
+// The count with one digit more, or one above the largest.
 fn more(n: u64, digit: u8) -> u64
-    requires { ⌜ (n ≤ 2147483648) × (isDigit digit ≡ true) ⌝ }
-    ensures { λ r. ⌜ r ≡ min (n * 10 + (digit - 48)) 2147483648 ⌝ }
+    requires { ⌜ (n ≤ mostCount + 1) × (isDigit digit ≡ true) ⌝ }
+    ensures { λ r. ⌜ r ≡ min (n * 10 + (digit - 48)) (mostCount + 1) ⌝ }
 {
     let m = n * 10 + ((digit - b'0') as u64);
-    if m <= 2147483648 { m } else { 2147483648 }
+    if m <= OVER { m } else { OVER }
 }
 
 // An element whose letter was read.
@@ -56,11 +65,11 @@ fn finish(given: bool, n: u64, letter: u8, next: usize) -> Step
     ensures { λ r. ⌜ r ≡ finished (countOf given n) letter next ⌝ }
 {
     if given {
-        if n <= 2147483647 {
+        if n < OVER {
             let count = n as u32;
             return Step::Element(count, letter, next);
         }
-        return Step::Refused(8);
+        return Step::Refused(BAD_COUNT);
     }
     Step::Element(1, letter, next)
 }
@@ -85,21 +94,24 @@ pub fn step_at(text: &[u8], at: usize) -> Step
             if is_letter(b) {
                 return finish(given, n, b, i + 1);
             }
-            return Step::Refused(7);
+            return Step::Refused(NO_ELEMENT);
         }
     }
-    Step::Refused(7)
+    Step::Refused(NO_ELEMENT)
 }
 
 // How many elements a text has.
 pub fn count_elements(text: &[u8]) -> Counted
-    ensures { λ r. ⌜ r ≡ countedOf (readAll (now (text .entry))) ⌝ }
+    ensures { λ r. ⌜ r ≡ countedOf (readAll mostSegments (now (text .entry))) ⌝ }
 {
     let mut at = 0;
     let mut n: usize = 0;
     loop {
         match step_at(text, at) {
             Step::Element(_, _, next) => {
+                if n == MOST_SEGMENTS {
+                    return Counted::Refused(TOO_MUCH);
+                }
                 at = next;
                 n += 1;
             }
@@ -107,4 +119,21 @@ pub fn count_elements(text: &[u8]) -> Counted
             Step::End => return Counted::Count(n),
         }
     }
+}
+
+// How far an element goes along the genome.
+pub fn along_genome(letter: u8, count: u32) -> u32
+    ensures { λ r. ⌜ (r ≡ alongGenome (kindOf letter) count) × (r ≤ count) ⌝ }
+{
+    if letter == b'D' { 0 } else { count }
+}
+
+// How far an element goes along the transcript.
+pub fn along_transcript(letter: u8, count: u32) -> u32
+    ensures { λ r. ⌜ (r ≡ alongTranscript (kindOf letter) count) × (r ≤ count) ⌝ }
+{
+    if letter == b'I' {
+        return 0;
+    }
+    if letter == b'N' { 0 } else { count }
 }
