@@ -125,8 +125,7 @@ module _ {t : Transcript} {p : ℕ} (b : InIntron t p) where
   unfolding total left
   before-is =
       let (e, n) = edge-before xs (b .matched-before) in
-      let m = match-kind (e .element) (e .match) in
-      (
+      let m = match-kind (e .element) (e .match) in (
         omega (arith, ap (total genome) (e .stands), total-append genome (e .left) (e .element ∷ e .right), match-genome (e .element) m, e .some),
         omega (arith, ap (total transcript) (e .stands), total-append transcript (e .left) (e .element ∷ e .right), n .on-transcript, match-transcript (e .element) m, e .some),
       )

@@ -33,13 +33,11 @@ edge-after (y ∷ ys) =
     by-test (eqb (y .count) 0)
     (λ z. rw z (λ h.
     let (e, n) = edge-after ys h in
-    let none = eqb-true (y .count) 0 z in
-    (
+    let none = eqb-true (y .count) 0 z in (
       record { left = y ∷ e .left; element = e .element; right = e .right; stands = ap (λ (l : List Element). y ∷ l) (e .stands); match = e .match; some = e .some },
       record { on-genome = omega (arith, none-genome y none, n .on-genome); on-transcript = omega (arith, none-transcript y none, n .on-transcript) },
     )))
-    (λ z. rw z (λ h.
-    (
+    (λ z. rw z (λ h. (
       record { left = []; element = y; right = ys; stands = refl; match = h; some = omega (arith, eqb-false (y .count) 0 z) },
       record { on-genome = refl; on-transcript = refl },
     )))
@@ -47,8 +45,7 @@ edge-after (y ∷ ys) =
 -- seen from its end, a list is the reverse
 pub edge-before : (xs : List Element) → nextMatches (reverse xs) ≡ true → (e : Edge xs) × Nowhere (e .right)
 edge-before xs h =
-    let (e, n) = edge-after (reverse xs) h in
-    (
+    let (e, n) = edge-after (reverse xs) h in (
       record {
         left = reverse (e .right);
         element = e .element;

@@ -19,4 +19,5 @@ pub mod Lengthening
 pub mod Records
 pub mod Demand3
 pub mod Covers
+pub mod Table
 pub mod Examples

@@ -1,4 +1,4 @@
 -- The root of the crate's specs.
 pub mod Bases
 pub mod Demands
-pub mod Worked
+pub mod Table
