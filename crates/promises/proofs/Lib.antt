@@ -19,5 +19,7 @@ pub mod Lengthening
 pub mod Records
 pub mod Demand3
 pub mod Covers
+pub mod Rooms
 pub mod Table
+pub mod Against
 pub mod Examples
