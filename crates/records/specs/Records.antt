@@ -1,11 +1,11 @@
 -- Records as a card lays them out: five signed 32-bit numbers, a 16-bit CIGAR size, the CIGAR's bytes. Assumes nothing.
 use Prim.Native.Nat.{ℕ, zero, suc, _+_}
 use mathlib.Core.Bool.{Bool, _&&_}
-use mathlib.Core.List.{List, [], _∷_}
+use mathlib.Core.List.{List, [], _∷_, _++_}
 use lib.IntN.{ℤ}
 use lib.ListN.{length, take, drop}
 use lib.Dec.{eqb, leb}
-use Rattle.fields.specs.Fields.{le16, le32, signed32}
+use Rattle.fields.specs.Fields.{le16, le32, signed32, bytes16, bytes32, bits32}
 use Rattle.records.specs.Layout.{altStart, altEnd, txStart, txEnd, ordAt, cigarSize, cigarText}
 
 -- one record. The CIGAR's bytes are in transcript direction
@@ -39,6 +39,12 @@ recordAt s at = record {
   ord = fieldAt s (at + ordAt);
   cigar = take (sizeAt s at) (drop (at + cigarText) s);
 }
+
+-- a record's bytes
+unfoldable pub laid : Record → List ℕ
+laid r =
+    bytes32 (bits32 (r .alt-start)) ++ bytes32 (bits32 (r .alt-end)) ++ bytes32 (bits32 (r .tx-start)) ++ bytes32 (bits32 (r .tx-end))
+    ++ bytes32 (bits32 (r .ord)) ++ bytes16 (length (r .cigar)) ++ r .cigar
 
 -- the bytes from a place on are n records and nothing more
 unfoldable pub exactly : ℕ → List ℕ → ℕ → Bool
