@@ -16,7 +16,7 @@ use Rattle.mapper.specs.Answers.Answer.{certain, uncertain, refused}
 use Rattle.mapper.specs.Answers.Plain.{denied}
 use Rattle.mapper.specs.Mapping.{inside, turned, placeOfG, nOfSpot, wholeN, gToN, nToG}
 use Rattle.promises.specs.Bases.{Matched, isMatch}
-use Rattle.promises.specs.Demands.{Mapper, ours, Demand-2}
+use Rattle.promises.specs.Demands.{Mapper, ours, BasesNamed}
 use Rattle.promises.specs.Table.{Reply, A, TableOfPlaces}
 use Rattle.promises.specs.Table.Reply.{an-answer-in-n}
 
@@ -72,7 +72,7 @@ second = record {
   match = refl;
 }
 
-pub refusing-fails : (k : ℕ) → Demand-2 (refusing k) A → ⊥
+pub refusing-fails : (k : ℕ) → BasesNamed (refusing k) A → ⊥
 refusing-fails k d =
     let h = d .exon-base 1 second .g-to-n in
     let z : _≡_ {A = ℕ} 0 1 = cc in
@@ -84,7 +84,7 @@ startIn (certain i) = i .from .base
 startIn (uncertain i) = i .from .base
 startIn (refused k) = pos 0
 
-pub saying-n1-fails : Demand-2 saying-n1 A → ⊥
+pub saying-n1-fails : BasesNamed saying-n1 A → ⊥
 unfolding second total
 saying-n1-fails d =
     let h : pos 1 ≡ pos 2 = ap startIn (d .exon-base 1 second .g-to-n) in

@@ -14,7 +14,8 @@ use Rattle.segments.specs.Places.{segmentFrom, End, leftNearer, nearer, spotIn,
 use Rattle.transcript.specs.Transcript.{Transcript, genomeLength, transcriptLength}
 use Rattle.mapper.specs.Mapping.{signed}
 use Rattle.promises.specs.Bases.{Name, Lies, Matched, upstreamOf, exonName, InIntron, placeBefore, placeAfter, apart, intronName}
-use Rattle.promises.specs.Demands.{ours, Sound, Named, FromNearest, Demand-2}
+use Rattle.promises.specs.Demands.{ours, Named, FromNearest, BasesNamed}
+use Rattle.promises.proofs.Sound.{Sound}
 use Rattle.promises.proofs.Totals.{total-append}
 use Rattle.promises.proofs.Spots.{slid, amid-place}
 use Rattle.promises.proofs.Turns.{across}
@@ -237,7 +238,7 @@ module _ {t : Transcript} {p : ℕ} (b : InIntron t p) where
         (λ h. rw h (left-named sound false e (omega (order, left-apart, right-apart, leb-false)) (negℤ (pos (apart p (placeBefore b)))) refl));
   }
 
-pub bases-named : (t : Transcript) → Sound t → Demand-2 ours t
+pub bases-named : (t : Transcript) → Sound t → BasesNamed ours t
 bases-named t sound = record {
   exon-base = λ p b. exon-named b sound;
   intron-base = λ p b. nearest b sound (t .forward) refl;

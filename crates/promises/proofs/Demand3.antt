@@ -1,6 +1,6 @@
 -- Demand 3: records added at either end, or both, with the CDS moved up by the bases added upstream, change no c. answer to a g. interval on bases of the shorter span and no g. answer to a c. interval, in strict mode, on either strand. Assumes nothing.
 use Prim.Native.Nat.{ℕ, _+_}
-use mathlib.Core.Bool.{Bool, true}
+use mathlib.Core.Bool.{Bool, true, cond}
 use mathlib.Core.List.{List, _∷_, _++_}
 use mathlib.Core.Path.{_≡_, refl}
 use lib.IntN.{pos}
@@ -12,9 +12,10 @@ use Rattle.mapper.specs.Answers.{Answer, Plain, andThen, Answered}
 use Rattle.mapper.specs.Answers.Answer.{certain, uncertain, refused}
 use Rattle.mapper.specs.Answers.Plain.{denied}
 use Rattle.mapper.specs.Mapping.{nToC, cOfInterval, cToN, gToN, gToC, cToG}
-use Rattle.promises.specs.Demands.{AllSpan, InOrder, ours, lengthened, Keeps, Sound}
+use Rattle.promises.specs.Demands.{ours, Keeps}
+use Rattle.promises.proofs.Sound.{Sound}
 use Rattle.promises.proofs.Lengthening.{short, long, g-to-c-kept, c-to-g-kept}
-use Rattle.promises.proofs.Records.{lead, trail, split, lead-bases, trail-bases, lead-span}
+use Rattle.promises.proofs.Records.{Spans, InOrder, exonBases, lead, trail, split, lead-bases, trail-bases, lead-span}
 
 -- with no CDS there is no c. answer
 nothing : {A B : Type 0} (a : Answer A) (f : A → Plain B) → ((x : A) → f x ≡ denied 13) → Answered (andThen a f) → ⊥
@@ -39,8 +40,16 @@ module _ (forward : Bool) (first : ℕ) (xs ys zs : List Element) (s e : ℕ) wh
     c-to-g = c-to-g-kept forward first xs ys zs s e (sound .transcript-small);
   }
 
--- over records
-module _ (forward : Bool) (left : List Exon) (r : Exon) (rs right : List Exon) (spans : AllSpan (left ++ (r ∷ rs ++ right))) (order : InOrder 0 (left ++ (r ∷ rs ++ right))) where
+-- over records: CDS bounds, moved up
+abbrev pub cdsUp : ℕ → Cds → Cds
+cdsUp n noCds = noCds
+cdsUp n (cds s e) = cds (s + n) (e + n)
+
+-- the records are lengthened by `left` and `right`, along the genome
+abbrev pub lengthened : Bool → List Exon → List Exon → List Exon → Cds → Transcript
+lengthened forward left rs right c = build forward (left ++ (rs ++ right)) (cdsUp (cond forward (exonBases left) (exonBases right)) c)
+
+module _ (forward : Bool) (left : List Exon) (r : Exon) (rs right : List Exon) (spans : Spans (left ++ (r ∷ rs ++ right))) (order : InOrder 0 (left ++ (r ∷ rs ++ right))) where
   module _ (s e : ℕ) where
     abbrev first : ℕ
     first = firstStart (left ++ (r ∷ rs ++ right))

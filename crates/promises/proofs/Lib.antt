@@ -4,6 +4,7 @@
 --     Columns, Naming, Demand2   demand 2: `matched-base`, `intron-base`
 --     Shifts, Lengthening, Records, Demand3     demand 3: `lengthened-keeps`
 --     Covers, Examples           each place lies in an element; transcript A meets the promises' premises
+pub mod Sound
 pub mod Totals
 pub mod Finding
 pub mod Spots
@@ -20,6 +21,8 @@ pub mod Records
 pub mod Demand3
 pub mod Covers
 pub mod Rooms
+pub mod Built
+pub mod Promises
 pub mod Table
 pub mod Against
 pub mod Examples

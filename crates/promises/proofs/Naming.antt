@@ -20,7 +20,8 @@ use Rattle.mapper.specs.Answers.Answer.{certain}
 use Rattle.mapper.specs.Answers.Plain.{told}
 use Rattle.mapper.specs.Mapping.{turned, signed, nOfSpot, gOfSpot, wholeN, gToN, gOfEnds, nToG, refuses15, cPosition, cOfInterval, nToC, refuses16, nPosition, cToN, gToC, cToG}
 use Rattle.promises.specs.Bases.{Name, nName, cNumber}
-use Rattle.promises.specs.Demands.{ours, Sound, gAt, nAt, cAt, Named}
+use Rattle.promises.specs.Demands.{ours, gAt, nAt, cAt, Named}
+use Rattle.promises.proofs.Sound.{Sound}
 use Rattle.promises.proofs.Fits.{Within, fits-by, signed-within, c-within}
 use Rattle.promises.proofs.Turns.{turn-turn, sign-sign, across, turned-within, across-within, inside-within, n-of-place, place-of-base, same-either}
 

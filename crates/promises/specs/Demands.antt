@@ -1,14 +1,22 @@
 -- Demands 2 and 3, as what is asked of a mapper. Assumes nothing.
-use Prim.Native.Nat.{ℕ, _+_, _≤_, _<_}
-use mathlib.Core.Bool.{Bool, true, cond}
-use mathlib.Core.List.{List, [], _∷_, _++_}
+use Prim.Native.Nat.{ℕ, _+_, _<_}
+use mathlib.Core.Bool.{Bool, true}
+use mathlib.Core.List.{List, [], _∷_, _++_, map}
 use mathlib.Core.Path.{_≡_}
-use lib.IntN.{ℤ, pos}
-use Rattle.refusals.specs.Numbers.{mostBases}
-use Rattle.cigar.specs.Elements.{genome, transcript, total}
-use Rattle.transcript.specs.Transcript.{Transcript, Cds, genomeLength, transcriptLength}
-use Rattle.transcript.specs.Transcript.Cds.{noCds, cds}
-use Rattle.transcript.specs.Building.{Exon, build}
+use lib.IntN.{ℤ, pos, _+ℤ_}
+use Rattle.refusals.specs.Numbers.{mostSegments}
+use Rattle.whole.specs.Whole.{if_then_else_, eqZ}
+use Rattle.cigar.specs.Elements.{Element, genome, transcript, total}
+use Rattle.cigar.specs.Text.{Reading, readAll}
+use Rattle.cigar.specs.Text.Reading.{elements, refused as unread}
+use Rattle.records.specs.Records.{Record}
+use Rattle.transcript.specs.Transcript.{Transcript, genomeLength, transcriptLength}
+use Rattle.transcript.specs.Transcript.Cds.{cds}
+use Rattle.transcript.specs.Building.{build}
+use Rattle.transcript.specs.Judging.{Judged, Made, judgeRecords}
+use Rattle.transcript.specs.Judging.Judged.{refused, accepted}
+use Rattle.transcript.specs.declared.Bound.{Bound}
+use Rattle.transcript.specs.declared.Bound.the-variants.{Given, Absent}
 use Rattle.mapper.specs.Answers.{GInterval, NInterval, CInterval, Answer, Plain, Answered}
 use Rattle.mapper.specs.Answers.Answer.{certain}
 use Rattle.mapper.specs.Mapping.{gToN, nToG, nToC, cToN, gToC, cToG}
@@ -39,12 +47,27 @@ ours = record {
 abbrev pub strict : Bool
 strict = true
 
--- ---- a transcript that was built
+-- ---- building
 
-pub record Sound (t : Transcript) : Type 0 where
-  pub transcript-small : transcriptLength t ≤ mostBases
-  pub genome-small : t .first + genomeLength t ≤ mostBases
-  pub cds-inside : (s e : ℕ) → t .coding ≡ cds s e → (s ≤ e) × (e ≤ transcriptLength t)
+-- what building takes: the strand, the CDS bounds, each given or not, and the records in genomic order
+pub record Input : Type 0 where
+  pub strand : ℤ
+  pub start : Bound
+  pub end : Bound
+  pub records : List Record
+
+-- the transcript of what was judged
+abbrev pub madeOf : Judged Made → Judged Transcript
+madeOf (refused k) = refused k
+madeOf (accepted made) = accepted (build (made .forward) (made .exon-list) (made .coding))
+
+-- building refuses, or answers a transcript
+abbrev pub building : Input → Judged Transcript
+building x = madeOf (judgeRecords (x .strand) (x .start) (x .end) (x .records))
+
+-- the transcript t is built from the input x
+abbrev pub Builds : Input → Transcript → Type 0
+Builds x t = building x ≡ accepted t
 
 -- ---- demand 2
 
@@ -65,42 +88,68 @@ pub record Named (m : Mapper) (t : Transcript) (p : ℕ) (x : Name) : Type 0 whe
   pub g-to-c : (s e : ℕ) → t .coding ≡ cds s e → m .g-to-c strict t (gAt t p) ≡ certain (cAt s e x)
   pub c-to-g : (s e : ℕ) → t .coding ≡ cds s e → m .c-to-g strict t (cAt s e x) ≡ certain (gAt t p)
 
--- at u, upstream, and at d, downstream, are exon bases, and the base at place p has the name that counts from the nearer of the two
+-- there are exon bases at u, upstream, and at d, downstream, and the base at place p has the name that counts from the nearer of the two
 pub record FromNearest (m : Mapper) (t : Transcript) (p u d : ℕ) : Type 0 where
   pub up : Matched t u
   pub down : Matched t d
   pub named : Named m t p (intronName p up down)
 
--- each base in a matched column has the name of an exon base; each base of an intron counts from the nearest exon base
-pub record Demand-2 (m : Mapper) (t : Transcript) : Type 0 where
+-- each base in a matched column has the name of an exon base, and each base of an intron counts from the nearest exon base
+pub record BasesNamed (m : Mapper) (t : Transcript) : Type 0 where
   pub exon-base : (p : ℕ) (b : Matched t p) → Named m t p (exonName b)
   pub intron-base : (p : ℕ) (b : InIntron t p) → FromNearest m t p (upstreamPlace b) (downstreamPlace b)
 
--- ---- demand 3: a transcript with records added at its ends
+-- of every transcript that builds
+abbrev pub Demand-2 : Mapper → Type 0
+Demand-2 m = (x : Input) (t : Transcript) → Builds x t → BasesNamed m t
 
--- each record's elements span exactly its genome bounds
-abbrev pub AllSpan : List Exon → Type 0
+-- ---- demand 3
+
+-- the elements of a record's CIGAR, none where it is refused
+abbrev pub elementsIn : Reading → List Element
+elementsIn (elements es) = es
+elementsIn (unread k) = []
+
+abbrev pub cigarOf : Record → List Element
+cigarOf r = elementsIn (readAll mostSegments (r .cigar))
+
+-- each record's CIGAR spans exactly its genome bounds
+abbrev pub AllSpan : List Record → Type 0
 AllSpan [] = Unit {0}
-AllSpan (r ∷ rs) = (r .alt-start + total genome (r .parts) ≡ r .alt-end) × AllSpan rs
+AllSpan (r ∷ rs) = (r .alt-start +ℤ pos (total genome (cigarOf r)) ≡ r .alt-end) × AllSpan rs
 
--- no record starts below the end of the one before it, and the first not below e: building refuses 4 otherwise
-abbrev pub InOrder : ℕ → List Exon → Type 0
-InOrder e [] = Unit {0}
-InOrder e (r ∷ rs) = (e ≤ r .alt-start) × InOrder (r .alt-end) rs
-
--- the transcript bases of the records
-unfoldable pub basesOf : List Exon → ℕ
+-- the transcript bases of records
+unfoldable pub basesOf : List Record → ℕ
 basesOf [] = 0
-basesOf (r ∷ rs) = total transcript (r .parts) + basesOf rs
+basesOf (r ∷ rs) = total transcript (cigarOf r) + basesOf rs
 
--- CDS bounds, moved up
-abbrev pub movedUp : ℕ → Cds → Cds
-movedUp n noCds = noCds
-movedUp n (cds s e) = cds (s + n) (e + n)
+-- a CDS bound, moved up
+abbrev pub movedUp : ℕ → Bound → Bound
+movedUp n (Given z) = Given (z +ℤ pos n)
+movedUp n Absent = Absent
 
--- the records are lengthened by `left` and `right`, along the genome; those on the left stand upstream on strand 1, those on the right on strand -1
-abbrev pub lengthened : Bool → List Exon → List Exon → List Exon → Cds → Transcript
-lengthened forward left rs right c = build forward (left ++ (rs ++ right)) (movedUp (cond forward (basesOf left) (basesOf right)) c)
+-- what stays of a record when its transcript is lengthened: its genome bounds and its CIGAR
+pub record Kept : Type 0 where
+  pub alt-start : ℤ
+  pub alt-end : ℤ
+  pub cigar : List ℕ
+
+abbrev pub kept : Record → Kept
+kept r = record { alt-start = r .alt-start; alt-end = r .alt-end; cigar = r .cigar }
+
+-- y is x with records added at either end or both, along the genome, and its CDS bounds moved up by the transcript bases that are added upstream
+pub record Lengthens (x y : Input) : Type 0 where
+  pub left : List Record
+  pub own : List Record
+  pub right : List Record
+  pub stands : y .records ≡ left ++ (own ++ right)
+  pub own-kept : map kept own ≡ map kept (x .records)
+  pub strand-kept : y .strand ≡ x .strand
+  -- those on the left stand upstream on strand 1, and those on the right on strand -1
+  pub added : ℕ
+  pub upstream : added ≡ (if eqZ (x .strand) (pos 1) then basesOf left else basesOf right)
+  pub start-moved : y .start ≡ movedUp added (x .start)
+  pub end-moved : y .end ≡ movedUp added (x .end)
 
 -- z is the g. number of a base of the span of t: its place is 0 to the genome length, exclusive
 abbrev pub BaseOf : Transcript → ℤ → Type 0
@@ -110,3 +159,7 @@ BaseOf t z = (p : ℕ) × (z ≡ pos (p + t .first + 1)) × (p < genomeLength t)
 pub record Keeps (m : Mapper) (t u : Transcript) : Type 0 where
   pub g-to-c : (i : GInterval) → BaseOf t (i .from) → BaseOf t (i .to) → Answered (m .g-to-c strict t i) → m .g-to-c strict u i ≡ m .g-to-c strict t i
   pub c-to-g : (i : CInterval) → Answered (m .c-to-g strict t i) → m .c-to-g strict u i ≡ m .c-to-g strict t i
+
+-- of every transcript that builds, and of every one that builds from it lengthened, where each record's CIGAR spans exactly its bounds
+abbrev pub Demand-3 : Mapper → Type 0
+Demand-3 m = (x y : Input) (t u : Transcript) → Builds x t → Builds y u → Lengthens x y → AllSpan (y .records) → Keeps m t u
