@@ -1,51 +1,57 @@
--- What the promises shut out: a mapper that refuses everything, one that always says n.1, and one that on strand -1 does not exchange the ends. Assumes nothing.
+-- What the promises shut out: a mapper that refuses everything, one that always says n.1, and one that on strand -1 does not exchange the ends, whatever else they answer. Assumes nothing.
 use Prim.Native.Nat.{ℕ}
 use native.Mathlib.Omega.{arith}
 use mathlib.Core.Bool.{Bool}
-use mathlib.Core.List.{List, [], _∷_}
-use mathlib.Core.Path.{_≡_, refl, ap}
+use mathlib.Core.List.{List}
+use mathlib.Core.Path.{_≡_, sym, ap, _∙_}
 use lib.IntN.{ℤ, pos}
 use lib.ListN.{getD}
 use Rattle.whole.specs.Whole.{if_then_else_, order}
-use Rattle.numbering.specs.Numbers.{nOfPlace}
+use Rattle.numbering.specs.Numbers.{nOfPlace, placeOfN}
 use Rattle.cigar.specs.Elements.{kindOf, genome, transcript, total}
 use Rattle.segments.specs.Places.{segmentFrom, spotIn, nearer, mapPlace}
+use Rattle.transcript.specs.Transcript.{Transcript}
 use Rattle.transcript.specs.Building.{partsOf, elementsAfter, elementsOf, firstStart, build}
-use Rattle.mapper.specs.Answers.{NInterval, Answer, fits}
+use Rattle.mapper.specs.Answers.{GInterval, NInterval, Answer, fits}
 use Rattle.mapper.specs.Answers.Answer.{certain, uncertain, refused}
-use Rattle.mapper.specs.Answers.Plain.{denied}
-use Rattle.mapper.specs.Mapping.{inside, turned, placeOfG, nOfSpot, wholeN, gToN, nToG}
-use Rattle.promises.specs.Bases.{Matched, isMatch}
-use Rattle.promises.specs.Demands.{Mapper, ours, BasesNamed}
+use Rattle.mapper.specs.Mapping.{inside, turned, placeOfG, nOfSpot, wholeN, gToN, gOfSpot, gOfEnds, nToG}
+use Rattle.promises.specs.Demands.{Mapper, Demand-2}
 use Rattle.promises.specs.Table.{Reply, A, TableOfPlaces}
-use Rattle.promises.specs.Table.Reply.{an-answer-in-n}
+use Rattle.promises.specs.Table.Reply.{an-answer-in-n, an-answer-in-g}
+use Rattle.promises.proofs.Examples.{inputA, all-build, second, of-A}
 
--- it refuses everything, with whatever number
-abbrev refusing : ℕ → Mapper
-refusing k = record {
-  g-to-n = λ strict t i. refused k;
-  n-to-g = λ strict t i. refused k;
-  n-to-c = λ strict t i. denied k;
-  c-to-n = λ strict t i. denied k;
-  g-to-c = λ strict t i. refused k;
-  c-to-g = λ strict t i. refused k;
-}
+-- where an answer starts
+abbrev startN : Answer NInterval → ℤ
+startN (certain i) = i .from .base
+startN (uncertain i) = i .from .base
+startN (refused k) = pos 0
 
--- it always says n.1, and is ours in all else
+abbrev startG : Answer GInterval → ℤ
+startG (certain i) = i .from
+startG (uncertain i) = i .from
+startG (refused k) = pos 0
+
+-- A g.12 is n.2
+second-is-2 : (m : Mapper) → Demand-2 m → (b : Answer NInterval) → ((strict : Bool) (t : Transcript) (i : GInterval) → startN (m .g-to-n strict t i) ≡ startN b) → startN b ≡ pos 2
+unfolding second build total
+second-is-2 m d b always = sym (always _ _ _) ∙ ap startN (d inputA A (all-build .0) .exon-base 1 (second A of-A) .g-to-n)
+
+-- it refuses everything, with whatever numbers
+pub refusing-fails : (m : Mapper) → ((strict : Bool) (t : Transcript) (i : GInterval) → (k : ℕ) × (m .g-to-n strict t i ≡ refused k)) → Demand-2 m → ⊥
+refusing-fails m refuses d =
+    let h = second-is-2 m d (refused 0) (λ strict t i. ap startN (refuses strict t i .1)) in
+    omega order
+
+-- it always says n.1
 abbrev n1 : NInterval
 n1 = record { from = record { base = pos 1; offset = pos 0 }; to = record { base = pos 1; offset = pos 0 } }
 
-abbrev saying-n1 : Mapper
-saying-n1 = record {
-  g-to-n = λ strict t i. certain n1;
-  n-to-g = ours .n-to-g;
-  n-to-c = ours .n-to-c;
-  c-to-n = ours .c-to-n;
-  g-to-c = ours .g-to-c;
-  c-to-g = ours .c-to-g;
-}
+pub saying-n1-fails : (m : Mapper) → ((strict : Bool) (t : Transcript) (i : GInterval) → m .g-to-n strict t i ≡ certain n1) → Demand-2 m → ⊥
+saying-n1-fails m says d =
+    let h = second-is-2 m d (certain n1) (λ strict t i. ap startN (says strict t i)) in
+    omega order
 
--- on strand -1 it exchanges the ends once more, so that they stand as they came
+-- on strand -1 it exchanges ours once more, so that the ends stand as they came
 abbrev exchanged : Bool → NInterval → NInterval
 exchanged forward i = if forward then i else record { from = i .to; to = i .from }
 
@@ -54,49 +60,24 @@ exchangedIn forward (certain i) = certain (exchanged forward i)
 exchangedIn forward (uncertain i) = uncertain (exchanged forward i)
 exchangedIn forward (refused k) = refused k
 
-abbrev unexchanging : Mapper
-unexchanging = record {
-  g-to-n = λ strict t i. exchangedIn (t .forward) (gToN strict t i);
-  n-to-g = λ strict t i. nToG strict t (exchanged (t .forward) i);
-  n-to-c = ours .n-to-c;
-  c-to-n = ours .c-to-n;
-  g-to-c = ours .g-to-c;
-  c-to-g = ours .c-to-g;
-}
-
--- g.12 of A is the second base of the first exon
-second : Matched A 1
-unfolding build elementsOf elementsAfter partsOf kindOf genome total isMatch
-second = record {
-  lies = record { before = []; element = record { count = 10; letter = 77 }; after = record { count = 5; letter = 78 } ∷ record { count = 8; letter = 77 } ∷ []; stands = refl; at = 1; within = omega arith; place = refl };
-  match = refl;
-}
-
-pub refusing-fails : (k : ℕ) → BasesNamed (refusing k) A → ⊥
-refusing-fails k d =
-    let h = d .exon-base 1 second .g-to-n in
-    let z : _≡_ {A = ℕ} 0 1 = cc in
-    omega arith
-
--- the n. number of an answer's start
-abbrev startIn : Answer NInterval → ℤ
-startIn (certain i) = i .from .base
-startIn (uncertain i) = i .from .base
-startIn (refused k) = pos 0
-
-pub saying-n1-fails : BasesNamed saying-n1 A → ⊥
-unfolding second total
-saying-n1-fails d =
-    let h : pos 1 ≡ pos 2 = ap startIn (d .exon-base 1 second .g-to-n) in
-    omega order
-
--- row 22 is B g.11_33, which is n.1_18 and not n.18_1
-pub unexchanging-fails : TableOfPlaces unexchanging → ⊥
+-- row 22 of the table is B g.11_33, which is n.1_18
+pub unexchanged-n-fails : (m : Mapper) → ((strict : Bool) (t : Transcript) (i : GInterval) → m .g-to-n strict t i ≡ exchangedIn (t .forward) (gToN strict t i)) → TableOfPlaces m → ⊥
 unfolding kindOf genome transcript total segmentFrom spotIn nearer mapPlace nOfPlace inside turned placeOfG nOfSpot fits wholeN gToN partsOf elementsAfter elementsOf firstStart build
-unexchanging-fails h =
+unexchanged-n-fails m turns h =
     let row = ap (λ (l : List Reply). getD l 22 (an-answer-in-n (refused 0))) h in
-    let start : pos 18 ≡ pos 1 = ap startIn (inside-of row) in
+    let start : pos 18 ≡ pos 1 = ap startN (sym (turns _ _ _) ∙ answer row) in
     omega order
   where
-    inside-of : {a b : Answer NInterval} → an-answer-in-n a ≡ an-answer-in-n b → a ≡ b
-    inside-of e = cc
+    answer : {a b : Answer NInterval} → an-answer-in-n a ≡ an-answer-in-n b → a ≡ b
+    answer e = cc
+
+-- row 23 is B n.1_18, which is g.11_33
+pub unexchanged-g-fails : (m : Mapper) → ((strict : Bool) (t : Transcript) (i : NInterval) → m .n-to-g strict t i ≡ nToG strict t (exchanged (t .forward) i)) → TableOfPlaces m → ⊥
+unfolding kindOf genome transcript total segmentFrom spotIn nearer mapPlace placeOfN inside turned gOfSpot fits gOfEnds nToG partsOf elementsAfter elementsOf firstStart build
+unexchanged-g-fails m turns h =
+    let row = ap (λ (l : List Reply). getD l 23 (an-answer-in-g (refused 0))) h in
+    let start : pos 33 ≡ pos 11 = ap startG (sym (turns _ _ _) ∙ answer row) in
+    omega order
+  where
+    answer : {a b : Answer GInterval} → an-answer-in-g a ≡ an-answer-in-g b → a ≡ b
+    answer e = cc

@@ -24,5 +24,5 @@ pub mod Rooms
 pub mod Built
 pub mod Promises
 pub mod Table
-pub mod Against
 pub mod Examples
+pub mod Against
