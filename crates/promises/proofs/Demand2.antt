@@ -4,7 +4,6 @@ use native.Mathlib.Omega.{arith}
 use mathlib.Core.Bool.{Bool, true, false}
 use mathlib.Core.List.{List, [], _∷_, _++_, append-assoc}
 use mathlib.Core.Path.{_≡_, refl, sym, ap, _∙_}
-use lib.Dec.{leb}
 use lib.IntN.{ℤ, pos, negℤ, negℤ-negℤ, _+ℤ_, _-ℤ_}
 use borrow.Author.Tests.{leb-true, leb-false}
 use Rattle.whole.specs.Whole.{if_then_else_, by-test, order, sum, dif, neg}
@@ -13,7 +12,7 @@ use Rattle.cigar.specs.Elements.Kind.{matches, skips}
 use Rattle.segments.specs.Places.{segmentFrom, End, leftNearer, nearer, spotIn, mapPlace}
 use Rattle.transcript.specs.Transcript.{Transcript, genomeLength, transcriptLength}
 use Rattle.mapper.specs.Mapping.{signed}
-use Rattle.promises.specs.Bases.{Name, Lies, Matched, upstreamOf, exonName, InIntron, placeBefore, placeAfter, apart, intronName}
+use Rattle.promises.specs.Bases.{Name, Lies, Matched, upstreamIn, upstreamOf, exonName, InIntron, placeBefore, placeAfter, apart, upstreamNearer, intronName}
 use Rattle.promises.specs.Demands.{ours, Named, FromNearest, BasesNamed}
 use Rattle.promises.proofs.Sound.{Sound}
 use Rattle.promises.proofs.Totals.{total-append}
@@ -64,7 +63,7 @@ module _ {t : Transcript} {p : ℕ} (b : Matched t p) where
       length-is : transcriptLength t ≡ total transcript (own .before) + (own .element .count + total transcript (own .after))
       length-is = ap (total transcript) (own .stands) ∙ omega (arith, total-append transcript (own .before) (own .element ∷ own .after), match-transcript (own .element) kind-is)
 
-      go : (forward : Bool) → across forward (transcriptLength t) other ≡ (if forward then other else total transcript (own .after) + (own .element .count - (own .at + 1)))
+      go : (forward : Bool) → across forward (transcriptLength t) other ≡ upstreamIn forward own
       go true = refl
       go false = omega (arith, length-is, at-in)
 
@@ -82,6 +81,15 @@ module _ {t : Transcript} {p : ℕ} (b : Matched t p) where
   exon-named sound = rw (unsigned (t .forward), counted) at (has-name t sound p other p (pos 0) reaches-column)
 
 -- ---- an intron
+
+-- what the test of the two distances says
+nearer-yes : (p u d : ℕ) → upstreamNearer p u d ≡ true → apart p u ≤ apart p d
+unfolding upstreamNearer
+nearer-yes p u d h = omega (arith, leb-true)
+
+nearer-no : (p u d : ℕ) → upstreamNearer p u d ≡ false → apart p d < apart p u
+unfolding upstreamNearer
+nearer-no p u d h = omega (arith, leb-false)
 
 module _ {t : Transcript} {p : ℕ} (b : InIntron t p) where
   abbrev xs : List Element
@@ -226,16 +234,16 @@ module _ {t : Transcript} {p : ℕ} (b : InIntron t p) where
   nearest sound true e = record {
     up = left;
     down = right;
-    named = by-test (leb (apart p (placeBefore b)) (apart p (placeAfter b)))
-        (λ h. rw h (left-named sound true e (omega (order, left-apart, right-apart, leb-true)) (pos (apart p (placeBefore b))) refl))
-        (λ h. rw h (right-named sound true e (omega (order, left-apart, right-apart, leb-false)) (negℤ (pos (apart p (placeAfter b)))) refl));
+    named = by-test (upstreamNearer p (placeBefore b) (placeAfter b))
+        (λ h. rw h (left-named sound true e (omega (order, left-apart, right-apart, nearer-yes)) (pos (apart p (placeBefore b))) refl))
+        (λ h. rw h (right-named sound true e (omega (order, left-apart, right-apart, nearer-no)) (negℤ (pos (apart p (placeAfter b)))) refl));
   }
   nearest sound false e = record {
     up = right;
     down = left;
-    named = by-test (leb (apart p (placeAfter b)) (apart p (placeBefore b)))
-        (λ h. rw h (right-named sound false e (omega (order, left-apart, right-apart, leb-true)) (pos (apart p (placeAfter b))) (negℤ-negℤ (pos (apart p (placeAfter b))))))
-        (λ h. rw h (left-named sound false e (omega (order, left-apart, right-apart, leb-false)) (negℤ (pos (apart p (placeBefore b)))) refl));
+    named = by-test (upstreamNearer p (placeAfter b) (placeBefore b))
+        (λ h. rw h (right-named sound false e (omega (order, left-apart, right-apart, nearer-yes)) (pos (apart p (placeAfter b))) (negℤ-negℤ (pos (apart p (placeAfter b))))))
+        (λ h. rw h (left-named sound false e (omega (order, left-apart, right-apart, nearer-no)) (negℤ (pos (apart p (placeBefore b)))) refl));
   }
 
 pub bases-named : (t : Transcript) → Sound t → BasesNamed ours t

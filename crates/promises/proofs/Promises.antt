@@ -8,7 +8,7 @@ use lib.Dec.{eqb}
 use lib.IntN.{ℤ, pos, negsuc, natAbs, _+ℤ_}
 use lib.ListN.{length}
 use Rattle.refusals.specs.Numbers.{mostSegments}
-use Rattle.whole.specs.Whole.{if_then_else_, eqZ, order}
+use Rattle.whole.specs.Whole.{eqZ, order}
 use Rattle.cigar.specs.Elements.{transcript, total}
 use Rattle.cigar.specs.Text.{readAll}
 use Rattle.records.specs.Records.{Record}
@@ -18,7 +18,7 @@ use Rattle.transcript.specs.Building.{Exon, build}
 use Rattle.transcript.specs.Judging.{cdsOf}
 use Rattle.transcript.specs.declared.Bound.{Bound}
 use Rattle.transcript.specs.declared.Bound.the-variants.{Given, Absent}
-use Rattle.promises.specs.Demands.{ours, Input, Builds, cigarOf, elementsIn, AllSpan, basesOf, movedUp, Kept, kept, Lengthens, Keeps, Demand-2, Demand-3}
+use Rattle.promises.specs.Demands.{ours, Input, Builds, cigarOf, elementsIn, AllSpan, basesOf, addedUpstream, movedUp, Kept, kept, Lengthens, Keeps, Demand-2, Demand-3}
 use Rattle.promises.proofs.Sound.{Sound}
 use Rattle.promises.proofs.Records.{Spans, InOrder, exonBases}
 use Rattle.promises.proofs.Built.{exonIn, WholeBounds, From, built-from, in-order, all-span}
@@ -53,8 +53,7 @@ cds-moved (Given a) Absent n h = refl
 cds-moved Absent (Given b) n h = refl
 cds-moved Absent Absent n h = refl
 
--- the bases that are added upstream
-added-is : (forward : Bool) (left right : List Record) → (if forward then basesOf left else basesOf right) ≡ cond forward (exonBases (map exonIn left)) (exonBases (map exonIn right))
+added-is : (forward : Bool) (left right : List Record) → addedUpstream forward left right ≡ cond forward (exonBases (map exonIn left)) (exonBases (map exonIn right))
 added-is true left right = bases-are left
 added-is false left right = bases-are right
 

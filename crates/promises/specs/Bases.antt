@@ -55,12 +55,13 @@ pub record Matched (t : Transcript) (p : ℕ) : Type 0 where
   pub lies : Lies (t .elements) p
   pub match : isMatch (lies .element) ≡ true
 
--- the transcript bases upstream of it: those of the elements on that side, on strand 1 the elements before its own and on strand -1 those after it, and those of its own element
+-- the transcript bases upstream of a column: those of the elements on that side, on strand 1 the elements before its own and on strand -1 those after it, and those of its own element
+abbrev pub upstreamIn : {es : List Element} {p : ℕ} → Bool → Lies es p → ℕ
+upstreamIn true own = total transcript (own .before) + own .at
+upstreamIn false own = total transcript (own .after) + (own .element .count - (own .at + 1))
+
 abbrev pub upstreamOf : {t : Transcript} {p : ℕ} → Matched t p → ℕ
-upstreamOf {t} b =
-    let own = b .lies in
-    if t .forward then total transcript (own .before) + own .at
-    else total transcript (own .after) + (own .element .count - (own .at + 1))
+upstreamOf {t} b = upstreamIn (t .forward) (b .lies)
 
 abbrev pub exonName : {t : Transcript} {p : ℕ} → Matched t p → Name
 exonName b = record { upstream = upstreamOf b; offset = pos 0 }
@@ -97,8 +98,12 @@ downstreamPlace {t} b = if t .forward then placeAfter b else placeBefore b
 abbrev pub apart : ℕ → ℕ → ℕ
 apart p q = (p - q) + (q - p)
 
--- the name of the base at place p between the exon bases at u, upstream, and at d, downstream: it counts from the nearer of the two, at the middle from the upstream one
+-- of the exon bases at u, upstream, and at d, downstream, the upstream one is the nearer to p; at the middle it counts as the nearer
+unfoldable pub upstreamNearer : ℕ → ℕ → ℕ → Bool
+upstreamNearer p u d = leb (apart p u) (apart p d)
+
+-- the name of the base at place p between the two
 unfoldable pub intronName : {t : Transcript} {u d : ℕ} → ℕ → Matched t u → Matched t d → Name
 intronName {t} {u} {d} p up down =
-    if leb (apart p u) (apart p d) then record { upstream = upstreamOf up; offset = pos (apart p u) }
+    if upstreamNearer p u d then record { upstream = upstreamOf up; offset = pos (apart p u) }
     else record { upstream = upstreamOf down; offset = negℤ (pos (apart p d)) }

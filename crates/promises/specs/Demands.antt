@@ -1,11 +1,11 @@
 -- Demands 2 and 3, as what is asked of a mapper. Assumes nothing.
 use Prim.Native.Nat.{ℕ, _+_, _<_}
-use mathlib.Core.Bool.{Bool, true}
+use mathlib.Core.Bool.{Bool, true, false}
 use mathlib.Core.List.{List, [], _∷_, _++_, map}
 use mathlib.Core.Path.{_≡_}
 use lib.IntN.{ℤ, pos, _+ℤ_}
 use Rattle.refusals.specs.Numbers.{mostSegments}
-use Rattle.whole.specs.Whole.{if_then_else_, eqZ}
+use Rattle.whole.specs.Whole.{eqZ}
 use Rattle.cigar.specs.Elements.{Element, genome, transcript, total}
 use Rattle.cigar.specs.Text.{Reading, readAll}
 use Rattle.cigar.specs.Text.Reading.{elements, refused as unread}
@@ -123,6 +123,11 @@ unfoldable pub basesOf : List Record → ℕ
 basesOf [] = 0
 basesOf (r ∷ rs) = total transcript (cigarOf r) + basesOf rs
 
+-- the transcript bases that records add upstream: on strand 1 those on the left, along the genome, and on strand -1 those on the right
+abbrev pub addedUpstream : Bool → List Record → List Record → ℕ
+addedUpstream true left right = basesOf left
+addedUpstream false left right = basesOf right
+
 -- a CDS bound, moved up
 abbrev pub movedUp : ℕ → Bound → Bound
 movedUp n (Given z) = Given (z +ℤ pos n)
@@ -145,9 +150,8 @@ pub record Lengthens (x y : Input) : Type 0 where
   pub stands : y .records ≡ left ++ (own ++ right)
   pub own-kept : map kept own ≡ map kept (x .records)
   pub strand-kept : y .strand ≡ x .strand
-  -- those on the left stand upstream on strand 1, and those on the right on strand -1
   pub added : ℕ
-  pub upstream : added ≡ (if eqZ (x .strand) (pos 1) then basesOf left else basesOf right)
+  pub upstream : added ≡ addedUpstream (eqZ (x .strand) (pos 1)) left right
   pub start-moved : y .start ≡ movedUp added (x .start)
   pub end-moved : y .end ≡ movedUp added (x .end)
 
