@@ -35,7 +35,7 @@ use Rattle.promises.proofs.Records.{Spans, InOrder}
 same : {A : Type 0} {a b : A} → accepted a ≡ accepted b → a ≡ b
 same e = cc
 
-clash : {A : Type 0} {k : ℕ} {a : A} → refused k ≡ accepted a → ⊥
+pub clash : {A : Type 0} {k : ℕ} {a : A} → refused k ≡ accepted a → ⊥
 clash e = let z : _≡_ {A = ℕ} 0 1 = cc in omega arith
 
 none : {s e : ℕ} → noCds ≡ cds s e → ⊥

@@ -4,26 +4,39 @@ use native.Mathlib.Omega.{arith}
 use mathlib.Core.Bool.{Bool, true, false, cond, true≢false}
 use mathlib.Core.List.{List, [], _∷_, _++_, map, map-map, map-append}
 use mathlib.Core.Path.{_≡_, refl, sym, ap, _∙_, subst}
-use lib.Dec.{eqb}
+use lib.Dec.{eqb, ltb}
 use lib.IntN.{ℤ, pos, negsuc, natAbs, _+ℤ_}
 use lib.ListN.{length}
 use Rattle.refusals.specs.Numbers.{mostSegments}
-use Rattle.whole.specs.Whole.{eqZ, order}
+use Rattle.whole.specs.Whole.{eqZ, by-test, order}
 use Rattle.cigar.specs.Elements.{transcript, total}
 use Rattle.cigar.specs.Text.{readAll}
-use Rattle.records.specs.Records.{Record}
+use Rattle.records.specs.Records.{Record, exactly}
 use Rattle.transcript.specs.Transcript.{Transcript, Cds}
 use Rattle.transcript.specs.Transcript.Cds.{cds}
 use Rattle.transcript.specs.Building.{Exon, build}
-use Rattle.transcript.specs.Judging.{cdsOf}
+use Rattle.transcript.specs.Judging.{Made, bothBits, cdsOf, judge}
+use Rattle.transcript.specs.Judging.Judged.{accepted}
 use Rattle.transcript.specs.declared.Bound.{Bound}
 use Rattle.transcript.specs.declared.Bound.the-variants.{Given, Absent}
-use Rattle.promises.specs.Demands.{ours, Input, Builds, cigarOf, elementsIn, AllSpan, basesOf, addedUpstream, movedUp, Kept, kept, Lengthens, Keeps, Demand-2, Demand-3}
+use Rattle.promises.specs.Demands.{ours, Input, madeOf, inputOf, Builds, cigarOf, elementsIn, AllSpan, basesOf, addedUpstream, movedUp, Kept, kept, Lengthens, Keeps, Demand-2, Demand-3}
 use Rattle.promises.proofs.Sound.{Sound}
 use Rattle.promises.proofs.Records.{Spans, InOrder, exonBases}
-use Rattle.promises.proofs.Built.{exonIn, WholeBounds, From, built-from, in-order, all-span}
+use Rattle.promises.proofs.Built.{clash, exonIn, WholeBounds, From, built-from, in-order, all-span}
 use Rattle.promises.proofs.Demand2.{bases-named}
 use Rattle.promises.proofs.Demand3.{cdsUp, lengthened, lengthened-keeps}
+
+-- what a host hands over and is not refused builds from the records that it lays out
+pub host-builds : (strand : ℤ) (bits : ℕ) (start end : ℤ) (n : ℕ) (s : List ℕ) (made : Made) → judge strand bits start end n s ≡ accepted made
+    → Builds (inputOf strand bits start end n s) (build (made .forward) (made .exon-list) (made .coding))
+unfolding judge
+host-builds strand bits start end n s made =
+    by-test (ltb bothBits bits)
+    (λ t. rw t (λ h. absurd (clash h)))
+    (λ t.
+    by-test (exactly n s 0)
+    (λ u. rw (t, u) (λ h. ap madeOf h))
+    (λ u. rw (t, u) (λ h. absurd (clash h))))
 
 pub demand-2 : Demand-2 ours
 demand-2 x t builds = bases-named t (built-from x t builds .sound)

@@ -9,11 +9,11 @@ use Rattle.whole.specs.Whole.{eqZ}
 use Rattle.cigar.specs.Elements.{Element, genome, transcript, total}
 use Rattle.cigar.specs.Text.{Reading, readAll}
 use Rattle.cigar.specs.Text.Reading.{elements, refused as unread}
-use Rattle.records.specs.Records.{Record}
+use Rattle.records.specs.Records.{Record, recordsFrom}
 use Rattle.transcript.specs.Transcript.{Transcript, genomeLength, transcriptLength}
 use Rattle.transcript.specs.Transcript.Cds.{cds}
 use Rattle.transcript.specs.Building.{build}
-use Rattle.transcript.specs.Judging.{Judged, Made, judgeRecords}
+use Rattle.transcript.specs.Judging.{Judged, Made, startOf, endOf, judgeRecords}
 use Rattle.transcript.specs.Judging.Judged.{refused, accepted}
 use Rattle.transcript.specs.declared.Bound.{Bound}
 use Rattle.transcript.specs.declared.Bound.the-variants.{Given, Absent}
@@ -64,6 +64,10 @@ madeOf (accepted made) = accepted (build (made .forward) (made .exon-list) (made
 -- building refuses, or answers a transcript
 abbrev pub building : Input → Judged Transcript
 building x = madeOf (judgeRecords (x .strand) (x .start) (x .end) (x .records))
+
+-- the input that the numbers and bytes of a host lay out
+abbrev pub inputOf : ℤ → ℕ → ℤ → ℤ → ℕ → List ℕ → Input
+inputOf strand bits start end n s = record { strand = strand; start = startOf bits start; end = endOf bits end; records = recordsFrom n s 0 }
 
 -- the transcript t is built from the input x
 abbrev pub Builds : Input → Transcript → Type 0

@@ -162,62 +162,71 @@ unspanned = build strand1 (exon 2 5 (2 of M ∷ []) ∷ exon 10 14 (4 of M ∷ [
 
 abbrev pub rows : List Row
 rows =
-    -- P1
+    -- P1: A g.11 = n.1 = c.-3
     g-n strict A (g 11) (certain (n (pos 1) (pos 0)))
     ∷ g-c strict A (g 11) (certain (c (plainC (minus 3)) (pos 0)))
-    -- P2, P3, P4
+    -- P2: A g.13 = c.-1
     ∷ g-c strict A (g 13) (certain (c (plainC (minus 1)) (pos 0)))
+    -- P3: A g.14 = c.1
     ∷ g-c strict A (g 14) (certain (c (plainC (pos 1)) (pos 0)))
+    -- P4: A g.21 = c.7+1
     ∷ g-c strict A (g 21) (certain (c (plainC (pos 7)) (pos 1)))
-    -- P5, P6, P7
+    -- P5: A g.23 = c.7+3, the middle
     ∷ g-c strict A (g 23) (certain (c (plainC (pos 7)) (pos 3)))
+    -- P6: A g.24 = c.8-2
     ∷ g-c strict A (g 24) (certain (c (plainC (pos 8)) (minus 2)))
+    -- P7: A g.33 = c.*3
     ∷ g-c strict A (g 33) (certain (c (starC (pos 3)) (pos 0)))
-    -- P8
+    -- P8: A g.34 = n.19, but c. refuses 15
     ∷ g-n strict A (g 34) (certain (n (pos 19) (pos 0)))
     ∷ g-c strict A (g 34) (refused nOutside)
-    -- P9
+    -- P9: A g.35 and g.10 refuse 14; lenient g.10 = n.-1 = c.-4
     ∷ g-n strict A (g 35) (refused outside)
     ∷ g-n strict A (g 10) (refused outside)
     ∷ g-n lenient A (g 10) (certain (n (minus 1) (pos 0)))
     ∷ g-c lenient A (g 10) (certain (c (plainC (minus 4)) (pos 0)))
-    -- P10, P11
+    -- P10: B g.33 = n.1
     ∷ g-n strict B (g 33) (certain (n (pos 1) (pos 0)))
+    -- P11: B g.23 = n.8+3 = c.5+3
     ∷ g-n strict B (g 23) (certain (n (pos 8) (pos 3)))
     ∷ g-c strict B (g 23) (certain (c (plainC (pos 5)) (pos 3)))
-    -- P12
+    -- P12: g.105_105 = n.4_5, uncertain
     ∷ g-n strict ins (g 105) (uncertain (ns (pos 4) (pos 0) (pos 5) (pos 0)))
-    -- P13
+    -- P13: n.5_5 = g.104_105, uncertain; g.105 = n.7
     ∷ n-g strict del (n (pos 5) (pos 0)) (uncertain (gs 104 105))
     ∷ g-n strict del (g 105) (certain (n (pos 7) (pos 0)))
-    -- P14: M0X3=
+    -- P14: M0X3= reads as 1M 0X 3= and is written unchanged
     ∷ cigar (77 ∷ 48 ∷ 88 ∷ 51 ∷ 61 ∷ []) (1 of 77 ∷ 0 of 88 ∷ 3 of 61 ∷ [])
-    -- P15: ACGT and ACT leave GT and T, changed G
+    -- P15: ACGT and ACT: prefix 2 leaves GT and T; changed part G
     ∷ alleles (65 ∷ 67 ∷ 71 ∷ 84 ∷ []) (65 ∷ 67 ∷ 84 ∷ []) 2 (71 ∷ 84 ∷ []) (84 ∷ []) (71 ∷ [])
-    -- on strand -1 start and end change places
+    -- on strand -1 start and end change places: B g.11_33 = n.1_18 and back; B g.22_33 = n.1_9-2
     ∷ g-n strict B (gs 11 33) (certain (ns (pos 1) (pos 0) (pos 18) (pos 0)))
     ∷ n-g strict B (ns (pos 1) (pos 0) (pos 18) (pos 0)) (certain (gs 11 33))
     ∷ g-n strict B (gs 22 33) (certain (ns (pos 1) (pos 0) (pos 9) (minus 2)))
-    -- the strict bound looks at the turned place
+    -- the strict bound looks at the turned place: B n.-1 is g.34 and n.19 refuses 14, and on A the other way round
     ∷ n-g strict B (n (minus 1) (pos 0)) (certain (g 34))
     ∷ n-g strict B (n (pos 19) (pos 0)) (refused outside)
-    -- n. to c. tests its start low and its end high, and can answer c.0
+    ∷ n-g strict A (n (minus 1) (pos 0)) (refused outside)
+    ∷ n-g strict A (n (pos 19) (pos 0)) (certain (g 34))
+    -- n. to c. does not test its end low: n.1_0 is c.1_c.0
     ∷ n-c strict lone (ns (pos 1) (pos 0) (pos 0) (pos 0)) (told (cs (plainC (pos 1)) (pos 0) (plainC (pos 0)) (pos 0)))
-    -- the way back, 16, 13 and 17
+    -- c.7+3 comes back; 16; 13; 17
     ∷ c-g strict A (c (plainC (pos 7)) (pos 3)) (certain (g 23))
     ∷ c-n strict A (c (starC (pos 4)) (pos 0)) (denied cOutside)
     ∷ n-c strict del (n (pos 1) (pos 0)) (denied notCoding)
     ∷ n-g lenient A (ns (pos 1) (pos 2147483647) (pos 1) (pos 0)) (refused tooWide)
-    -- 18 and 19, and in bounds
+    -- 18 and 19
     ∷ asked-g-n strict (lengthOnly 18 noCds) (asked 11 11) (refused noGenome)
     ∷ asked-g-n strict (aligned A) (record { from = at (pos 11); to = missing }) (refused missingEnd)
+    -- A g.11_34 is in bounds and g.11_35 is not; 18 and 19
     ∷ in-bounds (aligned A) (asked 11 34) (told true)
     ∷ in-bounds (aligned A) (asked 11 35) (told false)
     ∷ in-bounds (lengthOnly 18 noCds) (asked 11 34) (denied noGenome)
     ∷ in-bounds (aligned A) (record { from = missing; to = at (pos 33) }) (denied missingEnd)
-    -- why demand 3 asks for bases of the span, and for records that span their bounds
+    -- why demand 3 asks for bases of the span: A g.34_33 is c.*4_*3, and with an exon added c.*3+1_*3
     ∷ g-c strict A (gs 34 33) (certain (cs (starC (pos 4)) (pos 0) (starC (pos 3)) (pos 0)))
     ∷ g-c strict A+ (gs 34 33) (certain (cs (starC (pos 3)) (pos 1) (starC (pos 3)) (pos 0)))
+    -- and for records that span their bounds: g.11 moves from c.1 to c.2
     ∷ g-c strict lone (g 11) (certain (c (plainC (pos 1)) (pos 0)))
     ∷ g-c strict unspanned (g 11) (certain (c (plainC (pos 2)) (pos 0)))
     ∷ []
