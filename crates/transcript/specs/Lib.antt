@@ -1,7 +1,9 @@
 -- The root of the crate's specs.
+pub mod Totals
 pub mod Transcript
 pub mod Building
 pub mod Holding
 pub mod Reading
+pub mod Tallies
 pub mod Judging
 pub mod Worked

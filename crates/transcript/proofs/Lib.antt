@@ -1,0 +1,9 @@
+-- What the proofs of several functions use.
+--     Gaps       bounds that are not negative
+--     Sizes      what a record reads as, by its CIGAR's size
+--     Texts      a text is tallied element by element
+--     Tallied    the records are tallied one by one
+pub mod Gaps
+pub mod Sizes
+pub mod Texts
+pub mod Tallied
