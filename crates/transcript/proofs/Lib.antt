@@ -3,7 +3,9 @@
 --     Sizes      what a record reads as, by its CIGAR's size
 --     Texts      a text is tallied element by element
 --     Tallied    the records are tallied one by one
+--     Chain      the judgment's chain of refusals, link by link
 pub mod Gaps
 pub mod Sizes
 pub mod Texts
 pub mod Tallied
+pub mod Chain

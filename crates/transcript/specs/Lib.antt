@@ -4,6 +4,6 @@ pub mod Transcript
 pub mod Building
 pub mod Holding
 pub mod Reading
-pub mod Tallies
 pub mod Judging
+pub mod Tallies
 pub mod Worked

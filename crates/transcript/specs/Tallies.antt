@@ -8,6 +8,7 @@ use Rattle.cigar.specs.Elements.{Element, genome, transcript, total}
 use Rattle.cigar.specs.Text.{Reading, elements, refused}
 use Rattle.transcript.specs.Building.{elementsAfter, elementsOf}
 use Rattle.transcript.specs.Reading.{Exons, exons, denied}
+use Rattle.transcript.specs.Judging.{Judged, Made, refused as refused′, accepted}
 use Rattle.transcript.specs.declared.reading.Sums.{Sums}
 use Rattle.transcript.specs.declared.reading.Tally.{Tally}
 use Rattle.transcript.specs.declared.reading.Tally.the-variants as tally
@@ -40,6 +41,11 @@ talliedAfter e s (denied k) = tally.Refused k
 abbrev pub talliedAll : Exons → Tally
 talliedAll (exons xs) = tally.Sums (sumsOf (elementsOf true xs))
 talliedAll (denied k) = tally.Refused k
+
+-- what was judged: its refusal, or the sums of the elements that are to be built
+abbrev pub toldOf : Judged Made → Tally
+toldOf (refused′ k) = tally.Refused k
+toldOf (accepted m) = tally.Sums (sumsOf (elementsOf (m .forward) (m .exon-list)))
 
 -- there are at most 2,048 segments, and each goes less than 2^32, so that the sums fit 64 bits
 pub record Bounded (s : Sums) : Type 0 where

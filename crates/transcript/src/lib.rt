@@ -1,5 +1,6 @@
 // Transcripts: built from records or from a length, and what it means to hold together.
 
+pub mod judging;
 pub mod reading;
 
 // A transcript beside its three tables: kind (0 built from records, 1 from a length), strand, first start, segment count, CDS bits
