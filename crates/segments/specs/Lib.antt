@@ -4,3 +4,4 @@ pub mod Tables
 pub mod Paper
 pub mod Meaning
 pub mod Reading
+pub mod Made
