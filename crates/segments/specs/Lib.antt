@@ -5,3 +5,4 @@ pub mod Paper
 pub mod Meaning
 pub mod Reading
 pub mod Made
+pub mod Entries
