@@ -3,3 +3,4 @@ pub mod Answers
 pub mod Mapping
 pub mod Asking
 pub mod Paper
+pub mod Lying
