@@ -1,21 +1,17 @@
--- Numbers that are widened to 64 bits, and how large places and their turns can be. A `u32` and an `i32` are below 2 ^ 32 in size. Assumes nothing.
+-- How large places, their turns and g. numbers can be. A `u32` and an `i32` are below 2 ^ 32 in size. Assumes nothing.
 use Prim.Native.Nat.{ℕ}
 use native.Mathlib.Omega.{arith}
 use mathlib.Core.Bool.{Bool, true, false}
-use mathlib.Core.Path.{_≡_, refl, subst}
+use mathlib.Core.Path.{_≡_}
 use lib.IntN.{ℤ, pos, negℤ, _+ℤ_, _-ℤ_}
 use lib.Signed.{leZ}
 use mir.Syntax.{w32, w64}
-use mir.Val.{Fits, SFits, toZ}
-use mir.ValLaws.{toZ-pos}
-use Rattle.whole.specs.Whole.{Within, if_then_else_, by-test, order, dif, neg, mag-sum, mag-dif}
+use mir.Val.{Fits, SFits}
+use Rattle.whole.specs.Whole.{Within, if_then_else_, order, dif, neg, mag-sum, mag-dif}
 use Rattle.numbering.specs.Numbers.{placeOfN}
 use Rattle.mapper.specs.Mapping.{turned, signed}
 
--- a `u32` read as 64 signed bits is the number itself
-pub entry : {n : ℕ} → Fits w32 n → toZ w64 n ≡ pos n
-entry {n} h = toZ-pos w64 n (omega (arith, h .fits))
-
+-- a `u32`
 pub entry-40 : {n : ℕ} → Fits w32 n → Within 40 (pos n)
 entry-40 h = omega (arith, h .fits)
 

@@ -4,3 +4,4 @@ pub mod Mapping
 pub mod Asking
 pub mod Paper
 pub mod Lying
+pub mod Refusing

@@ -4,7 +4,8 @@ use mir.Syntax.{w64}
 use mir.Val.{toZ, ofZ}
 use Rattle.mapper.specs.Mapping.{signed}
 use Rattle.whole.specs.Whole.{read, told, widened, fits-wider, i32-38, fits-40, fits-42}
-use Rattle.mapper.proofs.Sizes.{entry, signed-40, from-first-40, from-one-40, with-own-42}
+use Rattle.segments.specs.Entries.{entry}
+use Rattle.mapper.proofs.Sizes.{signed-40, from-first-40, from-one-40, with-own-42}
 use borrow.Author.Needs.{needs}
 use Rattle.mapper.proofs.genome.g_of_place.Statement.{statement}
 use Rattle.mapper.proofs.genome.g_of_place.Tie as tie

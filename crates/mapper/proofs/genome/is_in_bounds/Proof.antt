@@ -4,7 +4,8 @@ use lib.IntN.{pos, _-ℤ_}
 use mir.Syntax.{w64}
 use mir.Val.{toZ, ofZ}
 use Rattle.whole.specs.Whole.{read}
-use Rattle.mapper.proofs.Sizes.{entry, fits-36}
+use Rattle.segments.specs.Entries.{entry}
+use Rattle.mapper.proofs.Sizes.{fits-36}
 use borrow.Author.Needs.{needs}
 use Rattle.mapper.proofs.genome.is_in_bounds.Statement.{statement}
 use Rattle.mapper.proofs.genome.is_in_bounds.Tie as tie

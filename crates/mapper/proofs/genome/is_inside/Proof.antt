@@ -2,7 +2,7 @@
 use mir.Syntax.{w64}
 use Rattle.whole.specs.Whole.{told}
 use Rattle.mapper.specs.Mapping.{inside}
-use Rattle.mapper.proofs.Sizes.{entry}
+use Rattle.segments.specs.Entries.{entry}
 use borrow.Author.Needs.{needs}
 use Rattle.mapper.proofs.genome.is_inside.Statement.{statement}
 use Rattle.mapper.proofs.genome.is_inside.Tie as tie

@@ -1,7 +1,8 @@
 -- `mapper::genome::place_of_g` meets its contract. Assumes nothing.
 use mathlib.Core.Path.{refl}
 use Rattle.whole.specs.Whole.{read, widened, fits-wider, fits-38}
-use Rattle.mapper.proofs.Sizes.{entry, less-38, place-36, fits-36}
+use Rattle.segments.specs.Entries.{entry}
+use Rattle.mapper.proofs.Sizes.{less-38, place-36, fits-36}
 use borrow.Author.Needs.{needs}
 use Rattle.mapper.proofs.genome.place_of_g.Statement.{statement}
 use Rattle.mapper.proofs.genome.place_of_g.Tie as tie

@@ -2,7 +2,8 @@
 use mir.Syntax.{w64}
 use Rattle.whole.specs.Whole.{read, told, fits-38, fits-40}
 use Rattle.mapper.specs.Mapping.{turned}
-use Rattle.mapper.proofs.Sizes.{entry, end-38, back-40}
+use Rattle.segments.specs.Entries.{entry}
+use Rattle.mapper.proofs.Sizes.{end-38, back-40}
 use borrow.Author.Needs.{needs}
 use Rattle.mapper.proofs.genome.turn.Statement.{statement}
 use Rattle.mapper.proofs.genome.turn.Tie as tie
