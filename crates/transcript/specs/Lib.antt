@@ -2,3 +2,4 @@
 pub mod Transcript
 pub mod Building
 pub mod Holding
+pub mod Held
