@@ -1,8 +1,9 @@
--- Laws of the common prefix that the proofs of several functions use. `Upto s t i` is both loops' invariant: the first i bytes agree.
---     upto-none       where a loop begins
---     upto-more       the bytes at i agree too
---     upto-ends-s, -t one of the lists ends at i
---     upto-differs    the bytes at i differ
+-- How both loops count what two lists have in common. `Upto s t i` is their invariant: the first i bytes agree.
+--     upto-none          where a loop begins
+--     upto-more          the bytes at i agree too
+--     upto-ends-s, -t    one of the lists ends at i
+--     upto-differs       the bytes at i differ
+--     getD-reverse       the i-th byte from the back
 -- Assumes nothing.
 use mathlib.Core.Path.{_≡_, refl, sym, ap, _∙_}
 use mathlib.Core.List.{List, [], _∷_, reverse, reverse-cons}
@@ -14,7 +15,7 @@ use native.Mathlib.Omega.{arith}
 use lib.ListN.{length, getD, drop, drop-of-length-le, length-reverse, List·getD-append}
 use lib.Seq.{drop-cons, getD-at}
 use borrow.Author.Tests.{eq-eqb, ne-eqb}
-use Rattle.sequences.specs.Trim.{prefixLen}
+use Rattle.sequences.specs.Alleles.{prefixLen}
 
 pub record Upto (s t : List ℕ) (i : ℕ) : Type 0 where
   pub in-s : i ≤ length s
