@@ -12,7 +12,8 @@ use borrow.Author.Tests.{eqb-true, ltb-false}
 use Rattle.refusals.specs.Numbers.{mostSegments, mostText, mostBases, mostRecords}
 use Rattle.whole.specs.Whole.{eqZ, by-test, order, sum}
 use Rattle.cigar.specs.Elements.{Element, genome, transcript, total}
-use Rattle.cigar.specs.Text.{Reading, readAll}
+use Rattle.cigar.specs.Text.{Reading, Answered, elementsIn}
+use Rattle.cigar.specs.Read.{readText}
 use Rattle.cigar.specs.Text.Reading.{elements, refused as unread}
 use Rattle.records.specs.Records.{Record}
 use Rattle.records.specs.Faults.{_orElse_, faults, faultsAfter, ownFault, pairFault, followFault, spanFault, startFault}
@@ -25,9 +26,9 @@ use Rattle.transcript.specs.Judging.{Judged, Made, unless, halfFault, rangeFaul
 use Rattle.transcript.specs.Judging.Judged.{refused, accepted}
 use Rattle.transcript.specs.declared.Bound.{Bound}
 use Rattle.transcript.specs.declared.Bound.the-variants.{Given, Absent}
-use Rattle.promises.specs.Demands.{elementsIn, cigarOf, AllSpan, Input, madeOf, building, Builds}
+use Rattle.promises.specs.Demands.{cigarOf, AllSpan, Input, madeOf, building, Builds}
 use Rattle.promises.proofs.Sound.{Sound}
-use Rattle.promises.proofs.Rooms.{Read, reads-alike}
+use Rattle.promises.proofs.Rooms.{reads-alike}
 use Rattle.promises.proofs.Records.{Spans, InOrder}
 
 -- ---- no refusal
@@ -63,22 +64,19 @@ rest-read x (exons xs) ok = ok
 rest-read x (denied k) bad = bad
 
 -- a record's reading, which is the CIGAR's own where it does not refuse, and what follows it
-then-read : (r : Record) (xs : List Exon) (p : Reading) (next : ℕ → Exons) → (Read p → readAll mostSegments (r .cigar) ≡ p) → ((n : ℕ) → AllRead (next n) → next n ≡ exons xs)
+then-read : (r : Record) (xs : List Exon) (p : Reading) (next : ℕ → Exons) → (Answered p → readText (r .cigar) ≡ p) → ((n : ℕ) → AllRead (next n) → next n ≡ exons xs)
     → AllRead (andThen r p next) → andThen r p next ≡ exons (exonIn r ∷ xs)
 then-read r xs (elements es) next is follows ok =
     rw (follows (length es) (rest-read (exonOf r es) (next (length es)) ok))
     (ap (λ (p : Reading). exons (exonOf r (elementsIn p) ∷ xs)) (sym (is tt)))
 then-read r xs (unread k) next is follows bad = absurd bad
 
-first-is : (r : Record) → Read (readFirst r) → readAll mostSegments (r .cigar) ≡ readFirst r
-unfolding readFirst
-first-is r =
-    by-test (ltb mostText (length (r .cigar)))
-    (λ t. rw t (λ bad. absurd bad))
-    (λ t. rw t (λ ok. refl))
+first-is : (r : Record) → Answered (readFirst r) → readText (r .cigar) ≡ readFirst r
+unfolding readFirst readText
+first-is r ok = refl
 
-next-is : (used : ℕ) (r : Record) → Read (readNext used r) → readAll mostSegments (r .cigar) ≡ readNext used r
-unfolding readNext
+next-is : (used : ℕ) (r : Record) → Answered (readNext used r) → readText (r .cigar) ≡ readNext used r
+unfolding readNext readText
 next-is used r =
     by-test (ltb mostText (length (r .cigar)))
     (λ t. rw t (λ bad. absurd bad))

@@ -12,7 +12,7 @@ use Rattle.cigar.specs.Elements.{Element, Side, Kind, kindOf, kind, genome, tra
 use Rattle.cigar.specs.Elements.Kind.{matches, inserts, deletes, skips}
 use Rattle.segments.specs.Places.{segmentFrom, surely, End, spotIn, mapPlace}
 use Rattle.promises.specs.Bases.{isMatch}
-use Rattle.promises.proofs.Totals.{total-append}
+use Rattle.transcript.specs.Totals.{total-append}
 use Rattle.promises.proofs.Spots.{slid, amid-place}
 
 -- the place p on the one side and the place q on the other are one column of a matching element

@@ -15,7 +15,7 @@ use Rattle.mapper.specs.Mapping.{signed}
 use Rattle.promises.specs.Bases.{Name, Lies, Matched, upstreamIn, upstreamOf, exonName, InIntron, placeBefore, placeAfter, apart, upstreamNearer, intronName}
 use Rattle.promises.specs.Demands.{ours, Named, FromNearest, BasesNamed}
 use Rattle.promises.proofs.Sound.{Sound}
-use Rattle.promises.proofs.Totals.{total-append}
+use Rattle.transcript.specs.Totals.{total-append}
 use Rattle.promises.proofs.Spots.{slid, amid-place}
 use Rattle.promises.proofs.Turns.{across}
 use Rattle.promises.proofs.Columns.{Column, match-kind, match-genome, match-transcript, skip-genome, skip-transcript, column-maps, column-within, across-column, total-one}

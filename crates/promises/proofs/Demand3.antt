@@ -4,6 +4,7 @@ use mathlib.Core.Bool.{Bool, true, cond}
 use mathlib.Core.List.{List, _∷_, _++_}
 use mathlib.Core.Path.{_≡_, refl}
 use lib.IntN.{pos}
+use Rattle.refusals.specs.Numbers.{notCoding}
 use Rattle.cigar.specs.Elements.{Element, genome, total}
 use Rattle.transcript.specs.Transcript.{Transcript, Cds, transcriptLength}
 use Rattle.transcript.specs.Transcript.Cds.{noCds, cds}
@@ -18,7 +19,7 @@ use Rattle.promises.proofs.Lengthening.{short, long, g-to-c-kept, c-to-
 use Rattle.promises.proofs.Records.{Spans, InOrder, exonBases, lead, trail, split, lead-bases, trail-bases, lead-span}
 
 -- with no CDS there is no c. answer
-nothing : {A B : Type 0} (a : Answer A) (f : A → Plain B) → ((x : A) → f x ≡ denied 13) → Answered (andThen a f) → ⊥
+nothing : {A B : Type 0} (a : Answer A) (f : A → Plain B) → ((x : A) → f x ≡ denied notCoding) → Answered (andThen a f) → ⊥
 nothing (certain x) f h = rw (h x) (λ bad. bad)
 nothing (uncertain x) f h = rw (h x) (λ bad. bad)
 nothing (refused k) f h = λ bad. bad

@@ -9,7 +9,7 @@ use borrow.Author.Tests.{eqb-true, eqb-false}
 use Rattle.whole.specs.Whole.{by-test}
 use Rattle.cigar.specs.Elements.{Element, genome, transcript, total}
 use Rattle.promises.specs.Bases.{isMatch, nextMatches}
-use Rattle.promises.proofs.Totals.{total-reverse}
+use Rattle.transcript.specs.Totals.{total-reverse}
 use Rattle.promises.proofs.Columns.{none-genome, none-transcript}
 
 -- a matched element of a list, with what stands on its two sides

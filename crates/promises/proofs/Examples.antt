@@ -7,6 +7,7 @@ use mathlib.Core.Path.{_≡_, refl}
 use lib.IntN.{ℤ, pos, negsuc}
 use Rattle.cigar.specs.Elements.{Element, isLetter, kindOf, genome, transcript, total}
 use Rattle.cigar.specs.Text.{element, readFrom}
+use Rattle.cigar.specs.Read.{readText}
 use Rattle.records.specs.Records.{Record}
 use Rattle.records.specs.Faults.{faults, faultsAfter, ownFault, pairFault, followFault, spanFault, startFault, riseFault, joinFault}
 use Rattle.transcript.specs.Transcript.{Transcript}
@@ -118,7 +119,7 @@ middle-named = (demand-2 inputA A (all-build .0) .intron-base 12 (middle A of-A)
 -- ---- demand 3
 
 lengthens-A : Lengthens inputA inputLongA
-unfolding basesOf total transcript kindOf readFrom isLetter
+unfolding basesOf total transcript kindOf readText readFrom isLetter
 lengthens-A = record {
   left = row 2 5 0 3 0 3M ∷ [];
   own = row 10 20 3 13 1 10M ∷ row 25 33 13 21 2 8M ∷ [];
@@ -133,7 +134,7 @@ lengthens-A = record {
 }
 
 lengthens-B : Lengthens inputB inputLongB
-unfolding basesOf total transcript kindOf readFrom isLetter
+unfolding basesOf total transcript kindOf readText readFrom isLetter
 lengthens-B = record {
   left = row 2 5 22 25 3 3M ∷ [];
   own = row 10 20 12 22 2 10M ∷ row 25 33 4 12 1 8M ∷ [];
@@ -148,7 +149,7 @@ lengthens-B = record {
 }
 
 spanned : AllSpan (inputLongA .records) × AllSpan (inputLongB .records)
-unfolding total genome kindOf readFrom isLetter
+unfolding total genome kindOf readText readFrom isLetter
 spanned = ((refl, (refl, (refl, (refl, tt)))), (refl, (refl, (refl, (refl, tt)))))
 
 answers-kept : Keeps ours A longA × Keeps ours B longB

@@ -1,25 +1,23 @@
 -- Refusal 17: numbers that are small enough fit. Assumes nothing.
 use Prim.Native.Nat.{ℕ, _+_, _≤_, _<_}
 use native.Mathlib.Omega.{arith}
-use mathlib.Core.Bool.{Bool, true, false, _&&_, false≢true}
-use mathlib.Core.Path.{_≡_, refl}
+use mathlib.Core.Bool.{Bool, true, false}
+use mathlib.Core.Path.{_≡_}
 use lib.IntN.{ℤ, pos, negsuc, _+ℤ_, _-ℤ_}
 use lib.Signed.{leZ, ltZ}
+use Rattle.refusals.specs.Numbers.{mostBases}
 use Rattle.whole.specs.Whole.{by-test, order, sum, dif, neg, up, dn}
 use Rattle.numbering.specs.Numbers.{nOfPlace, cOfN}
+use Rattle.segments.specs.Meaning.{both}
 use Rattle.mapper.specs.Answers.{fits}
 use Rattle.mapper.specs.Mapping.{signed}
-
-pub both : (a b : Bool) → (a && b) ≡ true → (a ≡ true) × (b ≡ true)
-both true b e = (refl, e)
-both false b e = absurd (false≢true e)
 
 -- z is at most m in size
 pub record Within (m : ℕ) (z : ℤ) : Type 0 where
   pub high : up z ≤ m + dn z
   pub low : dn z ≤ m + up z
 
-pub fits-by : (z : ℤ) → Within 2000000001 z → fits z ≡ true
+pub fits-by : (z : ℤ) → Within (mostBases + 1) z → fits z ≡ true
 unfolding fits
 fits-by z h =
     let a : leZ (negsuc 2147483647) z ≡ true = omega order in
@@ -49,7 +47,7 @@ c-within s e b m ordered e-in some b-in =
     (λ u. rw (t, u) (record { high = omega (order, dif (pos b) (pos e)); low = omega (order, dif (pos b) (pos e)) })))
 
 -- an n. number still fits when its place goes up within the transcript
-pub n-fits-up : (n len long : ℕ) (z : ℤ) → n + len ≤ long → long ≤ 2000000000 → leZ z (pos len) ≡ true → fits (nOfPlace z) ≡ true → fits (nOfPlace (pos n +ℤ z)) ≡ true
+pub n-fits-up : (n len long : ℕ) (z : ℤ) → n + len ≤ long → long ≤ mostBases → leZ z (pos len) ≡ true → fits (nOfPlace z) ≡ true → fits (nOfPlace (pos n +ℤ z)) ≡ true
 unfolding nOfPlace fits
 n-fits-up n len long z in-long small high h =
     let w = pos n +ℤ z in

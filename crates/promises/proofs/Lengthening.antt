@@ -6,11 +6,13 @@ use mathlib.Core.List.{List, _++_}
 use mathlib.Core.Path.{_≡_, refl, sym, ap, _∙_, subst}
 use lib.IntN.{ℤ, pos, negsuc, _+ℤ_, _-ℤ_}
 use lib.Signed.{leZ, ltZ}
+use Rattle.refusals.specs.Numbers.{nOutside, cOutside, tooWide, mostBases}
 use Rattle.whole.specs.Whole.{if_then_else_, by-test, order, sum, dif}
 use Rattle.numbering.specs.Numbers.{nOfPlace, placeOfN, nOfC}
 use Rattle.numbering.specs.RoundTrips.{place-back}
 use Rattle.cigar.specs.Elements.{Element, kind, genome, transcript, total}
 use Rattle.cigar.specs.Elements.Kind.{matches}
+use Rattle.segments.specs.Meaning.{both}
 use Rattle.segments.specs.Places.{Spot, mapPlace}
 use Rattle.segments.specs.Places.End.{start, stop}
 use Rattle.transcript.specs.Transcript.{Transcript, genomeLength, transcriptLength}
@@ -19,16 +21,16 @@ use Rattle.mapper.specs.Answers.{GInterval, NPosition, NInterval, CPosition, CI
 use Rattle.mapper.specs.Answers.Answer.{refused}
 use Rattle.mapper.specs.Answers.Plain.{told, denied}
 use Rattle.mapper.specs.Mapping.{turned, signed, earlier, later, placeOfG, nOfSpot, nAnswer, wholeN, gToN, gOfSpot, gOfEnds, nToG, refuses15, cPosition, cOfInterval, nToC, refuses16, nPosition, nInterval, cToN, gToC, cToG}
-use Rattle.promises.proofs.Totals.{total-append}
+use Rattle.transcript.specs.Totals.{total-append}
 use Rattle.promises.proofs.Spots.{slid, amid-place}
 use Rattle.promises.proofs.Columns.{match-genome, match-transcript}
-use Rattle.promises.proofs.Fits.{both, fits-by, n-fits-up}
+use Rattle.promises.proofs.Fits.{fits-by, n-fits-up}
 use Rattle.promises.proofs.Bounds.{Near, near-place}
 use Rattle.promises.proofs.Turns.{inside-within, place-of-base, turned-within, across, across-within, n-of-place}
 use Rattle.promises.proofs.Shifts.{c-stays, low-stays, high-stays, n-goes-up, turn-there, turn-back}
 
 -- a marked answer, 17, and a second step
-then-fitting : {A B : Type 0} (m : Bool) (x : A) (fit : A → Bool) (f : A → Plain B) → andThen (fitting fit (marked m x)) f ≡ (if fit x then stepC m (f x) else refused 17)
+then-fitting : {A B : Type 0} (m : Bool) (x : A) (fit : A → Bool) (f : A → Plain B) → andThen (fitting fit (marked m x)) f ≡ (if fit x then stepC m (f x) else refused tooWide)
 then-fitting true x fit f = by-test (fit x) (λ t. rw t) (λ t. rw t)
 then-fitting false x fit f = by-test (fit x) (λ t. rw t) (λ t. rw t)
 
@@ -136,11 +138,11 @@ module _ (forward : Bool) (first : ℕ) (xs ys zs : List Element) (s e : ℕ) wh
       let (low, high) = neither (leZ (nOfPlace z) (pos 0)) (ltZ (pos (transcriptLength short)) (nOfPlace w)) t in
       rw (t, low-stays up z low, high-stays up (transcriptLength short) (transcriptLength long) w (up-fits forward) high, c-stays up s e z, c-stays up s e w)
 
-  c-none : (m : Bool) (z w o v : ℤ) → refused-15 z w ≡ true → stepC m (toC short (nInterval (byPlace z o) (byPlace w v))) ≡ refused 15
+  c-none : (m : Bool) (z w o v : ℤ) → refused-15 z w ≡ true → stepC m (toC short (nInterval (byPlace z o) (byPlace w v))) ≡ refused nOutside
   unfolding refused-15 nToC cOfInterval refuses15 cPosition
   c-none m z w o v t = rw t
 
-  module _ (small : transcriptLength long ≤ 2000000000) where
+  module _ (small : transcriptLength long ≤ mostBases) where
     -- where the shorter's n. numbers fit, so do the longer's
     n-fit : (z w o v : ℤ) → leZ z (pos (transcriptLength short)) ≡ true → refused-15 z w ≡ false
         → nBothFit (nInterval (byPlace z o) (byPlace w v)) ≡ true → nBothFit (nInterval (byPlace (pos up +ℤ z) o) (byPlace (pos up +ℤ w) v)) ≡ true
@@ -154,9 +156,9 @@ module _ (forward : Bool) (first : ℕ) (xs ys zs : List Element) (s e : ℕ) wh
         rw (n-fits-up up len (transcriptLength long) z (up-fits forward) small z-in z-fits, o-fits, n-fits-up up len (transcriptLength long) w (up-fits forward) small (place-high len w high) w-fits, v-fits)
 
     kept : (m : Bool) (z w o v : ℤ) → leZ z (pos (transcriptLength short)) ≡ true
-        → Answered (if nBothFit (nInterval (byPlace z o) (byPlace w v)) then stepC m (toC short (nInterval (byPlace z o) (byPlace w v))) else refused 17)
-        → (if nBothFit (nInterval (byPlace (pos up +ℤ z) o) (byPlace (pos up +ℤ w) v)) then stepC m (toC long (nInterval (byPlace (pos up +ℤ z) o) (byPlace (pos up +ℤ w) v))) else refused 17)
-        ≡ (if nBothFit (nInterval (byPlace z o) (byPlace w v)) then stepC m (toC short (nInterval (byPlace z o) (byPlace w v))) else refused 17)
+        → Answered (if nBothFit (nInterval (byPlace z o) (byPlace w v)) then stepC m (toC short (nInterval (byPlace z o) (byPlace w v))) else refused tooWide)
+        → (if nBothFit (nInterval (byPlace (pos up +ℤ z) o) (byPlace (pos up +ℤ w) v)) then stepC m (toC long (nInterval (byPlace (pos up +ℤ z) o) (byPlace (pos up +ℤ w) v))) else refused tooWide)
+        ≡ (if nBothFit (nInterval (byPlace z o) (byPlace w v)) then stepC m (toC short (nInterval (byPlace z o) (byPlace w v))) else refused tooWide)
     kept m z w o v z-in =
         by-test (nBothFit (nInterval (byPlace z o) (byPlace w v)))
         (λ f. rw f
@@ -178,7 +180,7 @@ module _ (forward : Bool) (first : ℕ) (xs ys zs : List Element) (s e : ℕ) wh
         let d = later forward a b in
         let len = transcriptLength short in
         let answered = rw (n-short c, n-short d) at (subst Answered (then-fitting m x nBothFit (toC short)) ok) in
-        let same : (if nBothFit y then stepC m (toC long y) else refused 17) ≡ (if nBothFit x then stepC m (toC short x) else refused 17) =
+        let same : (if nBothFit y then stepC m (toC long y) else refused tooWide) ≡ (if nBothFit x then stepC m (toC short x) else refused tooWide) =
         rw (slid-either forward n a b, slid-either forward n b a, n-long c, n-long d, n-short c, n-short d)
         (kept m (turned forward len (c .place)) (turned forward len (d .place)) (signed forward (c .offset)) (signed forward (d .offset)) (turned-high forward len (c .place) (near-either forward len a b a-near b-near)) answered) in
         then-fitting m y nBothFit (toC long) ∙ same ∙ sym (then-fitting m x nBothFit (toC short))
@@ -200,7 +202,7 @@ module _ (forward : Bool) (first : ℕ) (xs ys zs : List Element) (s e : ℕ) wh
     unfolding wholeN
     n-long-is = rw (place-long p, place-long q, inside-within (genomeLength long) (total genome xs + p) (omega (arith, long-genome)), inside-within (genomeLength long) (total genome xs + q) (omega (arith, long-genome)), amid-place genome transcript xs ys zs p start forward p-in, amid-place genome transcript xs ys zs q stop forward q-in)
 
-    pub g-to-c-kept : transcriptLength long ≤ 2000000000 → Answered (gToC true short asked) → gToC true long asked ≡ gToC true short asked
+    pub g-to-c-kept : transcriptLength long ≤ mostBases → Answered (gToC true short asked) → gToC true long asked ≡ gToC true short asked
     unfolding gToC gToN
     g-to-c-kept small =
         rw (n-short-is, n-long-is)
@@ -273,11 +275,11 @@ module _ (forward : Bool) (first : ℕ) (xs ys zs : List Element) (s e : ℕ) wh
   abbrev named : CPosition → NPosition
   named c = record { base = number-of c; offset = c .offset }
 
-  end-refused : (c : CPosition) → refused-16 c ≡ true → nPosition true (transcriptLength short) s e c ≡ denied 16
+  end-refused : (c : CPosition) → refused-16 c ≡ true → nPosition true (transcriptLength short) s e c ≡ denied cOutside
   unfolding refused-16 number-of nPosition refuses16
   end-refused c t = rw t
 
-  end-unfit : (c : CPosition) → refused-16 c ≡ false → nFits (named c) ≡ false → nPosition true (transcriptLength short) s e c ≡ denied 17
+  end-unfit : (c : CPosition) → refused-16 c ≡ false → nFits (named c) ≡ false → nPosition true (transcriptLength short) s e c ≡ denied tooWide
   unfolding refused-16 number-of nPosition refuses16
   end-unfit c t u = rw (t, u)
 
@@ -292,7 +294,7 @@ module _ (forward : Bool) (first : ℕ) (xs ys zs : List Element) (s e : ℕ) wh
       let (low, high) = neither (leZ n (pos 0)) (ltZ (pos (transcriptLength short)) n) t in
       below (transcriptLength short) n (c .offset) low high
 
-  end-long : transcriptLength long ≤ 2000000000 → (c : CPosition) → refused-16 c ≡ false → nFits (named c) ≡ true → nPosition true (transcriptLength long) (s + up) (e + up) c ≡ told (raised up (named c))
+  end-long : transcriptLength long ≤ mostBases → (c : CPosition) → refused-16 c ≡ false → nFits (named c) ≡ true → nPosition true (transcriptLength long) (s + up) (e + up) c ≡ told (raised up (named c))
   unfolding refused-16 number-of nPosition refuses16
   end-long small c t u =
       let n = nOfC (pos s) (pos e) (c .base) in
@@ -303,7 +305,7 @@ module _ (forward : Bool) (first : ℕ) (xs ys zs : List Element) (s e : ℕ) wh
       let fits′ : fits (pos up +ℤ n) ≡ true = fits-by (pos up +ℤ n) (record { high = omega (order, sum (pos up) n, up-fits forward); low = omega (order, sum (pos up) n) }) in
       rw (n-goes-up up s e (c .base) low, low′, high′, fits′, o-fits)
 
-  pub c-to-g-kept : transcriptLength long ≤ 2000000000 → (i : CInterval) → Answered (cToG true short i) → cToG true long i ≡ cToG true short i
+  pub c-to-g-kept : transcriptLength long ≤ mostBases → (i : CInterval) → Answered (cToG true short i) → cToG true long i ≡ cToG true short i
   unfolding cToG cToN
   c-to-g-kept small i =
       let a = i .from in

@@ -7,10 +7,10 @@ use mathlib.Core.Path.{_≡_, refl, sym, ap, _∙_, subst}
 use lib.Dec.{eqb, ltb}
 use lib.IntN.{ℤ, pos, negsuc, natAbs, _+ℤ_}
 use lib.ListN.{length}
-use Rattle.refusals.specs.Numbers.{mostSegments}
 use Rattle.whole.specs.Whole.{eqZ, by-test, order}
 use Rattle.cigar.specs.Elements.{transcript, total}
-use Rattle.cigar.specs.Text.{readAll}
+use Rattle.cigar.specs.Text.{elementsIn}
+use Rattle.cigar.specs.Read.{readText}
 use Rattle.records.specs.Records.{Record, exactly}
 use Rattle.transcript.specs.Transcript.{Transcript, Cds}
 use Rattle.transcript.specs.Transcript.Cds.{cds}
@@ -19,7 +19,7 @@ use Rattle.transcript.specs.Judging.{Made, bothBits, cdsOf, judge}
 use Rattle.transcript.specs.Judging.Judged.{accepted}
 use Rattle.transcript.specs.declared.Bound.{Bound}
 use Rattle.transcript.specs.declared.Bound.the-variants.{Given, Absent}
-use Rattle.promises.specs.Demands.{ours, Input, madeOf, inputOf, Builds, cigarOf, elementsIn, AllSpan, basesOf, addedUpstream, movedUp, Kept, kept, Lengthens, Keeps, Demand-2, Demand-3}
+use Rattle.promises.specs.Demands.{ours, Input, madeOf, inputOf, Builds, cigarOf, AllSpan, basesOf, addedUpstream, movedUp, Kept, kept, Lengthens, Keeps, Demand-2, Demand-3}
 use Rattle.promises.proofs.Sound.{Sound}
 use Rattle.promises.proofs.Records.{Spans, InOrder, exonBases}
 use Rattle.promises.proofs.Built.{clash, exonIn, WholeBounds, From, built-from, in-order, all-span}
@@ -45,7 +45,7 @@ demand-2 x t builds = bases-named t (built-from x t builds .sound)
 
 -- an exon is made of what is kept of its record
 exonOfKept : Kept → Exon
-exonOfKept k = record { alt-start = natAbs (k .alt-start); alt-end = natAbs (k .alt-end); parts = elementsIn (readAll mostSegments (k .cigar)) }
+exonOfKept k = record { alt-start = natAbs (k .alt-start); alt-end = natAbs (k .alt-end); parts = elementsIn (readText (k .cigar)) }
 
 same-exons : (own rs : List Record) → map kept own ≡ map kept rs → map exonIn own ≡ map exonIn rs
 unfolding exonOfKept

@@ -6,7 +6,7 @@ use mathlib.Core.List.{List, [], _∷_, _++_, append-assoc}
 use mathlib.Core.Path.{_≡_, refl}
 use Rattle.cigar.specs.Elements.{Element, Side, kindOf, genome, transcript, total}
 use Rattle.transcript.specs.Building.{Exon, gap, partsOf, elementsAfter, elementsOf, firstStart}
-use Rattle.promises.proofs.Totals.{total-append, total-reverse}
+use Rattle.transcript.specs.Totals.{total-append, total-reverse}
 
 -- ---- records whose CIGARs were read
 

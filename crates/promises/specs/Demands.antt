@@ -4,11 +4,10 @@ use mathlib.Core.Bool.{Bool, true, false}
 use mathlib.Core.List.{List, [], _∷_, _++_, map}
 use mathlib.Core.Path.{_≡_}
 use lib.IntN.{ℤ, pos, _+ℤ_}
-use Rattle.refusals.specs.Numbers.{mostSegments}
 use Rattle.whole.specs.Whole.{eqZ}
 use Rattle.cigar.specs.Elements.{Element, genome, transcript, total}
-use Rattle.cigar.specs.Text.{Reading, readAll}
-use Rattle.cigar.specs.Text.Reading.{elements, refused as unread}
+use Rattle.cigar.specs.Text.{elementsIn}
+use Rattle.cigar.specs.Read.{readText}
 use Rattle.records.specs.Records.{Record, recordsFrom}
 use Rattle.transcript.specs.Transcript.{Transcript, genomeLength, transcriptLength}
 use Rattle.transcript.specs.Transcript.Cds.{cds}
@@ -109,13 +108,9 @@ Demand-2 m = (x : Input) (t : Transcript) → Builds x t → BasesNamed m t
 
 -- ---- demand 3
 
--- the elements of a record's CIGAR, none where it is refused
-abbrev pub elementsIn : Reading → List Element
-elementsIn (elements es) = es
-elementsIn (unread k) = []
-
+-- the elements of a record's CIGAR
 abbrev pub cigarOf : Record → List Element
-cigarOf r = elementsIn (readAll mostSegments (r .cigar))
+cigarOf r = elementsIn (readText (r .cigar))
 
 -- each record's CIGAR spans exactly its genome bounds
 abbrev pub AllSpan : List Record → Type 0

@@ -5,13 +5,14 @@ use mathlib.Core.List.{List, [], _∷_, map}
 use mathlib.Core.Path.{_≡_}
 use lib.IntN.{ℤ, pos, negℤ}
 use lib.ListN.{drop}
-use Rattle.refusals.specs.Numbers.{mostSegments, notCoding, outside, nOutside, cOutside, tooWide, noGenome, missingEnd}
-use Rattle.sequences.specs.Trim.{prefixLen, changedOf}
+use Rattle.refusals.specs.Numbers.{notCoding, outside, nOutside, cOutside, tooWide, noGenome, missingEnd}
+use Rattle.sequences.specs.Alleles.{prefixLen, changedOf}
 use Rattle.numbering.specs.Numbers.{plainC, starC}
 use Rattle.numbering.specs.declared.CNumber.{CNumber}
 use Rattle.cigar.specs.Elements.{Element}
-use Rattle.cigar.specs.Text.{Reading, readAll}
+use Rattle.cigar.specs.Text.{Reading, element}
 use Rattle.cigar.specs.Text.Reading.{elements}
+use Rattle.cigar.specs.Read.{readText}
 use Rattle.cigar.specs.Write.{elementsText}
 use Rattle.transcript.specs.Transcript.{Transcript, Source}
 use Rattle.transcript.specs.Transcript.Cds.{noCds, cds}
@@ -48,10 +49,6 @@ pub data Reply : Type 0 where
   a-reading : Reading → List ℕ → Reply
   a-trimming : ℕ → List ℕ → List ℕ → List ℕ → Reply
 
--- the text of elements
-abbrev textOf : List Element → List ℕ
-textOf es = elementsText (map (λ (x : Element). x .count) es) (map (λ (x : Element). x .letter) es)
-
 -- what is answered to a row's question: a CIGAR is read, and its elements are written; of two alleles the common prefix is counted and removed, and the changed part is found
 abbrev pub given : Mapper → Row → Reply
 given m (g-n strict t i a) = an-answer-in-n (m .g-to-n strict t i)
@@ -62,7 +59,7 @@ given m (g-c strict t i a) = an-answer-in-c (m .g-to-c strict t i)
 given m (c-g strict t i a) = an-answer-in-g (m .c-to-g strict t i)
 given m (asked-g-n strict x i a) = an-answer-in-n (askGToN strict x i)
 given m (in-bounds x i a) = a-plain-yes (askInBounds x i)
-given m (cigar text es) = a-reading (readAll mostSegments text) (textOf es)
+given m (cigar text es) = a-reading (readText text) (elementsText es)
 given m (alleles r a prefix r-left a-left changed) = a-trimming (prefixLen r a) (drop (prefixLen r a) r) (drop (prefixLen r a) a) (changedOf r a)
 
 -- what the row says
@@ -125,7 +122,7 @@ M = 77
 
 infix 70 _of_
 abbrev _of_ : ℕ → ℕ → Element
-n of letter = record { count = n; letter = letter }
+n of letter = element n letter
 
 abbrev exon : ℕ → ℕ → List Element → Exon
 exon a b es = record { alt-start = a; alt-end = b; parts = es }
