@@ -1,6 +1,5 @@
 -- What the promises shut out: a mapper that refuses everything, one that always says n.1, and one that on strand -1 does not exchange the ends, whatever else they answer. Assumes nothing.
 use Prim.Native.Nat.{ℕ}
-use native.Mathlib.Omega.{arith}
 use mathlib.Core.Bool.{Bool}
 use mathlib.Core.List.{List}
 use mathlib.Core.Path.{_≡_, sym, ap, _∙_}

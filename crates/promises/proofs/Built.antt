@@ -1,5 +1,5 @@
 -- What is known of an input from which a transcript builds: each record's CIGAR was read, records stand in order, and none of 9 and 12 applies. Assumes nothing.
-use Prim.Native.Nat.{ℕ, _+_, _-_, _≤_, _<_}
+use Prim.Native.Nat.{ℕ, _+_, _-_, _≤_}
 use native.Mathlib.Omega.{arith}
 use mathlib.Core.Bool.{Bool, true, false}
 use mathlib.Core.List.{List, [], _∷_, map}
@@ -16,9 +16,9 @@ use Rattle.cigar.specs.Text.{Reading, Answered, elementsIn}
 use Rattle.cigar.specs.Read.{readText}
 use Rattle.cigar.specs.Text.Reading.{elements, refused as unread}
 use Rattle.records.specs.Records.{Record}
-use Rattle.records.specs.Faults.{_orElse_, faults, faultsAfter, ownFault, pairFault, followFault, spanFault, startFault}
+use Rattle.records.specs.Faults.{_orElse_, faults, faultsAfter, ownFault, pairFault, spanFault, startFault}
 use Rattle.records.specs.Chain.{clear}
-use Rattle.transcript.specs.Transcript.{Transcript, Cds}
+use Rattle.transcript.specs.Transcript.{Transcript}
 use Rattle.transcript.specs.Transcript.Cds.{noCds, cds}
 use Rattle.transcript.specs.Building.{Exon, elementsOf, firstStart, build}
 use Rattle.transcript.specs.Reading.{startOf, endOf, exonOf, Exons, exons, denied, beforeAll, andThen, readFirst, readNext, exonsAfter, exonsOf}
@@ -26,7 +26,7 @@ use Rattle.transcript.specs.Judging.{Judged, Made, unless, halfFault, rangeFaul
 use Rattle.transcript.specs.Judging.Judged.{refused, accepted}
 use Rattle.transcript.specs.declared.Bound.{Bound}
 use Rattle.transcript.specs.declared.Bound.the-variants.{Given, Absent}
-use Rattle.promises.specs.Demands.{cigarOf, AllSpan, Input, madeOf, building, Builds}
+use Rattle.promises.specs.Demands.{cigarOf, AllSpan, Input, madeOf, Builds}
 use Rattle.promises.proofs.Sound.{Sound}
 use Rattle.promises.proofs.Rooms.{reads-alike}
 use Rattle.promises.proofs.Records.{Spans, InOrder}

@@ -1,5 +1,5 @@
 -- Each place of the genome's span is in one element, so the columns and introns of demand 2 leave out I elements and N elements at an edge alone. Assumes nothing.
-use Prim.Native.Nat.{ℕ, _+_, _-_, _<_}
+use Prim.Native.Nat.{ℕ, _-_, _<_}
 use native.Mathlib.Omega.{arith}
 use mathlib.Core.List.{List, [], _∷_}
 use mathlib.Core.Path.{refl, ap}

@@ -12,7 +12,7 @@ use Rattle.cigar.specs.Elements.Kind.{matches, skips}
 use Rattle.segments.specs.Places.{segmentFrom, End, leftNearer, nearer, spotIn, mapPlace}
 use Rattle.transcript.specs.Transcript.{Transcript, genomeLength, transcriptLength}
 use Rattle.mapper.specs.Mapping.{signed}
-use Rattle.promises.specs.Bases.{Name, Lies, Matched, upstreamIn, upstreamOf, exonName, InIntron, placeBefore, placeAfter, apart, upstreamNearer, intronName}
+use Rattle.promises.specs.Bases.{Lies, Matched, upstreamIn, upstreamOf, exonName, InIntron, placeBefore, placeAfter, apart, upstreamNearer, intronName}
 use Rattle.promises.specs.Demands.{ours, Named, FromNearest, BasesNamed}
 use Rattle.promises.proofs.Sound.{Sound}
 use Rattle.transcript.specs.Totals.{total-append}
@@ -217,17 +217,18 @@ module _ {t : Transcript} {p : ℕ} (b : InIntron t p) where
   right-apart = omega (arith, k-in, b .lies .place)
 
   module _ (sound : Sound t) (forward : Bool) (is : t .forward ≡ forward) where
-    left-named : leftNearer forward (pos (k + 1)) (pos (x .count - k)) ≡ true → (o : ℤ) → signed forward (pos (apart p (placeBefore b))) ≡ o → Named ours t p (record { upstream = upstreamOf left; offset = o })
-    left-named near o o-is =
-        let near′ = ap (λ (f : Bool). leftNearer f (pos (k + 1)) (pos (x .count - k))) is ∙ near in
-        let o-is′ = ap (λ (f : Bool). signed f (pos (apart p (placeBefore b)))) is ∙ o-is in
-        rw (← left-apart, counted left, o-is′) at (has-name t sound p (other left) (placeBefore b) (pos (k + 1)) (from-left near′))
+    -- named from the exon base e at a, whose offset along the genome is o
+    from-edge : {a : ℕ} (e : Matched t a) (o o′ : ℤ) → Reaches t p (other e) a o → signed forward o ≡ o′ → Named ours t p (record { upstream = upstreamOf e; offset = o′ })
+    from-edge {a} e o o′ r o-is = rw (counted e, ap (λ (f : Bool). signed f o) is ∙ o-is) at (has-name t sound p (other e) a o r)
 
-    right-named : leftNearer forward (pos (k + 1)) (pos (x .count - k)) ≡ false → (o : ℤ) → signed forward (negℤ (pos (apart p (placeAfter b)))) ≡ o → Named ours t p (record { upstream = upstreamOf right; offset = o })
-    right-named far o o-is =
-        let far′ = ap (λ (f : Bool). leftNearer f (pos (k + 1)) (pos (x .count - k))) is ∙ far in
-        let o-is′ = ap (λ (f : Bool). signed f (negℤ (pos (apart p (placeAfter b))))) is ∙ o-is in
-        rw (← right-apart, counted right, o-is′) at (has-name t sound p (other right) (placeAfter b) (negℤ (pos (x .count - k))) (from-right far′))
+    as-nearer : {v : Bool} → leftNearer forward (pos (k + 1)) (pos (x .count - k)) ≡ v → leftNearer (t .forward) (pos (k + 1)) (pos (x .count - k)) ≡ v
+    as-nearer h = ap (λ (f : Bool). leftNearer f (pos (k + 1)) (pos (x .count - k))) is ∙ h
+
+    left-named : leftNearer forward (pos (k + 1)) (pos (x .count - k)) ≡ true → (o : ℤ) → signed forward (pos (k + 1)) ≡ o → Named ours t p (record { upstream = upstreamOf left; offset = o })
+    left-named near o = from-edge left (pos (k + 1)) o (from-left (as-nearer near))
+
+    right-named : leftNearer forward (pos (k + 1)) (pos (x .count - k)) ≡ false → (o : ℤ) → signed forward (negℤ (pos (x .count - k))) ≡ o → Named ours t p (record { upstream = upstreamOf right; offset = o })
+    right-named far o = from-edge right (negℤ (pos (x .count - k))) o (from-right (as-nearer far))
 
   nearest : Sound t → (forward : Bool) → t .forward ≡ forward → FromNearest ours t p (if forward then placeBefore b else placeAfter b) (if forward then placeAfter b else placeBefore b)
   unfolding intronName
@@ -235,15 +236,15 @@ module _ {t : Transcript} {p : ℕ} (b : InIntron t p) where
     up = left;
     down = right;
     named = by-test (upstreamNearer p (placeBefore b) (placeAfter b))
-        (λ h. rw h (left-named sound true e (omega (order, left-apart, right-apart, nearer-yes)) (pos (apart p (placeBefore b))) refl))
-        (λ h. rw h (right-named sound true e (omega (order, left-apart, right-apart, nearer-no)) (negℤ (pos (apart p (placeAfter b)))) refl));
+        (λ h. rw (h, left-apart) (left-named sound true e (omega (order, left-apart, right-apart, nearer-yes)) (pos (k + 1)) refl))
+        (λ h. rw (h, right-apart) (right-named sound true e (omega (order, left-apart, right-apart, nearer-no)) (negℤ (pos (x .count - k))) refl));
   }
   nearest sound false e = record {
     up = right;
     down = left;
     named = by-test (upstreamNearer p (placeAfter b) (placeBefore b))
-        (λ h. rw h (right-named sound false e (omega (order, left-apart, right-apart, nearer-yes)) (pos (apart p (placeAfter b))) (negℤ-negℤ (pos (apart p (placeAfter b))))))
-        (λ h. rw h (left-named sound false e (omega (order, left-apart, right-apart, nearer-no)) (negℤ (pos (apart p (placeBefore b)))) refl));
+        (λ h. rw (h, right-apart) (right-named sound false e (omega (order, left-apart, right-apart, nearer-yes)) (pos (x .count - k)) (negℤ-negℤ (pos (x .count - k)))))
+        (λ h. rw (h, left-apart) (left-named sound false e (omega (order, left-apart, right-apart, nearer-no)) (negℤ (pos (k + 1))) refl));
   }
 
 pub bases-named : (t : Transcript) → Sound t → BasesNamed ours t

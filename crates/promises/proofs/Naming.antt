@@ -2,20 +2,20 @@
 use Prim.Native.Nat.{ℕ, _+_, _-_, _≤_, _<_}
 use native.Mathlib.Omega.{arith}
 use mathlib.Core.Bool.{Bool, true, false}
-use mathlib.Core.Path.{_≡_, refl, ap}
+use mathlib.Core.Path.{_≡_}
 use lib.IntN.{ℤ, pos, negℤ, _+ℤ_, _-ℤ_}
-use lib.Signed.{leZ, ltZ, _≤ℤ_}
+use lib.Signed.{ltZ, _≤ℤ_}
 use lib.Dec.{leb, ltb}
-use borrow.Author.Tests.{lt-leb, le-leb, lt-ltb, le-ltb, ltb-true, ltb-false}
+use borrow.Author.Tests.{lt-leb, le-leb, le-ltb, ltb-true, ltb-false}
 use Rattle.whole.specs.Whole.{by-test, order, sum, dif, neg}
-use Rattle.numbering.specs.Numbers.{nOfPlace, placeOfN, plainC, starC, cOfN}
+use Rattle.numbering.specs.Numbers.{nOfPlace, placeOfN, cOfN}
 use Rattle.numbering.specs.RoundTrips.{place-back, above-back}
 use Rattle.cigar.specs.Elements.{genome, transcript}
 use Rattle.segments.specs.Places.{surely, End, mapPlace}
 use Rattle.segments.specs.Places.End.{start, stop}
 use Rattle.transcript.specs.Transcript.{Transcript, genomeLength, transcriptLength}
 use Rattle.transcript.specs.Transcript.Cds.{cds}
-use Rattle.mapper.specs.Answers.{NPosition, fits}
+use Rattle.mapper.specs.Answers.{fits}
 use Rattle.mapper.specs.Answers.Answer.{certain}
 use Rattle.mapper.specs.Answers.Plain.{told}
 use Rattle.mapper.specs.Mapping.{turned, signed, nOfSpot, gOfSpot, wholeN, gToN, gOfEnds, nToG, refuses15, cPosition, cOfInterval, nToC, refuses16, nPosition, cToN, gToC, cToG}

@@ -8,18 +8,16 @@ use lib.Dec.{eqb, ltb}
 use lib.IntN.{ℤ, pos, negsuc, natAbs, _+ℤ_}
 use lib.ListN.{length}
 use Rattle.whole.specs.Whole.{eqZ, by-test, order}
-use Rattle.cigar.specs.Elements.{transcript, total}
 use Rattle.cigar.specs.Text.{elementsIn}
 use Rattle.cigar.specs.Read.{readText}
 use Rattle.records.specs.Records.{Record, exactly}
 use Rattle.transcript.specs.Transcript.{Transcript, Cds}
-use Rattle.transcript.specs.Transcript.Cds.{cds}
 use Rattle.transcript.specs.Building.{Exon, build}
 use Rattle.transcript.specs.Judging.{Made, bothBits, cdsOf, judge}
 use Rattle.transcript.specs.Judging.Judged.{accepted}
 use Rattle.transcript.specs.declared.Bound.{Bound}
 use Rattle.transcript.specs.declared.Bound.the-variants.{Given, Absent}
-use Rattle.promises.specs.Demands.{ours, Input, madeOf, inputOf, Builds, cigarOf, AllSpan, basesOf, addedUpstream, movedUp, Kept, kept, Lengthens, Keeps, Demand-2, Demand-3}
+use Rattle.promises.specs.Demands.{ours, Input, madeOf, inputOf, Builds, AllSpan, basesOf, addedUpstream, movedUp, Kept, kept, Lengthens, Keeps, Demand-2, Demand-3}
 use Rattle.promises.proofs.Sound.{Sound}
 use Rattle.promises.proofs.Records.{Spans, InOrder, exonBases}
 use Rattle.promises.proofs.Built.{clash, exonIn, WholeBounds, From, built-from, in-order, all-span}

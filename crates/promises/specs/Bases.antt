@@ -14,7 +14,7 @@ use Rattle.mapper.specs.Answers.{NPosition, CPosition}
 
 -- ---- names
 
--- a base counts from an exon base: the transcript bases upstream of that one, and how far the base is from it, above 0 downstream of it and below 0 upstream
+-- A name counts from an exon base: it says how many transcript bases are upstream of that one, and how far from it the named base is, above 0 downstream and below 0 upstream.
 pub record Name : Type 0 where
   pub upstream : ℕ
   pub offset : ℤ
@@ -23,8 +23,8 @@ pub record Name : Type 0 where
 abbrev pub nName : Name → NPosition
 nName x = record { base = pos (x .upstream + 1); offset = x .offset }
 
--- the c. number of an exon base with m transcript bases upstream, where the CDS is s..e: upstream of the CDS it counts back from -1; in the CDS it is one more than the CDS bases upstream;
--- after the CDS it bears a star and is one more than the bases from the CDS on
+-- the c. number of an exon base with m transcript bases upstream, where the CDS is s..e. Upstream of the CDS it counts back, the last base before the CDS being -1;
+-- in the CDS it is one more than the CDS bases upstream of it; after the CDS it bears a star, and is one more than the bases between the two
 unfoldable pub cNumber : ℕ → ℕ → ℕ → CNumber
 cNumber s e m =
     if ltb m s then plainC (negℤ (pos (s - m)))

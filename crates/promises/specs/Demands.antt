@@ -1,4 +1,6 @@
 -- Demands 2 and 3, as what is asked of a mapper. Assumes nothing.
+--     Demand-2    each base of an exon, and of an intron between exons, has its HGVS name and comes back from it
+--     Demand-3    records added at the ends change no answer
 use Prim.Native.Nat.{ℕ, _+_, _<_}
 use mathlib.Core.Bool.{Bool, true, false}
 use mathlib.Core.List.{List, [], _∷_, _++_, map}
@@ -141,7 +143,8 @@ pub record Kept : Type 0 where
 abbrev pub kept : Record → Kept
 kept r = record { alt-start = r .alt-start; alt-end = r .alt-end; cigar = r .cigar }
 
--- y is x with records added at either end or both, along the genome, and its CDS bounds moved up by the transcript bases that are added upstream
+-- y is x with records added at either end or both, along the genome, and its CDS bounds moved up by the transcript bases that are added upstream.
+-- Its own records keep their genome bounds and CIGARs; their transcript bounds and `ord` are whatever building accepts
 pub record Lengthens (x y : Input) : Type 0 where
   pub left : List Record
   pub own : List Record
@@ -163,6 +166,6 @@ pub record Keeps (m : Mapper) (t u : Transcript) : Type 0 where
   pub g-to-c : (i : GInterval) → BaseOf t (i .from) → BaseOf t (i .to) → Answered (m .g-to-c strict t i) → m .g-to-c strict u i ≡ m .g-to-c strict t i
   pub c-to-g : (i : CInterval) → Answered (m .c-to-g strict t i) → m .c-to-g strict u i ≡ m .c-to-g strict t i
 
--- of every transcript that builds, and of every one that builds from it lengthened, where each record's CIGAR spans exactly its bounds
+-- of every transcript that builds and every lengthened one that builds, where each record's CIGAR spans exactly its bounds; the shorter's records are among the longer's
 abbrev pub Demand-3 : Mapper → Type 0
 Demand-3 m = (x y : Input) (t u : Transcript) → Builds x t → Builds y u → Lengthens x y → AllSpan (y .records) → Keeps m t u
