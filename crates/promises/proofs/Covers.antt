@@ -1,4 +1,4 @@
--- Each place of the genome's span is in one element, so the columns and introns of demand 2 leave out I elements and N elements at an edge alone. Assumes nothing.
+-- Each place of the genome's span lies in an element, so demand 2 leaves out the bases of an I, and those of an N that is not between matched columns, and no others. Assumes nothing.
 use Prim.Native.Nat.{ℕ, _-_, _<_}
 use native.Mathlib.Omega.{arith}
 use mathlib.Core.List.{List, [], _∷_}

@@ -7,6 +7,7 @@
 --     Records, Demand3              demand 3 over records whose CIGARs were read
 --     Rooms, Built                  what is known of an input that builds
 --     Promises, Table               the promises
+--     Reach                         what the code answers of a lent transcript is what the promises speak of
 --     Covers                        each place lies in an element
 --     Examples, Against             transcripts that meet every premise, and mappers that the promises shut out
 pub mod Finding
@@ -27,6 +28,7 @@ pub mod Rooms
 pub mod Built
 pub mod Promises
 pub mod Table
+pub mod Reach
 pub mod Covers
 pub mod Examples
 pub mod Against
