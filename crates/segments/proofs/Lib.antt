@@ -1,0 +1,5 @@
+-- Lemmas on plain values, for the proofs of this crate.
+mod All
+mod Bounds
+mod Finding
+mod Steps
