@@ -2,3 +2,4 @@
 pub mod Answers
 pub mod Mapping
 pub mod Asking
+pub mod Paper
