@@ -8,7 +8,7 @@
 --     cut-off         the text ends inside an element
 -- Assumes nothing.
 use mathlib.Core.Path.{_≡_, refl, ap₂}
-use mathlib.Core.Bool.{Bool, true, false, cond, _&&_, false≢true}
+use mathlib.Core.Bool.{Bool, true, false, _&&_, false≢true}
 use mathlib.Core.List.{List, [], _∷_}
 use Prim.Native.Nat.{ℕ, _+_, _*_, _-_, _≤_, _<_, min}
 use native.Mathlib.Nat.{min-eq-left}
@@ -18,9 +18,11 @@ use native.Mathlib.Omega.{arith}
 use lib.Dec.{leb}
 use lib.ListN.{length, getD, drop, drop-of-length-le}
 use lib.Seq.{drop-cons}
-use borrow.Author.Tests.{lt-leb, leb-true}
+use borrow.Author.Tests.{lt-ltb, leb-true}
 use Rattle.cigar.specs.declared.Step.{Step}
 use Rattle.cigar.specs.declared.Step.the-variants.{Refused, End}
+use Rattle.whole.specs.Whole.{if_then_else_}
+use Rattle.refusals.specs.Numbers.{noElement, mostCount}
 use Rattle.cigar.specs.Elements.{isLetter}
 use Rattle.cigar.specs.Text.{isDigit, countOf, finished, elementFrom, stepOf, stepAt}
 
@@ -35,17 +37,17 @@ digit-bounds b e =
     (leb-true 48 b (h .0), leb-true b 57 (h .1))
 
 -- two counts above the largest one are refused alike, whatever follows
-saturated : (n m : ℕ) → 2147483648 ≤ n → 2147483648 ≤ m → (at : ℕ) (s : List ℕ) → elementFrom true n at s ≡ elementFrom true m at s
+saturated : (n m : ℕ) → mostCount + 1 ≤ n → mostCount + 1 ≤ m → (at : ℕ) (s : List ℕ) → elementFrom true n at s ≡ elementFrom true m at s
 unfolding elementFrom
 saturated n m hn hm at [] = refl
 saturated n m hn hm at (b ∷ s) =
-    ap₂ (λ (x y : Step). cond (isDigit b) x (cond (isLetter b) y (Refused 7)))
+    ap₂ (λ (x y : Step). if isDigit b then x else if isLetter b then y else Refused noElement)
     (saturated (n * 10 + (b - 48)) (m * 10 + (b - 48)) (omega arith) (omega arith) (at + 1) s)
-    (rw (lt-leb n 2147483647 hn, lt-leb m 2147483647 hm))
+    (rw (lt-ltb mostCount n hn, lt-ltb mostCount m hm))
 
-pub capped : (n at : ℕ) (s : List ℕ) → elementFrom true (min n 2147483648) at s ≡ elementFrom true n at s
+pub capped : (n at : ℕ) (s : List ℕ) → elementFrom true (min n (mostCount + 1)) at s ≡ elementFrom true n at s
 capped n at s =
-    elim (decLe n 2147483648) [ yes h ↦ rw (min-eq-left h) | no h ↦ saturated (min n 2147483648) n (omega arith) (omega arith) at s ]
+    elim (decLe n (mostCount + 1)) [ yes h ↦ rw (min-eq-left h) | no h ↦ saturated (min n (mostCount + 1)) n (omega arith) (omega arith) at s ]
 
 module _ (text : List ℕ) (given : Bool) (n i : ℕ) (inside : i < length text) where
   pub digit-step : isDigit (getD text i 0) ≡ true
@@ -58,11 +60,11 @@ module _ (text : List ℕ) (given : Bool) (n i : ℕ) (inside : i < length text)
   unfolding elementFrom
   letter-step e l = rw (drop-cons text i 0 inside, e, l)
 
-  pub other-step : isDigit (getD text i 0) ≡ false → isLetter (getD text i 0) ≡ false → elementFrom given n i (drop i text) ≡ Refused 7
+  pub other-step : isDigit (getD text i 0) ≡ false → isLetter (getD text i 0) ≡ false → elementFrom given n i (drop i text) ≡ Refused noElement
   unfolding elementFrom
   other-step e l = rw (drop-cons text i 0 inside, e, l)
 
-pub cut-off : (text : List ℕ) (given : Bool) (n i : ℕ) → length text ≤ i → elementFrom given n i (drop i text) ≡ Refused 7
+pub cut-off : (text : List ℕ) (given : Bool) (n i : ℕ) → length text ≤ i → elementFrom given n i (drop i text) ≡ Refused noElement
 unfolding elementFrom
 cut-off text given n i h = rw (drop-of-length-le text h)
 

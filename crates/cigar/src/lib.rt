@@ -2,8 +2,17 @@
 ghost use mathlib.Core.Path.{_≡_};
 ghost use mathlib.Core.Bool.{true};
 ghost use Prim.Native.Nat.{_+_, _*_, _-_, _≤_, min};
-ghost use Rattle.cigar.specs.Elements.{isLetter};
-ghost use Rattle.cigar.specs.Text.{isDigit, countOf, finished, stepAt, readAll, countedOf};
+ghost use lib.IntN.{pos};
+ghost use Rattle.refusals.specs.Numbers.{mostCount, mostSegments};
+ghost use Rattle.cigar.specs.Elements.{isLetter, kindOf, alongGenome, alongTranscript};
+ghost use Rattle.cigar.specs.Text.{isDigit, countOf, finished, stepAt, readAll, elementsIn, Answered, countedOf};
+ghost use Rattle.cigar.specs.Read.{readText, countsAfter, lettersAfter, Tables, Filled};
+use refusals::BAD_COUNT;
+use refusals::MOST_COUNT;
+use refusals::MOST_SEGMENTS;
+use refusals::MOST_TEXT;
+use refusals::NO_ELEMENT;
+use refusals::TOO_MUCH;
 
 pub mod write;
 
@@ -42,13 +51,16 @@ fn is_letter(b: u8) -> bool
     }
 }
 
-// The count with one digit more. No count above 2,147,483,647 is finished, so 2,147,483,648 stands for all of them.
+// One above the largest count. No count above the largest is finished, so this one stands for all of them.
+const OVER: u64 = MOST_COUNT as u64 + 1;
+
+// The count with one digit more, or one above the largest.
 fn more(n: u64, digit: u8) -> u64
-    requires { ⌜ (n ≤ 2147483648) × (isDigit digit ≡ true) ⌝ }
-    ensures { λ r. ⌜ r ≡ min (n * 10 + (digit - 48)) 2147483648 ⌝ }
+    requires { ⌜ (n ≤ mostCount + 1) × (isDigit digit ≡ true) ⌝ }
+    ensures { λ r. ⌜ r ≡ min (n * 10 + (digit - 48)) (mostCount + 1) ⌝ }
 {
     let m = n * 10 + ((digit - b'0') as u64);
-    if m <= 2147483648 { m } else { 2147483648 }
+    if m <= OVER { m } else { OVER }
 }
 
 // An element whose letter was read.
@@ -56,11 +68,11 @@ fn finish(given: bool, n: u64, letter: u8, next: usize) -> Step
     ensures { λ r. ⌜ r ≡ finished (countOf given n) letter next ⌝ }
 {
     if given {
-        if n <= 2147483647 {
+        if n < OVER {
             let count = n as u32;
             return Step::Element(count, letter, next);
         }
-        return Step::Refused(8);
+        return Step::Refused(BAD_COUNT);
     }
     Step::Element(1, letter, next)
 }
@@ -85,21 +97,24 @@ pub fn step_at(text: &[u8], at: usize) -> Step
             if is_letter(b) {
                 return finish(given, n, b, i + 1);
             }
-            return Step::Refused(7);
+            return Step::Refused(NO_ELEMENT);
         }
     }
-    Step::Refused(7)
+    Step::Refused(NO_ELEMENT)
 }
 
 // How many elements a text has.
 pub fn count_elements(text: &[u8]) -> Counted
-    ensures { λ r. ⌜ r ≡ countedOf (readAll (now (text .entry))) ⌝ }
+    ensures { λ r. ⌜ r ≡ countedOf (readAll mostSegments (now (text .entry))) ⌝ }
 {
     let mut at = 0;
     let mut n: usize = 0;
     loop {
         match step_at(text, at) {
             Step::Element(_, _, next) => {
+                if n == MOST_SEGMENTS {
+                    return Counted::Refused(TOO_MUCH);
+                }
                 at = next;
                 n += 1;
             }
@@ -107,4 +122,74 @@ pub fn count_elements(text: &[u8]) -> Counted
             Step::End => return Counted::Count(n),
         }
     }
+}
+
+// A count as the signed number of a table.
+fn signed(count: u32) -> i32
+    requires { ⌜ count ≤ mostCount ⌝ }
+    ensures { λ r. ⌜ r ≡ pos count ⌝ }
+{
+    count as i32
+}
+
+// The elements of a text that is not refused, from the front of two tables.
+fn fill_elements(text: &[u8], counts: &mut [i32], letters: &mut [u8])
+    requires { ⌜ Tables (now counts) (now letters) ⌝ }
+    requires { ⌜ Answered (readAll mostSegments (now text)) ⌝ }
+    ensures { λ _. ⌜ Filled (now (counts .entry)) (now (letters .entry)) (now (counts .exit)) (now (letters .exit)) 0 (elementsIn (readAll mostSegments (now (text .entry)))) ⌝ }
+{
+    let mut at = 0;
+    let mut n = 0;
+    loop {
+        match step_at(text, at) {
+            Step::Element(count, letter, next) => {
+                let number = signed(count);
+                counts[n] = number;
+                letters[n] = letter;
+                n += 1;
+                at = next;
+            }
+            Step::Refused(_) => return,
+            Step::End => return,
+        }
+    }
+}
+
+// A text's elements, read into the front of two lent tables, or a refusal, which leaves them as they are.
+pub fn read_cigar(
+    text: &[u8],
+    counts: &mut [i32; MOST_SEGMENTS],
+    letters: &mut [u8; MOST_SEGMENTS],
+) -> Counted
+    ensures { λ r. ⌜ r ≡ countedOf (readText (now (text .entry))) ⌝ }
+    ensures { λ _. ⌜ now (counts .exit) ≡ countsAfter (now (counts .entry)) (readText (now (text .entry))) ⌝ }
+    ensures { λ _. ⌜ now (letters .exit) ≡ lettersAfter (now (letters .entry)) (readText (now (text .entry))) ⌝ }
+{
+    if MOST_TEXT < text.len() {
+        return Counted::Refused(TOO_MUCH);
+    }
+    match count_elements(text) {
+        Counted::Count(n) => {
+            fill_elements(text, counts, letters);
+            Counted::Count(n)
+        }
+        Counted::Refused(k) => Counted::Refused(k),
+    }
+}
+
+// How far an element goes along the genome.
+pub fn along_genome(letter: u8, count: u32) -> u32
+    ensures { λ r. ⌜ (r ≡ alongGenome (kindOf letter) count) × (r ≤ count) ⌝ }
+{
+    if letter == b'D' { 0 } else { count }
+}
+
+// How far an element goes along the transcript.
+pub fn along_transcript(letter: u8, count: u32) -> u32
+    ensures { λ r. ⌜ (r ≡ alongTranscript (kindOf letter) count) × (r ≤ count) ⌝ }
+{
+    if letter == b'I' {
+        return 0;
+    }
+    if letter == b'N' { 0 } else { count }
 }
