@@ -15,6 +15,12 @@ use Rattle.entry.specs.declared.lay.Position.{Position}
 use Rattle.entry.specs.declared.lay.Answer.{Answer}
 use Rattle.entry.specs.declared.lay.Said.{Said}
 use Rattle.entry.specs.declared.lay.Length.{Length}
+use Rattle.entry.specs.declared.text.Part.{Part}
+use Rattle.cigar.specs.declared.Counted.{Counted}
+use Rattle.cigar.specs.declared.Counted.the-variants as counted
+use Rattle.cigar.specs.declared.write.Written.{Written}
+use Rattle.cigar.specs.declared.write.Written.the-variants as written
+use Rattle.sequences.specs.declared.Part as alleles
 
 -- ---- what is read
 
@@ -95,3 +101,21 @@ cPlainLaid (denied k) = refusal k
 abbrev pub saidLaid : paper.Plain Bool → Said
 saidLaid (told b) = record { number = 0; yes = starOf b }
 saidLaid (denied k) = record { number = k; yes = 0 }
+
+abbrev pub lengthLaid : ℕ → Length
+lengthLaid n = record { number = 0; length = n }
+
+abbrev pub lengthRefused : ℕ → Length
+lengthRefused k = record { number = k; length = 0 }
+
+abbrev pub countedLaid : Counted → Length
+countedLaid (counted.Count n) = lengthLaid n
+countedLaid (counted.Refused k) = lengthRefused k
+
+abbrev pub writtenLaid : Written → Length
+writtenLaid (written.Text n) = lengthLaid n
+writtenLaid (written.Refused k) = lengthRefused k
+
+-- of the reference (0) or of the alternative (1)
+abbrev pub partLaid : alleles.Part → Part
+partLaid p = record { alternative = starOf (p .alternative); from = p .from; to = p .to }

@@ -38,7 +38,8 @@ pub struct Length {
     pub length: usize,
 }
 
-fn star_number(star: bool) -> u32
+// A star or another yes as a number.
+pub fn star_number(star: bool) -> u32
     ensures { λ r. ⌜ r ≡ starOf star ⌝ }
 {
     if star { 1 } else { 0 }

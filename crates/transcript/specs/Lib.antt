@@ -2,6 +2,7 @@
 pub mod Transcript
 pub mod Building
 pub mod Holding
+pub mod Held
 pub mod Reading
 pub mod Judging
 pub mod Worked

@@ -1,6 +1,7 @@
 -- `sequences::changed` meets its contract: the bounds that `changed_part` gives lie inside their allele, and what stands between them is what changed.
 -- Assumes nothing.
 use mathlib.Core.Path.{_≡_}
+use native.Mathlib.Omega.{arith}
 use Rattle.sequences.specs.Alleles.{changedOf}
 use Rattle.sequences.specs.Changed.{Inside, partOf, part-inside, part-changed}
 use borrow.Author.Needs.{needs}
@@ -18,22 +19,22 @@ is-changed : (c : tie.After-changed-part) → partOf (c .changed-part .result) (
 is-changed c = rw (c .changed-part .ensures) (part-changed _ _)
 
 sub-result : tie.Need-sub-result
-sub-result c = inside (c .before) .ordered
+sub-result c = omega (arith, inside (c .before))
 
 part-result-start : tie.Need-part-result-start
-part-result-start c = inside (c .before) .ordered
+part-result-start c = omega (arith, inside (c .before))
 
 part-result-end : tie.Need-part-result-end
-part-result-end c = rw (c .if1 .taken) at (inside (c .before) .ends)
+part-result-end c = omega (arith, inside (c .before), rw (c .if1 .taken) at (inside (c .before) .ends))
 
 sub-result-2 : tie.Need-sub-result-2
-sub-result-2 c = inside (c .before) .ordered
+sub-result-2 c = omega (arith, inside (c .before))
 
 part-result-start-2 : tie.Need-part-result-start-2
-part-result-start-2 c = inside (c .before) .ordered
+part-result-start-2 c = omega (arith, inside (c .before))
 
 part-result-end-2 : tie.Need-part-result-end-2
-part-result-end-2 c = rw (c .if1 .left) at (inside (c .before) .ends)
+part-result-end-2 c = omega (arith, inside (c .before), rw (c .if1 .left) at (inside (c .before) .ends))
 
 returns : tie.Need-returns
 returns c = rw (c .before .if1 .taken) at (is-changed (c .before .before))

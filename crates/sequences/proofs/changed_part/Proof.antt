@@ -2,6 +2,7 @@
 -- Assumes nothing.
 use mathlib.Core.Path.{_≡_}
 use native.Mathlib.Omega.{arith}
+use lib.ListN.{length}
 use borrow.Author.Tests.{le-leb, lt-leb}
 use Rattle.sequences.specs.Alleles.{after, changedPart}
 use Rattle.sequences.specs.Changed.{apart}
@@ -37,11 +38,15 @@ sub-to-2 c =
 
 returns : tie.Need-returns
 unfolding changedPart
-returns c = rw (le-leb _ _ (c .if1 .taken)) (cc (removed (c .before)))
+returns c =
+    let a = c .before .before .before .before .before .before .before .args in
+    rw (le-leb (length (a .alternative .now)) (length (a .reference .now)) (omega arith)) (cc (removed (c .before)))
 
 returns-2 : tie.Need-returns-2
 unfolding changedPart
-returns-2 c = rw (lt-leb _ _ (c .if1 .left)) (cc (removed (c .before)))
+returns-2 c =
+    let a = c .before .before .before .before .before .before .before .args in
+    rw (lt-leb (length (a .alternative .now)) (length (a .reference .now)) (omega arith)) (cc (removed (c .before)))
 
 pub changed-part-spec : {M : Type 1} → statement M
 changed-part-spec =
