@@ -1,2 +1,6 @@
--- Lemmas on plain values, for the proofs of this crate.
-mod Heads
+-- What the proofs of several functions use.
+pub mod Chain
+pub mod Gaps
+pub mod Sizes
+pub mod Tallied
+pub mod Texts
