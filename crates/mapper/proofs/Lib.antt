@@ -1,3 +1,5 @@
 -- Laws on plain values, for the proofs of this crate.
 mod Wide
 mod Ends
+mod Sizes
+mod Spans

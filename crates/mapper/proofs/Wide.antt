@@ -39,15 +39,3 @@ fit-wide z h =
   where
     clash : Number z ≡ TooWide → ⊥
     clash e = let q : _≡_ {A = ℕ} 0 1 = cc in omega arith
-
--- ---- numbers that are widened to 64 bits
-
--- a `u32` read as 64 signed bits is the number itself
-pub entry : {n : ℕ} → Fits w32 n → toZ w64 n ≡ pos n
-entry {n} h = toZ-pos w64 n (omega (arith, h .fits))
-
-pub entry-36 : {n : ℕ} → Fits w32 n → Within 36 (pos n)
-entry-36 h = omega (arith, h .fits)
-
-pub entry-40 : {n : ℕ} → Fits w32 n → Within 40 (pos n)
-entry-40 h = omega (arith, h .fits)

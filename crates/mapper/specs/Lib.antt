@@ -3,3 +3,5 @@ pub mod Answers
 pub mod Mapping
 pub mod Asking
 pub mod Paper
+pub mod Lying
+pub mod Refusing

@@ -20,14 +20,6 @@ use crate::fitting::NEnd;
 use numbering::CNumber;
 use numbering::NNumber;
 
-// An n. number of the boundary as a whole number.
-fn whole_n(base: i32) -> NNumber
-    ensures { λ r. ⌜ (r .0 ≡ base) × Within 40 (r .0) ⌝ }
-{
-    let n = base as i64;
-    NNumber(n)
-}
-
 // Strict: whether the one number is 0 or less, or the other above the length.
 fn beyond(strict: bool, len: u32, low: NNumber, high: NNumber) -> bool
     ensures { λ r. ⌜ r ≡ (strict && (leZ (low .0) (pos 0) || ltZ (pos len) (high .0))) ⌝ }
@@ -82,8 +74,8 @@ pub fn to_c(strict: bool, len: u32, s: u32, e: u32, n: NInterval) -> CPlain
 {
     let from = n.from;
     let to = n.to;
-    let a = whole_n(from.base);
-    let b = whole_n(to.base);
+    let a = fitting::whole_n(from.base);
+    let b = fitting::whole_n(to.base);
     if beyond(strict, len, a, b) {
         return CPlain::Refused(refusals::N_OUTSIDE);
     }

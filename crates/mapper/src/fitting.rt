@@ -1,5 +1,6 @@
-// Refusal 17: positions whose numbers were computed as whole numbers, as the boundary's 32 bits; and intervals of two such ends.
+// Numbers of the boundary as whole numbers and back: 17 where one does not fit its 32 bits; and intervals of two such ends.
 ghost use mathlib.Core.Path.{_≡_};
+ghost use Rattle.whole.specs.Whole.{Within};
 ghost use Rattle.mapper.specs.Answers.{fits, nFits, cFits, plainFitting, bothEnds, stepC, marked, Plain.told};
 ghost use Rattle.mapper.specs.Mapping.{gInterval, nInterval, cInterval};
 ghost use Rattle.mapper.specs.Paper.{paperGEnd, paperNEnd, paperCEnd, paperNPlain, paperCPlain, paperGInterval, paperG, paperN, paperC};
@@ -33,6 +34,14 @@ pub enum NEnd {
 pub enum CEnd {
     At(CPosition),
     Refused(u8),
+}
+
+// An n. number of the boundary as a whole number.
+pub fn whole_n(base: i32) -> NNumber
+    ensures { λ r. ⌜ (r .0 ≡ base) × Within 40 (r .0) ⌝ }
+{
+    let n = base as i64;
+    NNumber(n)
 }
 
 // The g. number, or 17.

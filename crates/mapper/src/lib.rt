@@ -1,6 +1,7 @@
 // The g., n. and c. questions to a transcript, and what they are answered with.
-pub mod coding;
-pub mod fitting;
+mod coding;
+mod fitting;
+mod genome;
 
 // The start or the end of a g. interval as it is asked: a number, or none.
 pub enum Bound {

@@ -1,7 +1,7 @@
 -- `mapper::coding::beyond` meets its contract. Assumes nothing.
 use mir.Syntax.{w64}
 use Rattle.whole.specs.Whole.{told}
-use Rattle.mapper.proofs.Wide.{entry}
+use Rattle.segments.specs.Entries.{entry}
 use borrow.Author.Needs.{needs}
 use Rattle.mapper.proofs.coding.beyond.Statement.{statement}
 use Rattle.mapper.proofs.coding.beyond.Tie as tie

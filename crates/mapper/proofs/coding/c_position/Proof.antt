@@ -1,7 +1,8 @@
 -- `mapper::coding::c_position` meets its contract. Assumes nothing.
 use Rattle.whole.specs.Whole.{read}
 use Rattle.mapper.specs.Mapping.{cPosition}
-use Rattle.mapper.proofs.Wide.{entry, entry-40}
+use Rattle.segments.specs.Entries.{entry}
+use Rattle.mapper.proofs.Sizes.{entry-40}
 use borrow.Author.Needs.{needs}
 use Rattle.mapper.proofs.coding.c_position.Statement.{statement}
 use Rattle.mapper.proofs.coding.c_position.Tie as tie

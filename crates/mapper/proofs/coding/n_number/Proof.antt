@@ -2,7 +2,8 @@
 use mir.Syntax.{w32}
 use mir.Val.{SFits}
 use Rattle.whole.specs.Whole.{read, widened, fits-wider, i32-40}
-use Rattle.mapper.proofs.Wide.{entry, entry-40}
+use Rattle.segments.specs.Entries.{entry}
+use Rattle.mapper.proofs.Sizes.{entry-40}
 use borrow.Author.Needs.{needs, sfits-of}
 use Rattle.mapper.proofs.coding.n_number.Statement.{statement}
 use Rattle.mapper.proofs.coding.n_number.Tie as tie

@@ -1,8 +1,8 @@
--- `mapper::coding::whole_n` meets its contract. Assumes nothing.
+-- `mapper::fitting::whole_n` meets its contract. Assumes nothing.
 use mathlib.Core.Path.{refl}
 use Rattle.whole.specs.Whole.{widened, i32-40, fits-wider, read}
-use Rattle.mapper.proofs.coding.whole_n.Statement.{statement}
-use Rattle.mapper.proofs.coding.whole_n.Tie as tie
+use Rattle.mapper.proofs.fitting.whole_n.Statement.{statement}
+use Rattle.mapper.proofs.fitting.whole_n.Tie as tie
 
 cast-n : tie.Need-cast-n
 cast-n c = simp (read (c .fits .base)) (fits-wider (c .fits .base))
