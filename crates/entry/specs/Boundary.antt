@@ -49,6 +49,12 @@ boundOf gone z = cond gone missing (at z)
 unfoldable pub askedOf : ℤ → ℤ → ℕ → GAsked
 askedOf a b gone = record { from = boundOf (eqb (gone % 2) 1) a; to = boundOf (eqb (gone / 2 % 2) 1) b }
 
+abbrev pub nAsked : ℤ → ℤ → ℤ → ℤ → paper.NInterval
+nAsked a o b u = record { from = record { base = a; offset = o }; to = record { base = b; offset = u } }
+
+abbrev pub cAsked : ℤ → ℤ → Bool → ℤ → ℤ → Bool → paper.CInterval
+cAsked a o s b u t = record { from = record { base = record { 0 = a; 1 = s }; offset = o }; to = record { base = record { 0 = b; 1 = t }; offset = u } }
+
 -- ---- how an answer is laid out
 
 abbrev pub starOf : Bool → ℕ
