@@ -8,6 +8,7 @@ ghost use Rattle.records.specs.Records.{exactly, recordsFrom};
 ghost use Rattle.transcript.specs.Judging.{boundOf, startOf, endOf, halfFault, rangeFault, cdsFault, lastFault, judgeOn, judgeRecords, judge};
 ghost use Rattle.transcript.specs.Tallies.{Bounded, BoundedTally, toldOf};
 use crate::Bound;
+use crate::holding::BOTH_GIVEN;
 use crate::reading::Sums;
 use crate::reading::Tally;
 use refusals::BAD_CDS;
@@ -23,7 +24,7 @@ use refusals::TOO_LONG;
 use refusals::TOO_MUCH;
 
 // Both CDS bits: 1 says that the start is given, 2 that the end is.
-pub const BOTH_BITS: u32 = 3;
+pub const BOTH_BITS: u32 = BOTH_GIVEN as u32;
 
 // A CDS bound, whose number counts only where it is given.
 fn bound_of(given: bool, number: i32) -> Bound
