@@ -5,9 +5,15 @@
 --     Texts      a text is tallied element by element
 --     Tallied    the records are tallied one by one
 --     Chain      the judgment's chain of refusals, link by link
+--     Fills      elements are put into tables one by one
+--     Taken      a text whose tally is no refusal, element by element
+--     Runs       runs of stores
 pub mod Heads
 pub mod Gaps
 pub mod Sizes
 pub mod Texts
 pub mod Tallied
 pub mod Chain
+pub mod Fills
+pub mod Taken
+pub mod Runs

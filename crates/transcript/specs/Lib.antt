@@ -4,6 +4,7 @@
 --     Reading       the records' CIGARs as elements
 --     Judging       building's judgment: every refusal in its order
 --     Tallies       how many segments elements make, and how far they go
+--     Filling       what stands in tables that elements are put into
 --     Worked        worked examples of the judgment
 --     Holding       when a transcript holds together, and what it stands for
 --     Held          the same as facts, and what a question goes by
@@ -13,6 +14,7 @@ pub mod Building
 pub mod Reading
 pub mod Judging
 pub mod Tallies
+pub mod Filling
 pub mod Worked
 pub mod Holding
 pub mod Held
