@@ -1,5 +1,5 @@
 -- Elements are put into tables one by one, from the front and from the back. Assumes nothing.
-use mathlib.Core.Path.{_≡_, refl, sym, ap, ap₂, _∙_}
+use mathlib.Core.Path.{_≡_, refl, sym, ap, subst, _∙_}
 use mathlib.Core.Bool.{Bool, true, false}
 use mathlib.Core.List.{List, [], _∷_, _++_, reverse, reverse-cons}
 use Prim.Native.Nat.{ℕ, _+_, _-_, _≤_, _<_}
@@ -44,7 +44,7 @@ put-past a s p d (x ∷ xs) h =
     put-past (put a s (x .letter)) (oneOn s x) p d xs (omega arith)
     ∙ ap (λ (b : Tables). fill b (oneOn s x) xs) (put-comm a s p (x .letter) d (omega arith))
 
-sums-reverse : (s : Sums) (xs : List Element) → sumsOn s (reverse xs) ≡ sumsOn s xs
+pub sums-reverse : (s : Sums) (xs : List Element) → sumsOn s (reverse xs) ≡ sumsOn s xs
 sums-reverse s xs =
     sums-eq
     (omega (arith, length-reverse xs))
@@ -100,3 +100,6 @@ pub long-fill : (a : Tables) (s : Sums) (xs : List Element) → Long a → Long 
 unfolding fill
 long-fill a s [] h = h
 long-fill a s (x ∷ xs) h = long-fill (put a s (x .letter)) (oneOn s x) xs (long-put s (x .letter) h)
+
+pub long-after : {b : Tables} (a : Tables) (s : Sums) (xs : List Element) → b ≡ fill a s xs → Long a → Long b
+long-after a s xs e h = subst Long (sym e) (long-fill a s xs h)

@@ -6,8 +6,10 @@
 --     Tallied    the records are tallied one by one
 --     Chain      the judgment's chain of refusals, link by link
 --     Fills      elements are put into tables one by one
---     Taken      a text whose tally is no refusal, element by element
+--     Taken      a text and a record whose tally is no refusal
+--     Past       records that were accepted are put in one by one
 --     Runs       runs of stores
+--     Finished   tables that were filled and finished
 pub mod Heads
 pub mod Gaps
 pub mod Sizes
@@ -16,4 +18,6 @@ pub mod Tallied
 pub mod Chain
 pub mod Fills
 pub mod Taken
+pub mod Past
 pub mod Runs
+pub mod Finished
