@@ -1,6 +1,6 @@
 -- What the proofs of several functions use.
 --     Heads      numbers of a head, as the machine reads them
---     Gaps       bounds that are not negative
+--     Gaps       a bound that is not negative
 --     Sizes      what a record reads as, by its CIGAR's size
 --     Texts      a text is tallied element by element
 --     Tallied    the records are tallied one by one
