@@ -45,12 +45,13 @@ fn result(answer: Answer) -> Result<Answer, Refusal> {
     }
 }
 
-impl Judge {
-    /// A judge that has seen nothing.
-    pub fn new() -> Judge {
+impl Default for Judge {
+    fn default() -> Judge {
         Judge { lent: Lent::filled(0), tallies: BTreeMap::new(), faults: Vec::new(), differences: 0 }
     }
+}
 
+impl Judge {
     fn fault(&mut self, fault: String) {
         self.differences += 1;
         if self.faults.len() < KEPT {

@@ -1,15 +1,9 @@
 //! Compares the port with the mapper of crate hgvs 4.0.1, and records the crate's answers.
 
-mod judge;
-mod original;
-mod random;
-mod settle;
-mod small;
-
-use std::process::ExitCode;
+use std::{error::Error, fs, path::PathBuf, process::ExitCode};
 
 use clap::{Parser, Subcommand};
-use judge::Judge;
+use compare::{differences, original, random, record, small, Judge};
 
 /// Compares the port with crate hgvs 4.0.1.
 #[derive(Parser)]
@@ -35,18 +29,69 @@ enum Command {
         #[arg(long, default_value_t = 2)]
         elements: usize,
     },
+    /// Write a sample of expected answers, in the layout of README.md
+    Record {
+        /// The file
+        file: PathBuf,
+    },
+    /// Run the listed differences on both sides and print them as rows of a table
+    Differences {
+        /// Say which rows this file lacks instead
+        #[arg(long)]
+        check: Option<PathBuf>,
+    },
+    /// Call the port as a recorded file says
+    Replay {
+        /// The file
+        file: PathBuf,
+    },
+}
+
+/// Compares, and says whether nothing differs.
+fn compare(work: impl FnOnce(&mut Judge)) -> Result<bool, Box<dyn Error>> {
+    let mut judge = Judge::default();
+    work(&mut judge);
+    Ok(judge.report())
+}
+
+fn run(command: Command) -> Result<bool, Box<dyn Error>> {
+    match command {
+        Command::Random { seed, count } => compare(|judge| random::run(judge, seed, count)),
+        Command::Small { elements } => compare(|judge| small::run(judge, elements)),
+        Command::Record { file } => {
+            fs::write(file, record::run()?)?;
+            Ok(true)
+        }
+        Command::Differences { check: None } => {
+            println!("{}", differences::run()?.join("\n"));
+            Ok(true)
+        }
+        Command::Differences { check: Some(file) } => {
+            let text = fs::read_to_string(file)?;
+            let rows = differences::run()?;
+            let lacking: Vec<_> = rows.iter().filter(|row| !text.lines().any(|line| line == *row)).collect();
+            for row in &lacking {
+                println!("not listed: {row}");
+            }
+            println!("{} differences, {} not listed", rows.len(), lacking.len());
+            Ok(lacking.is_empty())
+        }
+        Command::Replay { file } => {
+            let rows = trials::recorded::replay(&fs::read(file)?)?;
+            println!("{rows} rows, each as recorded");
+            Ok(true)
+        }
+    }
 }
 
 fn main() -> ExitCode {
     original::silence_panics();
-    let mut judge = Judge::new();
-    match Options::parse().command {
-        Command::Random { seed, count } => random::run(&mut judge, seed, count),
-        Command::Small { elements } => small::run(&mut judge, elements),
-    }
-    if judge.report() {
-        ExitCode::SUCCESS
-    } else {
-        ExitCode::FAILURE
+    match run(Options::parse().command) {
+        Ok(true) => ExitCode::SUCCESS,
+        Ok(false) => ExitCode::FAILURE,
+        Err(error) => {
+            eprintln!("compare: {error}");
+            ExitCode::FAILURE
+        }
     }
 }

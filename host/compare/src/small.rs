@@ -106,23 +106,21 @@ fn try_case(judge: &mut Judge, mut case: Case, lists: &[&[Small]], gap: i32) {
     }
 }
 
-/// Every transcript of one record with at most `elements` elements, and of two records with at most `elements - 1` each, the
-/// second of which goes beyond its CIGAR in one of the runs.
+/// Every transcript of one record with at most `elements` elements, and of two records with at most one each: with gaps of 0
+/// to 2, and with records that go beyond their CIGARs.
 pub fn run(judge: &mut Judge, elements: usize) {
     let single = lists(elements);
-    let halves = lists(elements.saturating_sub(1).min(1));
+    let halves = lists(1);
     for strand in [1, -1] {
         for list in &single {
             try_case(judge, case(strand, 3, &[list], 0, 0), &[list], 0);
         }
         for left in &halves {
             for right in &halves {
-                for gap in 0..3 {
-                    let lists: [&[Small]; 2] = [left, right];
-                    try_case(judge, case(strand, 0, &lists, gap, 0), &lists, gap);
-                }
                 let lists: [&[Small]; 2] = [left, right];
-                try_case(judge, case(strand, 0, &lists, 1, 1), &lists, 1);
+                for (gap, beyond) in [(0, 0), (1, 0), (2, 0), (1, 1)] {
+                    try_case(judge, case(strand, 0, &lists, gap, beyond), &lists, gap);
+                }
             }
         }
     }
