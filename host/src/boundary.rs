@@ -188,13 +188,8 @@ unsafe extern "C" {
     pub safe fn txc_is_coding(head: &Head, genome: &Starts, transcript: &Starts, letters: &Letters) -> Said;
 
     fn txc_read_cigar(text: *const u8, text_len: usize, counts: &mut Counts, letters: &mut Letters) -> Length;
-    fn txc_write_cigar(
-        number: usize,
-        counts: &Counts,
-        letters: &Letters,
-        buffer: *mut u8,
-        buffer_len: usize,
-    ) -> Length;
+    fn txc_write_cigar(number: usize, counts: &Counts, letters: &Letters, buffer: *mut u8, buffer_len: usize)
+        -> Length;
     fn txc_write_card(
         strand: i32,
         cds: u32,
@@ -219,12 +214,7 @@ unsafe extern "C" {
         alternative: *const u8,
         alternative_len: usize,
     ) -> usize;
-    fn txc_changed(
-        reference: *const u8,
-        reference_len: usize,
-        alternative: *const u8,
-        alternative_len: usize,
-    ) -> Part;
+    fn txc_changed(reference: *const u8, reference_len: usize, alternative: *const u8, alternative_len: usize) -> Part;
 }
 
 /// Building's input at the boundary. `records` are laid out as in a card.

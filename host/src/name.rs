@@ -200,10 +200,8 @@ impl FromStr for GEnd {
 
 /// The two ends of a name of a kind.
 fn read_name<T: FromStr<Err = NoName>>(text: &str, kind: char) -> Result<(T, T), NoName> {
-    let span = text
-        .strip_prefix(kind)
-        .and_then(|rest| rest.strip_prefix('.'))
-        .ok_or(NoName("the name has another kind"))?;
+    let span =
+        text.strip_prefix(kind).and_then(|rest| rest.strip_prefix('.')).ok_or(NoName("the name has another kind"))?;
     let (start, end) = span.split_once('_').unwrap_or((span, span));
     Ok((start.parse()?, end.parse()?))
 }

@@ -89,12 +89,7 @@ impl Room {
     }
 
     /// Builds a length-only transcript, which knows n. and c. only. The tables stay as they were.
-    pub fn build_length(
-        &mut self,
-        length: i32,
-        cds_start: Option<i32>,
-        cds_end: Option<i32>,
-    ) -> Result<(), Refusal> {
+    pub fn build_length(&mut self, length: i32, cds_start: Option<i32>, cds_end: Option<i32>) -> Result<(), Refusal> {
         let (cds, cds_start, cds_end) = cds_numbers(cds_start, cds_end);
         Refusal::check(boundary::txc_build_length(length, cds, cds_start, cds_end, &mut self.head))
     }

@@ -19,8 +19,7 @@ fn transcript(strand: i32) -> Transcript {
 
 /// One exon without a CDS.
 fn alone(start: i32, end: i32, length: i32, cigar: &[u8]) -> Transcript {
-    let exons =
-        [Exon { alt_start_i: start, alt_end_i: end, tx_start_i: 0, tx_end_i: length, ord: 0, cigar }];
+    let exons = [Exon { alt_start_i: start, alt_end_i: end, tx_start_i: 0, tx_end_i: length, ord: 0, cigar }];
     Transcript::build(&Input { strand: 1, cds_start: None, cds_end: None, exons: &exons }).unwrap()
 }
 

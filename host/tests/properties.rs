@@ -2,7 +2,9 @@
 //! and no damage bring more than a refusal that leaves lent memory as it was.
 
 use proptest::{collection::vec, prelude::*, sample::select};
-use pulindraxi::{alleles, cigar, Bounds, Element, Exon, GInterval, Input, Mapped, NInterval, Refusal, Room, Transcript};
+use pulindraxi::{
+    alleles, cigar, Bounds, Element, Exon, GInterval, Input, Mapped, NInterval, Refusal, Room, Transcript,
+};
 
 /// Elements with counts from 0 on.
 fn elements(most: usize) -> impl Strategy<Value = Vec<Element>> {
@@ -60,7 +62,7 @@ fn number() -> impl Strategy<Value = i32> {
 }
 
 proptest! {
-    #![proptest_config(ProptestConfig { cases: 512, failure_persistence: None, ..ProptestConfig::default() })]
+    #![proptest_config(ProptestConfig { cases: 4096, failure_persistence: None, ..ProptestConfig::default() })]
 
     #[test]
     fn written_elements_read_back(elements in elements(60)) {

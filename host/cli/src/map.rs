@@ -18,9 +18,7 @@ enum Asked {
 
 /// Reads `g 23` or `g.23`.
 fn read(line: &str) -> Result<Asked, String> {
-    let (kind, position) = line
-        .split_once([' ', '\t', '.'])
-        .ok_or("a line is g, n or c, a space and a position")?;
+    let (kind, position) = line.split_once([' ', '\t', '.']).ok_or("a line is g, n or c, a space and a position")?;
     let name = format!("{kind}.{}", position.trim_start());
     let no_name = |error: NoName| error.to_string();
     match kind {

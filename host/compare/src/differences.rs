@@ -64,7 +64,11 @@ fn shown(text: &[u8]) -> String {
         [first, ..] if text.len() > 40 => {
             let same = run(*first);
             let rest = String::from_utf8_lossy(&text[same..]);
-            format!("`{}` {same} times{}", char::from(*first), if rest.is_empty() { String::new() } else { format!(", `{rest}`") })
+            format!(
+                "`{}` {same} times{}",
+                char::from(*first),
+                if rest.is_empty() { String::new() } else { format!(", `{rest}`") }
+            )
         }
         _ => format!("`{}`", String::from_utf8_lossy(text)),
     }
@@ -76,7 +80,9 @@ fn described(case: &Case) -> String {
         format!("{alt_start}..{alt_end} tx {tx_start}..{tx_end} ord {ord} {}", shown(&record.cigar))
     };
     let records = match &case.records[..] {
-        [first, .., _] if case.records.len() > 4 => format!("{} records, the first {}", case.records.len(), record(first)),
+        [first, .., _] if case.records.len() > 4 => {
+            format!("{} records, the first {}", case.records.len(), record(first))
+        }
         records => records.iter().map(record).collect::<Vec<_>>().join("; "),
     };
     let cds = match (case.cds_start, case.cds_end) {
@@ -133,10 +139,7 @@ fn asked_name(question: &Question) -> String {
     let Question { kind, start: a, end: b, missing, strict } = *question;
     let n = |p: Asked| NPosition::new(p.base, p.offset);
     let c = |p: Asked| CPosition { base: p.base, offset: p.offset, star: p.star };
-    let g = GInterval {
-        start: (missing & 1 == 0).then_some(a.base),
-        end: (missing & 2 == 0).then_some(b.base),
-    };
+    let g = GInterval { start: (missing & 1 == 0).then_some(a.base), end: (missing & 2 == 0).then_some(b.base) };
     let mode = if strict { "strict" } else { "lenient" };
     match kind {
         Kind::GToN => format!("{mode} {g} to n."),
@@ -236,11 +239,7 @@ fn panics() -> Vec<Row> {
         building("8", case(1, None, vec![record([0, 0, 0, 0, 0], "2147483648M")])),
         building("9", case(1, None, vec![record([0, 0, 0, 0, 0], "2147483647M2147483647M")])),
         asking_case("14", &plain, &at(Kind::GToN, i32::MIN, 0, true)),
-        asking_case(
-            "16",
-            &coding,
-            &Question { start: star(-1), end: star(i32::MAX), ..at(Kind::CToN, 0, 0, true) },
-        ),
+        asking_case("16", &coding, &Question { start: star(-1), end: star(i32::MAX), ..at(Kind::CToN, 0, 0, true) }),
         asking_case("17", &plain, &at(Kind::GToN, i32::MIN, 0, false)),
         asking_case("17", &plain, &at(Kind::GToC, i32::MIN, 0, false)),
         asking_case("17", &plain, &at(Kind::NToG, 1, i32::MAX, false)),

@@ -147,8 +147,7 @@ impl Judge {
     /// The crate prints a count of 0 as a bare letter, which is a listed difference.
     fn written(&mut self, text: &[u8], port: Result<Vec<u8>, Refusal>) {
         if let Some(crate::original::Outcome::Answered(cigar)) = crate::original::read_cigar(text) {
-            let elements: Vec<_> =
-                cigar.iter().map(|e| Element::new(e.count, char::from(e.op) as u8)).collect();
+            let elements: Vec<_> = cigar.iter().map(|e| Element::new(e.count, char::from(e.op) as u8)).collect();
             let narrowed = elements.iter().any(|e| e.count == 0) || port.is_err();
             let origin = if narrowed { Origin::Narrowed } else { Origin::Answered };
             let expected = if narrowed { port.clone() } else { Ok(cigar.to_string().into_bytes()) };
@@ -158,10 +157,7 @@ impl Judge {
 
     /// Trims the front and the back of an allele pair.
     pub fn trim(&mut self, reference: &[u8], alternative: &[u8]) {
-        let ports = [
-            boundary::trim_prefix(reference, alternative),
-            boundary::trim_suffix(reference, alternative),
-        ];
+        let ports = [boundary::trim_prefix(reference, alternative), boundary::trim_suffix(reference, alternative)];
         let input = (String::from_utf8_lossy(reference), String::from_utf8_lossy(alternative));
         match settle::trim(reference, alternative) {
             Err(fault) => self.fault(format!("trim {input:?}: {fault}")),

@@ -188,7 +188,8 @@ fn offset(asked: Asked) -> Option<i32> {
     (asked.offset != 0 || asked.base % 2 == 0).then_some(asked.offset)
 }
 
-fn g_interval(question: &Question) -> GenomeInterval {
+/// The g. interval of a question, for the crate.
+pub fn g_interval(question: &Question) -> GenomeInterval {
     GenomeInterval {
         start: (question.missing & 1 == 0).then_some(question.start.base),
         end: (question.missing & 2 == 0).then_some(question.end.base),
@@ -200,7 +201,8 @@ fn n_interval(question: &Question) -> TxInterval {
     TxInterval { start: position(question.start), end: position(question.end) }
 }
 
-fn c_interval(question: &Question) -> CdsInterval {
+/// The c. interval of a question, for the crate.
+pub fn c_interval(question: &Question) -> CdsInterval {
     let position = |asked: Asked| CdsPos {
         base: asked.base,
         offset: offset(asked),

@@ -32,7 +32,8 @@ pub fn run(judge: &mut Judge, seed: u64, count: u64) {
     while calls < count {
         let built = match rng.gen_range(0..20) {
             0 => {
-                let bounds = [draw::number(&mut rng), draw::number(&mut rng)].map(|b| rng.gen_ratio(9, 10).then_some(b));
+                let bounds =
+                    [draw::number(&mut rng), draw::number(&mut rng)].map(|b| rng.gen_ratio(9, 10).then_some(b));
                 judge.build_length(draw::number(&mut rng), bounds[0], bounds[1])
             }
             1 => judge.build_length(rng.gen_range(0..20), Some(rng.gen_range(0..4)), Some(rng.gen_range(3..20))),

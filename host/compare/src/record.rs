@@ -450,7 +450,8 @@ fn draw_texts(recorder: &mut Recorder, case: &Case) -> Result<(), String> {
     }
     let room = if rng.gen_ratio(1, 4) { rng.gen_range(0..12) } else { 64 };
     let number = if rng.gen_ratio(1, 50) { MOST_SEGMENTS + 1 } else { elements.len() };
-    let mut allele = || (0..rng.gen_range(0..7)).map(|_| *b"AC\xff".choose(rng).expect("not empty")).collect::<Vec<u8>>();
+    let mut allele =
+        || (0..rng.gen_range(0..7)).map(|_| *b"AC\xff".choose(rng).expect("not empty")).collect::<Vec<u8>>();
     let alleles = [allele(), allele()];
     let card_room = if rng.gen_ratio(1, 4) { rng.gen_range(0..60) } else { 1 << 17 };
     let cut = rng.gen_ratio(1, 10);
@@ -469,7 +470,8 @@ fn draw_texts(recorder: &mut Recorder, case: &Case) -> Result<(), String> {
 
 /// Longer texts at the limits.
 fn draw_long(recorder: &mut Recorder) -> Result<(), String> {
-    for text in [vec![b'M'; MOST_SEGMENTS + 1], vec![b'0'; MOST_TEXT + 1], [vec![b'M'; MOST_SEGMENTS], b"S".to_vec()].concat()]
+    for text in
+        [vec![b'M'; MOST_SEGMENTS + 1], vec![b'0'; MOST_TEXT + 1], [vec![b'M'; MOST_SEGMENTS], b"S".to_vec()].concat()]
     {
         recorder.read_cigar(&text)?;
     }

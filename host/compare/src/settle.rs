@@ -166,9 +166,8 @@ pub fn read_cigar(text: &[u8]) -> Result<Expected<Vec<paper::Counted>>, String> 
     let paper = paper::read_cigar(text, pulindraxi::limits::MOST_SEGMENTS);
     let narrowed = paper == Err(Refusal::TooMuch);
     let outcome = original::read_cigar(text).map(|outcome| {
-        outcome.map(|cigar| {
-            cigar.iter().map(|element| (i64::from(element.count), char::from(element.op) as u8)).collect()
-        })
+        outcome
+            .map(|cigar| cigar.iter().map(|element| (i64::from(element.count), char::from(element.op) as u8)).collect())
     });
     settle(outcome, paper, narrowed)
 }

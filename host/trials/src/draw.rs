@@ -225,10 +225,12 @@ pub fn spoil<R: Rng>(rng: &mut R, case: &mut Case) {
             let other = rng.gen_range(0..case.records.len());
             case.records.swap(index, other);
         }
-        8 => record.cigar = [&b""[..], b"0M", b"5", b"2147483647M", b"2147483648M", b"99999999999S"]
-            .choose(rng)
-            .expect("not empty")
-            .to_vec(),
+        8 => {
+            record.cigar = [&b""[..], b"0M", b"5", b"2147483647M", b"2147483648M", b"99999999999S"]
+                .choose(rng)
+                .expect("not empty")
+                .to_vec()
+        }
         9 => record.cigar.extend(b"2147483647M"),
         10 => {
             let at = rng.gen_range(0..=record.cigar.len());

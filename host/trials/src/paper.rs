@@ -365,9 +365,8 @@ pub fn source(head: &Head, genome: &Starts, transcript: &Starts, letters: &Lette
                 && i64::from(first) + last(&genome) <= i64::from(MOST_BASES)
                 && last(&transcript) <= i64::from(MOST_BASES);
             let cds = judge_cds(bits, cds_start, cds_end, last(&transcript)).ok()?;
-            together.then(|| {
-                Source::Records(Aligned { strand, first: i64::from(first), genome, transcript, letters, cds })
-            })
+            together
+                .then(|| Source::Records(Aligned { strand, first: i64::from(first), genome, transcript, letters, cds }))
         }
         1 => build_length(length, bits, cds_start, cds_end).ok(),
         _ => None,

@@ -33,16 +33,8 @@ pub enum Kind {
 
 impl Kind {
     /// Every kind.
-    pub const ALL: [Kind; 8] = [
-        Kind::GToN,
-        Kind::GToC,
-        Kind::NToG,
-        Kind::NToC,
-        Kind::CToN,
-        Kind::CToG,
-        Kind::InBounds,
-        Kind::IsCoding,
-    ];
+    pub const ALL: [Kind; 8] =
+        [Kind::GToN, Kind::GToC, Kind::NToG, Kind::NToC, Kind::CToN, Kind::CToG, Kind::InBounds, Kind::IsCoding];
 }
 
 /// A question. What its kind does not use is 0.
@@ -75,12 +67,8 @@ impl Question {
             Kind::GToC => boundary::txc_g_to_c(h, g, t, l, a.base, b.base, missing, strict),
             Kind::NToG => boundary::txc_n_to_g(h, g, t, l, a.base, a.offset, b.base, b.offset, strict),
             Kind::NToC => boundary::txc_n_to_c(h, g, t, l, a.base, a.offset, b.base, b.offset, strict),
-            Kind::CToN => {
-                boundary::txc_c_to_n(h, g, t, l, a.base, a.offset, a.star, b.base, b.offset, b.star, strict)
-            }
-            Kind::CToG => {
-                boundary::txc_c_to_g(h, g, t, l, a.base, a.offset, a.star, b.base, b.offset, b.star, strict)
-            }
+            Kind::CToN => boundary::txc_c_to_n(h, g, t, l, a.base, a.offset, a.star, b.base, b.offset, b.star, strict),
+            Kind::CToG => boundary::txc_c_to_g(h, g, t, l, a.base, a.offset, a.star, b.base, b.offset, b.star, strict),
             Kind::InBounds => as_answer(boundary::txc_in_bounds(h, g, t, l, a.base, b.base, missing)),
             Kind::IsCoding => as_answer(boundary::txc_is_coding(h, g, t, l)),
         }

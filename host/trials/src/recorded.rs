@@ -121,16 +121,7 @@ fn word(bytes: &[u8], at: usize) -> i32 {
 /// An answer as eight words.
 pub fn words(answer: Answer) -> [i32; 8] {
     let (a, b) = (answer.start, answer.end);
-    [
-        answer.number as i32,
-        answer.mark as i32,
-        a.base,
-        a.offset,
-        a.star as i32,
-        b.base,
-        b.offset,
-        b.star as i32,
-    ]
+    [answer.number as i32, answer.mark as i32, a.base, a.offset, a.star as i32, b.base, b.offset, b.star as i32]
 }
 
 impl Row {
@@ -258,7 +249,9 @@ fn write_cigar(row: &Row) -> Result<[i32; 8], String> {
 fn write_card(row: &Row) -> Result<[i32; 8], String> {
     let mut buffer = vec![0; row.numbers[4] as usize];
     let written = boundary::write_card(row.laid(), &mut buffer);
-    if written.number != 0 || buffer[..written.length].ends_with(&row.payload) && written.length == CARD_HEAD + row.payload.len() {
+    if written.number != 0
+        || buffer[..written.length].ends_with(&row.payload) && written.length == CARD_HEAD + row.payload.len()
+    {
         Ok(counted(written))
     } else {
         Err("another card".into())
