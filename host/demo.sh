@@ -2,7 +2,7 @@
 # Proves the entries, builds the command line over them, and maps the places P1 to P9 of document 01 on transcript A.
 set -eu
 cd "$(dirname "$0")/.."
-rt staticlib entry
+[ -n "${TXC_ARCHIVE:-}" ] || rt staticlib entry
 host/install.sh
 cd host
 command -v cargo >/dev/null || PATH="$HOME/.cargo/bin:$PATH"

@@ -19,68 +19,63 @@ fn main() {
         panic!("HGVS_SRC must name the folder src/ of crate hgvs 4.0.1; {}: {error}", src.display())
     });
 
-    // sequences.rs cannot be built (generated tables, md5, bio): cut out what is needed.
-    let sequences = read(&src, "sequences.rs");
-    let mut text = String::new();
-    text.push_str("pub use error::Error;\n\n");
-    for head in [
+    write(&out, "sequences.rs", &sequences(&src));
+    // normalizer.rs needs mapper/variant.rs, which is absent: its error type alone.
+    let normalizer = item(&read(&src, "normalizer.rs"), "mod error {");
+    write(&out, "normalizer.rs", &format!("pub use error::Error;\n\n{normalizer}"));
+    write(&out, "crate_root.rs", &root(&src, &out));
+}
+
+/// What is needed of sequences.rs, whose other items want generated tables, md5 and bio.
+fn sequences(src: &Path) -> String {
+    let whole = read(src, "sequences.rs");
+    let heads = [
         "mod error {",
         "pub fn trim_common_prefixes(",
         "pub fn trim_common_suffixes(",
         "pub fn trim_common_prefixes_slice<",
         "pub fn trim_common_suffixes_slice<",
         "pub enum TranslationTable {",
-    ] {
-        text.push_str(&item(&sequences, head));
-        text.push('\n');
-    }
-    // Stub: display.rs calls this for protein variants only.
-    text.push_str(
-        "pub(crate) fn aa_to_aa3_cow(_seq: &str) -> Result<std::borrow::Cow<'_, str>, Error> {\n    \
-         unimplemented!(\"stub: no amino acid tables\")\n}\n",
-    );
-    fs::write(out.join("sequences.rs"), text).unwrap();
+    ];
+    let items: Vec<String> = heads.iter().map(|head| item(&whole, head)).collect();
+    // display.rs calls the stub for protein variants only.
+    format!(
+        "pub use error::Error;\n\n{}\n\
+         pub(crate) fn aa_to_aa3_cow(_seq: &str) -> Result<std::borrow::Cow<'_, str>, Error> {{\n    \
+         unimplemented!(\"stub: no amino acid tables\")\n}}\n",
+        items.join("\n")
+    )
+}
 
-    // normalizer.rs needs mapper/variant.rs (absent): cut out its error type.
-    let normalizer = read(&src, "normalizer.rs");
-    fs::write(out.join("normalizer.rs"), format!("pub use error::Error;\n\n{}", item(&normalizer, "mod error {")))
-        .unwrap();
-
-    // mapper/mod.rs: all of its text, but each `mod x;` line gets the path of the unchanged file
-    // or, if that file is absent (altseq, assembly, variant), goes away.
-    let mut mapper = String::new();
-    for line in read(&src, "mapper/mod.rs").lines() {
-        match line.trim().strip_suffix(';').and_then(|l| l.strip_prefix("pub mod ").or_else(|| l.strip_prefix("mod ")))
-        {
-            Some(name) => {
-                let file = src.join("mapper").join(format!("{name}.rs"));
-                if file.exists() {
-                    mapper.push_str(&format!("#[path = {file:?}]\n{line}\n"));
-                } else {
-                    mapper.push_str(&format!("// absent: {line}\n"));
-                }
+/// All of mapper/mod.rs, but each `mod x;` line gets the path of the unchanged file or, where that is absent, goes away.
+fn mapper(src: &Path) -> String {
+    let mut text = String::new();
+    for line in read(src, "mapper/mod.rs").lines() {
+        let declared = line.trim().strip_suffix(';');
+        match declared.and_then(|l| l.strip_prefix("pub mod ").or_else(|| l.strip_prefix("mod "))) {
+            Some(name) if src.join(format!("mapper/{name}.rs")).exists() => {
+                text.push_str(&format!("{}\n{line}\n", unchanged(src, &format!("mapper/{name}.rs"))));
             }
-            None => {
-                mapper.push_str(line);
-                mapper.push('\n');
-            }
+            Some(_) => text.push_str(&format!("// absent: {line}\n")),
+            None => text.push_str(&format!("{line}\n")),
         }
     }
+    text
+}
 
-    let p = |name: &str| {
-        let file = src.join(name);
-        println!("cargo:rerun-if-changed={}", file.display());
-        assert!(file.exists(), "{} is missing", file.display());
-        format!("#[path = {file:?}]")
-    };
-    let o = |name: &str| format!("#[path = {:?}]", out.join(name));
-    for name in ["mapper/alignment.rs", "mapper/cigar.rs", "mapper/error.rs"] {
-        p(name);
-    }
+/// The line that points to a file of the crate.
+fn unchanged(src: &Path, name: &str) -> String {
+    let file = src.join(name);
+    println!("cargo:rerun-if-changed={}", file.display());
+    assert!(file.exists(), "{} is missing", file.display());
+    format!("#[path = {file:?}]")
+}
 
-    let root = format!(
+fn root(src: &Path, out: &Path) -> String {
+    let made = |name: &str| format!("#[path = {:?}]", out.join(name));
+    format!(
         "pub mod data {{\n{}\npub mod error;\n{}\npub mod interface;\n}}\n\n\
-         pub mod mapper {{\n{mapper}}}\n\n\
+         pub mod mapper {{\n{}}}\n\n\
          {}\npub mod normalizer;\n\n\
          pub mod parser {{\n{}\nmod display;\n{}\nmod ds;\n{}\nmod error;\n\
          pub use crate::parser::display::*;\n\
@@ -88,16 +83,20 @@ fn main() {
          pub use crate::parser::error::*;\n}}\n\n\
          {}\npub mod sequences;\n\n\
          pub mod validator {{\n{}\nmod error;\npub use crate::validator::error::Error;\n}}\n",
-        p("data/error.rs"),
-        p("data/interface.rs"),
-        o("normalizer.rs"),
-        p("parser/display.rs"),
-        p("parser/ds.rs"),
-        p("parser/error.rs"),
-        o("sequences.rs"),
-        p("validator/error.rs"),
-    );
-    fs::write(out.join("crate_root.rs"), root).unwrap();
+        unchanged(src, "data/error.rs"),
+        unchanged(src, "data/interface.rs"),
+        mapper(src),
+        made("normalizer.rs"),
+        unchanged(src, "parser/display.rs"),
+        unchanged(src, "parser/ds.rs"),
+        unchanged(src, "parser/error.rs"),
+        made("sequences.rs"),
+        unchanged(src, "validator/error.rs"),
+    )
+}
+
+fn write(out: &Path, name: &str, text: &str) {
+    fs::write(out.join(name), text).expect("the output folder can be written to");
 }
 
 fn read(src: &Path, name: &str) -> String {
@@ -106,8 +105,8 @@ fn read(src: &Path, name: &str) -> String {
     fs::read_to_string(&file).unwrap_or_else(|e| panic!("{}: {e}", file.display()))
 }
 
-/// Cut out the top-level item whose first line starts with `head`, with the doc comments and
-/// attributes above it, up to the first line that is `}` at column 0.
+/// The top-level item whose first line starts with `head`, with the doc comments and attributes above it, up to the first line
+/// that is `}` at column 0.
 fn item(text: &str, head: &str) -> String {
     let lines: Vec<&str> = text.lines().collect();
     let hits: Vec<usize> = (0..lines.len()).filter(|&i| lines[i].starts_with(head)).collect();

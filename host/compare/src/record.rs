@@ -141,6 +141,20 @@ impl Recorder {
         }
         let answer = recorded::built(number(expected), &self.lent);
         self.push(row, answer, origin);
+        if expected.is_err() && self.rng.gen_ratio(1, 4) {
+            self.push_memory_stays();
+        }
+    }
+
+    /// After a refused building: the memory still answers as it did.
+    fn push_memory_stays(&mut self) {
+        let source = self.lent.source();
+        let Some(drawn) = source.as_ref() else { return };
+        for kind in [Kind::IsCoding, Kind::NToG] {
+            let question = Question { kind, missing: 0, ..draw::question(&mut self.rng, drawn) };
+            let answer = question.expect(source.as_ref());
+            self.push(Row::asking(&question), recorded::words(answer), Origin::Added);
+        }
     }
 
     /// A question to what the memory holds, whole or damaged.
