@@ -10,6 +10,7 @@
 --     Past       records that were accepted are put in one by one
 --     Runs       runs of stores
 --     Finished   tables that were filled and finished
+--     Passed     what was judged and is no refusal
 pub mod Heads
 pub mod Gaps
 pub mod Sizes
@@ -21,3 +22,4 @@ pub mod Taken
 pub mod Past
 pub mod Runs
 pub mod Finished
+pub mod Passed
