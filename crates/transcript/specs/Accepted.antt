@@ -27,7 +27,7 @@ use Rattle.transcript.specs.Transcript.{Cds}
 use Rattle.transcript.specs.Transcript.Cds.{noCds, cds}
 use Rattle.transcript.specs.Building.{Exon, partsOf, gap, elementsAfter, elementsOf, firstStart}
 use Rattle.transcript.specs.Reading.{startOf as genomeStart, endOf as genomeEnd, exonOf, Exons, exons, denied, beforeAll, andThen, readFirst, readNext, exonsAfter, exonsOf}
-use Rattle.transcript.specs.Judging.{Judged, refused, accepted, unless, Made, Measured, bothBits, startOf, endOf, halfFault, rangeFault, cdsFault, cdsOf, lastFault, judgeExons, judgeOn, judgeRecords, judge, judgeLength}
+use Rattle.transcript.specs.Judging.{Judged, refused, accepted, unless, Made, Measured, bothBits, startOf, endOf, halfFault, rangeFault, cdsFault, cdsOf, lastFault, judgeExons, judgeOn, judgeRecords, judge, lengthFault, judgeLength}
 use Rattle.transcript.specs.Outcome.{numberOf, bitsOf, startIn, endIn, strandOf, elementsIn}
 use Rattle.transcript.specs.declared.Bound.{Bound}
 use Rattle.transcript.specs.declared.Bound.the-variants.{Given, Absent}
@@ -370,23 +370,27 @@ pub record Measures (len : ℤ) (bits : ℕ) (start end : ℤ) (m : Measured) : 
   pub cds-fits : cdsFault (startOf bits start) (endOf bits end) (m .bases) ≡ 0
   pub coding-is : m .coding ≡ cdsOf (startOf bits start) (endOf bits end)
 
+pub length-pass : (len : ℤ) → lengthFault len ≡ 0 → (len ≡ pos (natAbs len)) × (natAbs len ≤ mostBases)
+unfolding lengthFault
+length-pass len =
+    by-test (ltZ len (pos 0))
+    (λ t. rw t (λ h. absurd (omega arith)))
+    (λ t.
+    by-test (ltZ (pos mostBases) len)
+    (λ u. rw (t, u) (λ h. absurd (omega arith)))
+    (λ u h. let is = whole len t in (is, omega (order, is))))
+
 pub measured-means : (len : ℤ) (bits : ℕ) (start end : ℤ) (m : Measured) → judgeLength len bits start end ≡ accepted m → Measures len bits start end m
 unfolding judgeLength
 measured-means len bits start end m =
     by-test (ltb bothBits bits)
     (λ t. rw t (λ h. absurd (clash h)))
-    (λ t.
-    by-test (ltZ len (pos 0))
-    (λ u. rw (t, u) (λ h. absurd (clash h)))
-    (λ u.
-    by-test (ltZ (pos mostBases) len)
-    (λ v. rw (t, u, v) (λ h. absurd (clash h)))
-    (λ v. rw (t, u, v) (λ h.
-    let (half, h₁) = passed (halfFault (startOf bits start) (endOf bits end)) _ m h in
-    let (fits, h₂) = passed (cdsFault (startOf bits start) (endOf bits end) (natAbs len)) _ m h₁ in
-    let made = same h₂ in
-    let is = whole len u in
-    rw (← made) (record { known = ltb-false bothBits bits t; length-is = is; small = omega (order, is); both-or-none = half; cds-fits = fits; coding-is = refl })))))
+    (λ t. rw t (λ h.
+    let (long, h₁) = passed (lengthFault len) _ m h in
+    let (half, h₂) = passed (halfFault (startOf bits start) (endOf bits end)) _ m h₁ in
+    let (fits, h₃) = passed (cdsFault (startOf bits start) (endOf bits end) (natAbs len)) _ m h₂ in
+    let (is, small) = length-pass len long in
+    rw (← same h₃) (record { known = ltb-false bothBits bits t; length-is = is; small = small; both-or-none = half; cds-fits = fits; coding-is = refl })))
 
 pub measured-inside : (len : ℤ) (bits : ℕ) (start end : ℤ) (m : Measured) → Measures len bits start end m → CdsInside (m .coding) (m .bases)
 measured-inside len bits start end m a =
