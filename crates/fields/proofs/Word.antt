@@ -1,16 +1,15 @@
--- Numbers of 32 bits as signed numbers. `toZ w32` reads a machine word as a signed number and `ofZ w32` is the word of one.
+-- Numbers of 32 bits as signed numbers.
 --     minus-one-pos, minus-one-neg    -1 - z, the step between z and its complement
---     bits-neg, bits-pos, above               what the test `z < 0` says of z
+--     bits-neg, bits-pos, above       what the test `z < 0` says of z
 -- Assumes nothing.
 use mathlib.Core.Path.{_≡_, refl, sym, ap, _∙_}
 use mathlib.Core.Bool.{true, false, true≢false, false≢true}
-use Prim.Native.Nat.{ℕ, zero, suc, _-_, _<_}
+use Prim.Native.Nat.{ℕ, zero, suc, _-_}
 use native.Mathlib.Nat.{zero-add}
 use native.Mathlib.Omega.{arith}
 use lib.IntN.{ℤ, pos, negsuc, _-ℤ_, natAbs}
 use lib.Signed.{mag, ltZ}
 use borrow.Author.Tests.{le-ltb}
-use mir.Syntax.{w32}
 use Rattle.fields.specs.Fields.{bits32}
 
 pub minus-one-pos : (m : ℕ) → negsuc 0 -ℤ pos m ≡ negsuc m

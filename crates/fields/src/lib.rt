@@ -1,29 +1,39 @@
-// Little-endian card fields.
+// A card's numbers, read and written where they lie: 16 and 32 bits with the least significant byte first, and signed numbers of 32 bits.
 ghost use mathlib.Core.Path.{_≡_};
-ghost use Prim.Native.Nat.{_+_, _≤_, _<_};
+ghost use Prim.Native.Nat.{_+_, _%_, _≤_, _<_};
 ghost use lib.ListN.{length};
 ghost use lib.Seq.{sets};
-ghost use Rattle.fields.specs.Fields.{le32, bytes32, signed32, bits32};
+ghost use Rattle.fields.specs.Fields.{le16, le32, bytes16, bytes32, signed32, bits32};
 
+// A byte as a number: with no cast beside the read, its range is known.
 fn wide(b: u8) -> u32
     ensures { λ r. ⌜ (r ≡ b) × (r < 256) ⌝ }
 {
     b as u32
 }
 
-// The number at a place.
+// The 16-bit number at a place.
+pub fn u16_at(s: &[u8], at: usize) -> u32
+    requires { ⌜ at + 2 ≤ length (now s) ⌝ }
+    ensures { λ r. ⌜ r ≡ le16 (now (s .entry)) at ⌝ }
+    ensures within { λ r. ⌜ r < 65536 ⌝ }
+{
+    let low = wide(s[at]);
+    let high = wide(s[at + 1]);
+    low + 256 * high
+}
+
+// The 32-bit number at a place.
 pub fn u32_at(s: &[u8], at: usize) -> u32
     requires { ⌜ at + 4 ≤ length (now s) ⌝ }
     ensures { λ r. ⌜ r ≡ le32 (now (s .entry)) at ⌝ }
 {
-    let a = wide(s[at]);
-    let b = wide(s[at + 1]);
-    let c = wide(s[at + 2]);
-    let d = wide(s[at + 3]);
-    a + 256 * (b + 256 * (c + 256 * d))
+    let low = u16_at(s, at);
+    let high = u16_at(s, at + 2);
+    low + 65536 * high
 }
 
-// A number of 32 bits as a signed one.
+// 32 bits as a signed number.
 fn signed(n: u32) -> i32
     ensures { λ r. ⌜ r ≡ signed32 n ⌝ }
 {
@@ -42,25 +52,34 @@ pub fn i32_at(s: &[u8], at: usize) -> i32
     signed(u32_at(s, at))
 }
 
+// The lowest byte of a number.
 fn byte(n: u32) -> u8
-    requires { ⌜ n < 256 ⌝ }
-    ensures { λ r. ⌜ r ≡ n ⌝ }
+    ensures { λ r. ⌜ r ≡ n % 256 ⌝ }
 {
-    n as u8
+    (n % 256) as u8
 }
 
-// A number, four bytes from a place on.
+// Writes the lower 16 bits of a number, two bytes from a place on.
+pub fn put_u16(buf: &mut [u8], at: usize, n: u32)
+    requires { ⌜ at + 2 ≤ length (now buf) ⌝ }
+    ensures { λ _. ⌜ now (buf .exit) ≡ sets (now (buf .entry)) at (bytes16 n) ⌝ }
+{
+    let high = n / 256;
+    buf[at] = byte(n);
+    buf[at + 1] = byte(high);
+}
+
+// Writes a number, four bytes from a place on.
 pub fn put_u32(buf: &mut [u8], at: usize, n: u32)
     requires { ⌜ at + 4 ≤ length (now buf) ⌝ }
     ensures { λ _. ⌜ now (buf .exit) ≡ sets (now (buf .entry)) at (bytes32 n) ⌝ }
 {
-    buf[at] = byte(n % 256);
-    buf[at + 1] = byte(n / 256 % 256);
-    buf[at + 2] = byte(n / 65536 % 256);
-    buf[at + 3] = byte(n / 16777216);
+    let high = n / 65536;
+    put_u16(buf, at, n);
+    put_u16(buf, at + 2, high);
 }
 
-// A signed number's 32 bits.
+// The 32 bits of a signed number.
 fn bits(z: i32) -> u32
     ensures { λ r. ⌜ r ≡ bits32 z ⌝ }
 {
@@ -71,6 +90,7 @@ fn bits(z: i32) -> u32
     z as u32
 }
 
+// Writes a signed number, four bytes from a place on.
 pub fn put_i32(buf: &mut [u8], at: usize, z: i32)
     requires { ⌜ at + 4 ≤ length (now buf) ⌝ }
     ensures { λ _. ⌜ now (buf .exit) ≡ sets (now (buf .entry)) at (bytes32 (bits32 z)) ⌝ }

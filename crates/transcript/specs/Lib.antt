@@ -2,3 +2,6 @@
 pub mod Transcript
 pub mod Building
 pub mod Holding
+pub mod Reading
+pub mod Judging
+pub mod Worked

@@ -12,3 +12,15 @@ pub struct Head {
     pub end: i32,
     pub length: i32,
 }
+
+// A CDS bound.
+pub enum Bound {
+    Given(i32),
+    Absent,
+}
+
+// What building answers: a transcript's head, or the number of a refusal.
+pub enum Built {
+    Transcript(Head),
+    Refused(u8),
+}

@@ -1,74 +1,34 @@
--- `fields::put_u32` meets its contract: four stores, at `at`, `at + 1`, .., where `sets` has `at`, `suc at`, ...
+-- `fields::put_u32` meets its contract: its two halves are stored one behind the other.
 -- Assumes nothing.
-use native.Mathlib.Numerals.{add-one, add-two, add-three}
-use native.Mathlib.Omega.{arith}
-use lib.ListN.{length-set}
+use mathlib.Core.Path.{ap, _∙_}
+use mathlib.Core.List.{List}
+use Prim.Native.Nat.{ℕ, _+_, _/_}
+use lib.Seq.{sets}
+use Rattle.fields.specs.Fields.{bytes16}
+use Rattle.fields.proofs.Halves.{halves-stored}
 use borrow.Author.Needs.{needs}
 use Rattle.fields.proofs.put_u32.Statement.{statement}
 use Rattle.fields.proofs.put_u32.Tie as tie
 
-byte-requires : tie.Need-byte-requires
-byte-requires c κs = search needs
+put-u16-requires : tie.Need-put-u16-requires
+put-u16-requires c κs = search needs
 
-slice-write-buf : tie.Need-slice-write-buf
-slice-write-buf c = search needs
+add-put-u16 : tie.Need-add-put-u16
+add-put-u16 c = search needs
 
-byte-requires-2 : tie.Need-byte-requires-2
-byte-requires-2 c κs = search needs
-
-add-buf : tie.Need-add-buf
-add-buf c = search needs
-
-slice-write-buf-2 : tie.Need-slice-write-buf-2
-slice-write-buf-2 c = simp length-set (omega arith)
-
-byte-requires-3 : tie.Need-byte-requires-3
-byte-requires-3 c κs = search needs
-
-add-buf-2 : tie.Need-add-buf-2
-add-buf-2 c = search needs
-
-slice-write-buf-3 : tie.Need-slice-write-buf-3
-slice-write-buf-3 c = simp length-set (omega arith)
-
-byte-requires-4 : tie.Need-byte-requires-4
-byte-requires-4 c κs = search needs
-
-add-buf-3 : tie.Need-add-buf-3
-add-buf-3 c = search needs
-
-slice-write-buf-4 : tie.Need-slice-write-buf-4
-slice-write-buf-4 c = simp length-set (omega arith)
+put-u16-requires-2 : tie.Need-put-u16-requires-2
+put-u16-requires-2 c κs = search needs
 
 same-length : tie.Need-same-length
 same-length c = search needs
 
 returns : tie.Need-returns
 returns c =
-    simp (
-      add-one,
-      add-two,
-      add-three,
-      c .before .before .before .byte .ensures,
-      c .before .before .byte2 .ensures,
-      c .before .byte3 .ensures,
-      c .byte4 .ensures,
-    )
+    let f = c .before .before .before .before .before .before .before .before .before in
+    c .before .before .put-u162 .ensures
+    ∙ ap (λ (l : List ℕ). sets l (f .args .at + 2) (bytes16 (f .args .n / 65536))) (c .before .before .before .before .before .before .put-u16 .ensures)
+    ∙ halves-stored (f .args .buf .now) (f .args .at) (f .args .n)
 
 pub put-u32-spec : {M : Type 1} → statement M
 put-u32-spec =
-    tie.close
-    (tie.spec
-    byte-requires
-    slice-write-buf
-    byte-requires-2
-    add-buf
-    slice-write-buf-2
-    byte-requires-3
-    add-buf-2
-    slice-write-buf-3
-    byte-requires-4
-    add-buf-3
-    slice-write-buf-4
-    same-length
-    returns)
+    tie.close (tie.spec put-u16-requires add-put-u16 put-u16-requires-2 same-length returns)

@@ -1,0 +1,6 @@
+-- The root of the crate's specs.
+pub mod Layout
+pub mod Records
+pub mod Faults
+pub mod Chain
+pub mod Walk

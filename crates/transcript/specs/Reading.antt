@@ -1,0 +1,65 @@
+-- The CIGARs of the records as elements, or the first of 3, 7 and 8: per record its CIGAR's size, the gap before it, and its elements in text order. Assumes nothing.
+use Prim.Native.Nat.{ℕ, _+_, _-_}
+use mathlib.Core.List.{List, [], _∷_}
+use lib.Dec.{eqb, ltb}
+use lib.IntN.{natAbs}
+use lib.ListN.{length}
+use Rattle.refusals.specs.Numbers.{tooMuch, mostText, mostSegments}
+use Rattle.whole.specs.Whole.{if_then_else_}
+use Rattle.cigar.specs.Elements.{Element}
+use Rattle.cigar.specs.Text.{Reading, elements, refused, readAll}
+use Rattle.records.specs.Records.{Record}
+use Rattle.transcript.specs.Building.{Exon}
+
+-- a record's genome bounds, which are not negative: 4 came first
+abbrev pub startOf : Record → ℕ
+startOf r = natAbs (r .alt-start)
+
+abbrev pub endOf : Record → ℕ
+endOf r = natAbs (r .alt-end)
+
+-- the length of the gap between two records
+abbrev pub gapOf : Record → Record → ℕ
+gapOf p r = startOf r - endOf p
+
+-- a record whose elements were read
+abbrev pub exonOf : Record → List Element → Exon
+exonOf r es = record { alt-start = startOf r; alt-end = endOf r; parts = es }
+
+-- all records, or the first refusal
+pub data Exons : Type 0 where
+  exons : List Exon → Exons
+  denied : ℕ → Exons
+
+-- one record more in front
+abbrev pub beforeAll : Exon → Exons → Exons
+beforeAll x (exons xs) = exons (x ∷ xs)
+beforeAll x (denied k) = denied k
+
+-- after a record's reading, what follows it
+abbrev pub andThen : Record → Reading → (ℕ → Exons) → Exons
+andThen r (elements es) next = beforeAll (exonOf r es) (next (length es))
+andThen r (refused k) next = denied k
+
+-- the first record: 3 where its CIGAR is over 4,096 bytes
+unfoldable pub readFirst : Record → Reading
+readFirst r =
+    if ltb mostText (length (r .cigar)) then refused tooMuch
+    else readAll mostSegments (r .cigar)
+
+-- a record after others, which have `used` segments: 3 where its CIGAR is over 4,096 bytes, or where there is no room for the gap before it
+unfoldable pub readNext : ℕ → Record → Reading
+readNext used r =
+    if ltb mostText (length (r .cigar)) then refused tooMuch
+    else if eqb used mostSegments then refused tooMuch
+    else readAll (mostSegments - (used + 1)) (r .cigar)
+
+-- the records after others
+unfoldable pub exonsAfter : ℕ → List Record → Exons
+exonsAfter used [] = exons []
+exonsAfter used (r ∷ rs) = andThen r (readNext used r) (λ n. exonsAfter (used + 1 + n) rs)
+
+-- all records
+unfoldable pub exonsOf : List Record → Exons
+exonsOf [] = exons []
+exonsOf (r ∷ rs) = andThen r (readFirst r) (λ n. exonsAfter n rs)
