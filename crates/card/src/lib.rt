@@ -1,9 +1,41 @@
-// A card: building's input as bytes.
+// A card: building's input as bytes. Reading, and then building; and writing into a lent buffer.
 ghost use mathlib.Core.Path.{_≡_};
-ghost use Prim.Native.Nat.{_≤_};
+ghost use Prim.Native.Nat.{_+_, _≤_};
 ghost use lib.ListN.{length};
 ghost use lib.Seq.{sets};
-ghost use Rattle.card.specs.Layout.{mark};
+ghost use Rattle.card.specs.Layout.{mark, recordsAt};
+ghost use Rattle.card.specs.Card.{isMarked, numbersIn, isCard, readCard, strandOf};
+use refusals::BAD_VERSION;
+use refusals::MOST_CARD;
+use refusals::NO_CARD;
+use refusals::TOO_MUCH;
+
+const VERSION: u32 = 1;
+
+// Where a card's numbers stand, and its records.
+const VERSION_AT: usize = 3;
+const STRAND_AT: usize = 5;
+const CDS_AT: usize = 6;
+const START_AT: usize = 7;
+const END_AT: usize = 11;
+const COUNT_AT: usize = 15;
+pub const RECORDS_AT: usize = 17;
+
+// The numbers of building's input as a card holds them. Its records are the card's bytes from RECORDS_AT on.
+pub struct Numbers {
+    pub strand: i32,
+    pub cds: u32,
+    pub start: i32,
+    pub end: i32,
+    pub count: usize,
+}
+
+// What bytes read as.
+pub enum ReadCard {
+    Card(Numbers),
+    // 3, 21 or 22.
+    Refused(u8),
+}
 
 // Writes the mark at the front.
 pub fn put_mark(buffer: &mut [u8])
@@ -13,4 +45,30 @@ pub fn put_mark(buffer: &mut [u8])
     buffer[0] = b'T';
     buffer[1] = b'X';
     buffer[2] = b'C';
+}
+
+// Whether bytes have a version and the mark.
+fn is_marked(card: &[u8]) -> bool
+    ensures { λ r. ⌜ r ≡ isMarked (now (card .entry)) ⌝ }
+{
+    if card.len() < STRAND_AT {
+        return false;
+    }
+    if card[0] == b'T' {
+        if card[1] == b'X' {
+            return card[2] == b'C';
+        }
+        return false;
+    }
+    false
+}
+
+// The strand of a strand byte.
+fn strand_of(b: u8) -> i32
+    ensures { λ r. ⌜ r ≡ strandOf b ⌝ }
+{
+    if b == 0 {
+        return 1;
+    }
+    -1
 }
