@@ -18,7 +18,7 @@ use native.Mathlib.Omega.{arith}
 use lib.Dec.{leb}
 use lib.ListN.{length, getD, drop, drop-of-length-le}
 use lib.Seq.{drop-cons}
-use borrow.Author.Tests.{lt-leb, leb-true}
+use borrow.Author.Tests.{lt-ltb, leb-true}
 use Rattle.cigar.specs.declared.Step.{Step}
 use Rattle.cigar.specs.declared.Step.the-variants.{Refused, End}
 use Rattle.whole.specs.Whole.{if_then_else_}
@@ -43,7 +43,7 @@ saturated n m hn hm at [] = refl
 saturated n m hn hm at (b ∷ s) =
     ap₂ (λ (x y : Step). if isDigit b then x else if isLetter b then y else Refused noElement)
     (saturated (n * 10 + (b - 48)) (m * 10 + (b - 48)) (omega arith) (omega arith) (at + 1) s)
-    (rw (lt-leb n mostCount hn, lt-leb m mostCount hm))
+    (rw (lt-ltb mostCount n hn, lt-ltb mostCount m hm))
 
 pub capped : (n at : ℕ) (s : List ℕ) → elementFrom true (min n (mostCount + 1)) at s ≡ elementFrom true n at s
 capped n at s =

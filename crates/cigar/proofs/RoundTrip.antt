@@ -12,7 +12,7 @@ use native.Mathlib.Decide.{decLt, ℕ-discrete}
 use native.Mathlib.Omega.{arith}
 use lib.Seq.{append-snoc}
 use lib.ListN.{length}
-use borrow.Author.Tests.{le-leb, ne-eqb}
+use borrow.Author.Tests.{le-leb, le-ltb, ne-eqb}
 use Rattle.cigar.specs.Elements.{Element, isLetter}
 use Rattle.refusals.specs.Numbers.{mostCount}
 use Rattle.cigar.specs.Text.{isDigit, countOf, Reading, elements, before, element, readFrom, readAll}
@@ -71,7 +71,7 @@ read-letter : (room : ℕ) (given : Bool) (n letter : ℕ) (s : List ℕ) → 0 
     → readFrom room given n (letter ∷ s) ≡ before (element (countOf given n) letter) (readAll (room - 1) s)
 unfolding readFrom
 read-letter room given n letter s r h l =
-    rw (letter-no-digit letter l, l, le-leb (countOf given n) mostCount h, ne-eqb room 0 (λ z. omega arith))
+    rw (letter-no-digit letter l, l, le-ltb mostCount (countOf given n) h, ne-eqb room 0 (λ z. omega arith))
 
 pub read-element : (room n letter : ℕ) (s : List ℕ) → 0 < room → n ≤ mostCount → isLetter letter ≡ true
     → readAll room (elementText n letter ++ s) ≡ before (element n letter) (readAll (room - 1) s)

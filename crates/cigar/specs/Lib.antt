@@ -3,9 +3,15 @@
 --     Letters     letters that go their whole count along a side
 --     Text        what a text reads as
 --     Steps       a text is read element by element
+--     Sound       what was read has counts up to the largest and letters of the six
+--     Lent        lent memory whose front is filled
+--     Read        a text alone, read into lent tables
 --     Write       what elements are written as
 pub mod Elements
 pub mod Letters
 pub mod Text
 pub mod Steps
+pub mod Sound
+pub mod Lent
+pub mod Read
 pub mod Write

@@ -3,7 +3,7 @@ use Prim.Native.Nat.{ℕ, _+_, _-_, _*_}
 use mathlib.Core.List.{List, [], _∷_}
 use mathlib.Core.Bool.{Bool, true, false, _&&_}
 use lib.ListN.{drop, length}
-use lib.Dec.{leb, eqb}
+use lib.Dec.{leb, ltb, eqb}
 use Rattle.whole.specs.Whole.{if_then_else_}
 use Rattle.refusals.specs.Numbers.{noElement, badCount, tooMuch, mostCount}
 use Rattle.cigar.specs.Elements.{Element, isLetter}
@@ -22,7 +22,7 @@ countOf given n = if given then n else 1
 
 -- a finished element: 8 where its count is above the largest
 abbrev pub finished : ℕ → ℕ → ℕ → Step
-finished n letter next = if leb n mostCount then step.Element n letter next else step.Refused badCount
+finished n letter next = if ltb mostCount n then step.Refused badCount else step.Element n letter next
 
 -- The rest of an element, whose next byte stands at `at`. Its digits so far are worth n, and `given` says whether there were any.
 unfoldable pub elementFrom : Bool → ℕ → ℕ → List ℕ → Step
@@ -58,8 +58,9 @@ element n letter = record { count = n; letter = letter }
 -- A finished element: 8 where its count is above the largest, 3 where there is no room for a segment more, and else it stands before what follows.
 abbrev pub taken : ℕ → Element → Reading → Reading
 taken room e rest =
-    if leb (e .count) mostCount then (if eqb room 0 then refused tooMuch else before e rest)
-    else refused badCount
+    if ltb mostCount (e .count) then refused badCount
+    else if eqb room 0 then refused tooMuch
+    else before e rest
 
 -- The rest of a text, inside an element or between two, with room for that many segments. The digits so far are worth n, and `given` says whether there were any.
 unfoldable pub readFrom : ℕ → Bool → ℕ → List ℕ → Reading
@@ -73,6 +74,16 @@ readFrom room given n (b ∷ s) =
 
 abbrev pub readAll : ℕ → List ℕ → Reading
 readAll room text = readFrom room false 0 text
+
+-- the elements of a reading, none where it refuses
+abbrev pub elementsIn : Reading → List Element
+elementsIn (elements es) = es
+elementsIn (refused k) = []
+
+-- it does not refuse
+abbrev pub Answered : Reading → Type 0
+Answered (elements es) = Unit
+Answered (refused k) = ⊥
 
 -- how many elements there are
 abbrev pub countedOf : Reading → Counted

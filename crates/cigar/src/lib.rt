@@ -2,12 +2,15 @@
 ghost use mathlib.Core.Path.{_≡_};
 ghost use mathlib.Core.Bool.{true};
 ghost use Prim.Native.Nat.{_+_, _*_, _-_, _≤_, min};
+ghost use lib.IntN.{pos};
 ghost use Rattle.refusals.specs.Numbers.{mostCount, mostSegments};
 ghost use Rattle.cigar.specs.Elements.{isLetter, kindOf, alongGenome, alongTranscript};
-ghost use Rattle.cigar.specs.Text.{isDigit, countOf, finished, stepAt, readAll, countedOf};
+ghost use Rattle.cigar.specs.Text.{isDigit, countOf, finished, stepAt, readAll, elementsIn, Answered, countedOf};
+ghost use Rattle.cigar.specs.Read.{readText, countsAfter, lettersAfter, Tables, Filled};
 use refusals::BAD_COUNT;
 use refusals::MOST_COUNT;
 use refusals::MOST_SEGMENTS;
+use refusals::MOST_TEXT;
 use refusals::NO_ELEMENT;
 use refusals::TOO_MUCH;
 
@@ -118,6 +121,59 @@ pub fn count_elements(text: &[u8]) -> Counted
             Step::Refused(k) => return Counted::Refused(k),
             Step::End => return Counted::Count(n),
         }
+    }
+}
+
+// A count as the signed number of a table.
+fn signed(count: u32) -> i32
+    requires { ⌜ count ≤ mostCount ⌝ }
+    ensures { λ r. ⌜ r ≡ pos count ⌝ }
+{
+    count as i32
+}
+
+// The elements of a text that is not refused, from the front of two tables.
+fn fill_elements(text: &[u8], counts: &mut [i32], letters: &mut [u8])
+    requires { ⌜ Tables (now counts) (now letters) ⌝ }
+    requires { ⌜ Answered (readAll mostSegments (now text)) ⌝ }
+    ensures { λ _. ⌜ Filled (now (counts .entry)) (now (letters .entry)) (now (counts .exit)) (now (letters .exit)) 0 (elementsIn (readAll mostSegments (now (text .entry)))) ⌝ }
+{
+    let mut at = 0;
+    let mut n = 0;
+    loop {
+        match step_at(text, at) {
+            Step::Element(count, letter, next) => {
+                let number = signed(count);
+                counts[n] = number;
+                letters[n] = letter;
+                n += 1;
+                at = next;
+            }
+            Step::Refused(_) => return,
+            Step::End => return,
+        }
+    }
+}
+
+// A text's elements, read into the front of two lent tables, or a refusal, which leaves them as they are.
+pub fn read_cigar(
+    text: &[u8],
+    counts: &mut [i32; MOST_SEGMENTS],
+    letters: &mut [u8; MOST_SEGMENTS],
+) -> Counted
+    ensures { λ r. ⌜ r ≡ countedOf (readText (now (text .entry))) ⌝ }
+    ensures { λ _. ⌜ now (counts .exit) ≡ countsAfter (now (counts .entry)) (readText (now (text .entry))) ⌝ }
+    ensures { λ _. ⌜ now (letters .exit) ≡ lettersAfter (now (letters .entry)) (readText (now (text .entry))) ⌝ }
+{
+    if MOST_TEXT < text.len() {
+        return Counted::Refused(TOO_MUCH);
+    }
+    match count_elements(text) {
+        Counted::Count(n) => {
+            fill_elements(text, counts, letters);
+            Counted::Count(n)
+        }
+        Counted::Refused(k) => Counted::Refused(k),
     }
 }
 

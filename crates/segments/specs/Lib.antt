@@ -1,3 +1,6 @@
 -- The root of the crate's specs.
 pub mod Places
 pub mod Tables
+pub mod Paper
+pub mod Meaning
+pub mod Reading

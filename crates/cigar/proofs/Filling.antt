@@ -1,0 +1,63 @@
+-- Elements are stored in two tables one by one, and then the tables are those that are promised. Assumes nothing.
+use mathlib.Core.Path.{_≡_, refl, sym, _∙_}
+use mathlib.Core.List.{List, [], _∷_}
+use Prim.Native.Nat.{ℕ, _+_, _≤_, _<_}
+use native.Mathlib.Numerals.{add-one}
+use native.Mathlib.Omega.{arith}
+use borrow.Author.Tests.{lt-ltb, le-ltb}
+use lib.IntN.{ℤ, pos}
+use lib.ListN.{length, set, length-set, length-map}
+use lib.Seq.{sets}
+use Rattle.refusals.specs.Numbers.{tooMuch, mostText, mostSegments}
+use Rattle.cigar.specs.Elements.{Element}
+use Rattle.cigar.specs.Text.{Reading, elements, refused, readAll, elementsIn, Answered, countedOf}
+use Rattle.cigar.specs.Lent.{sets-front}
+use Rattle.cigar.specs.Read.{readText, countsOf, lettersOf, countsAfter, lettersAfter, Tables, Filled}
+use Rattle.cigar.specs.Sound.{read-room}
+use Rattle.cigar.specs.declared.Counted.the-variants as counted
+
+-- the tables stay as long as they are
+pub tables-set : {counts : List ℤ} {letters : List ℕ} (i : ℕ) (z : ℤ) (letter : ℕ) → Tables counts letters → Tables (set counts i z) (set letters i letter)
+tables-set {counts} {letters} i z letter h = record {
+  counts-long = length-set counts i z ∙ h .counts-long;
+  letters-long = length-set letters i letter ∙ h .letters-long;
+}
+
+-- the first of the elements that are left
+pub fill-one : {c : List ℤ} {l : List ℕ} {c₁ : List ℤ} {l₁ : List ℕ} {n : ℕ} {x : Element} {es : List Element} → Filled c l c₁ l₁ n (x ∷ es)
+    → Filled (set c n (pos (x .count))) (set l n (x .letter)) c₁ l₁ (n + 1) es
+fill-one {n = n} f = record { counts-is = rw (add-one n) (f .counts-is); letters-is = rw (add-one n) (f .letters-is) }
+
+-- nothing is left: the tables are what they were to become
+pub fill-none : {c₀ : List ℤ} {l₀ : List ℕ} {c : List ℤ} {l : List ℕ} {n m : ℕ} {es : List Element}
+    → Filled c l (sets c₀ n (countsOf es)) (sets l₀ n (lettersOf es)) m [] → Filled c₀ l₀ c l n es
+fill-none f = record { counts-is = sym (f .counts-is); letters-is = sym (f .letters-is) }
+
+-- a text alone, by its size
+pub read-large : (text : List ℕ) → mostText < length text → readText text ≡ refused tooMuch
+unfolding readText
+read-large text h = rw (lt-ltb mostText (length text) h)
+
+pub read-small : (text : List ℕ) → length text ≤ mostText → readText text ≡ readAll mostSegments text
+unfolding readText
+read-small text h = rw (le-ltb mostText (length text) h)
+
+-- elements that were counted are not refused
+pub counted-answered : (r : Reading) {n : ℕ} → countedOf r ≡ counted.Count n → Answered r
+counted-answered (elements es) e = tt
+counted-answered (refused k) {n} e = let z : _≡_ {A = ℕ} 0 1 = cc in absurd (omega arith)
+
+-- the tables, when all is stored
+pub filled-after : (text : List ℕ) {c : List ℤ} {l : List ℕ} {c₁ : List ℤ} {l₁ : List ℕ} (r : Reading) → readAll mostSegments text ≡ r → Answered r → Tables c l
+    → Filled c l c₁ l₁ 0 (elementsIn r) → (c₁ ≡ countsAfter c r) × (l₁ ≡ lettersAfter l r)
+filled-after text {c} {l} (elements es) e a t f =
+    let few = read-room mostSegments text e in (
+      f .counts-is ∙ sets-front (countsOf es) c (rw (length-map es (λ (x : Element). pos (x .count)), t .counts-long) few),
+      f .letters-is ∙ sets-front (lettersOf es) l (rw (length-map es (λ (x : Element). x .letter), t .letters-long) few),
+    )
+filled-after text (refused k) e a t f = absurd a
+
+-- the tables of a text that is refused
+pub refused-after : (r : Reading) {k : ℕ} (c : List ℤ) (l : List ℕ) → countedOf r ≡ counted.Refused k → (c ≡ countsAfter c r) × (l ≡ lettersAfter l r)
+refused-after (elements es) {k} c l e = let z : _≡_ {A = ℕ} 0 1 = cc in absurd (omega arith)
+refused-after (refused k) c l e = (refl, refl)

@@ -1,0 +1,48 @@
+-- Entries of a table as whole numbers, and how large the numbers of a spot can be. A place below 2 ^ 36 in size, an entry below 2 ^ 32 and a 1 come to less than 2 ^ 37. Assumes nothing.
+use Prim.Native.Nat.{ℕ, _+_, _<_, _^_}
+use native.Mathlib.Omega.{arith}
+use mathlib.Core.Path.{_≡_}
+use lib.IntN.{ℤ, pos, negℤ, _+ℤ_, _-ℤ_}
+use borrow.Author.Tests.{lt-ltb}
+use mir.Syntax.{w32, w64}
+use mir.Val.{Fits, SFits, toZ}
+use Rattle.whole.specs.Whole.{Within, order, dif, neg, mag-sum, mag-dif}
+
+-- what the machine reads from an entry that it widened is the entry
+pub entry : {x : ℕ} → Fits w32 x → toZ w64 x ≡ pos x
+entry {x} f = rw (lt-ltb x (2 ^ 63) (omega (arith, f .fits)))
+
+-- the machine's change of sign is the definition's
+pub negated : (z : ℤ) → pos 0 -ℤ z ≡ negℤ z
+negated z = omega (order, dif (pos 0) z, neg z)
+
+pub fits-36 : {z : ℤ} → Within 36 z → SFits w64 z
+fits-36 w = omega (arith, w .within)
+
+module _ {x : ℕ} (f : Fits w32 x) where
+  pub before-38 : Within 38 (pos x -ℤ pos 1)
+  before-38 = omega (arith, f .fits, mag-dif (pos x) (pos 1))
+
+  pub entry-38 : Within 38 (pos x)
+  entry-38 = omega (arith, f .fits)
+
+module _ {z : ℤ} (w : Within 37 z) where
+  pub kept-38 : Within 38 z
+  kept-38 = omega (arith, w .within)
+
+  pub back-38 : Within 38 (negℤ z)
+  back-38 = omega (arith, w .within, rw (negated z) at (mag-dif (pos 0) z))
+
+-- a place p, and an entry x: how far p is along a segment that begins at x, one more, and how far it is from one that ends there
+module _ {p : ℤ} {x : ℕ} (w : Within 36 p) (f : Fits w32 x) where
+  pub along-38 : Within 38 (p -ℤ pos x)
+  along-38 = omega (arith, w .within, f .fits, mag-dif p (pos x))
+
+  pub left-37 : Within 37 (p -ℤ pos x +ℤ pos 1)
+  left-37 = omega (arith, w .within, f .fits, mag-dif p (pos x), mag-sum (p -ℤ pos x) (pos 1))
+
+  pub right-37 : Within 37 (pos x -ℤ p)
+  right-37 = omega (arith, w .within, f .fits, mag-dif (pos x) p)
+
+  pub place-38 : {y : ℕ} → Fits w32 y → Within 38 (pos y +ℤ (p -ℤ pos x))
+  place-38 {y} h = omega (arith, w .within, f .fits, h .fits, mag-dif p (pos x), mag-sum (pos y) (p -ℤ pos x))

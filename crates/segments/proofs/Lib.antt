@@ -1,0 +1,5 @@
+-- Lemmas on plain values, for the proofs of this crate.
+mod All
+mod Entries
+mod Finding
+mod Steps

@@ -1,0 +1,12 @@
+-- `segments::is_known` meets its contract: the code's tests are the definition's. Assumes nothing.
+use mathlib.Core.Path.{refl}
+use Rattle.cigar.specs.Elements.{isLetter}
+use Rattle.segments.proofs.is_known.Statement.{statement}
+use Rattle.segments.proofs.is_known.Tie as tie
+
+returns : tie.Need-returns
+unfolding isLetter
+returns c = refl
+
+pub is-known-spec : {M : Type 1} → statement M
+is-known-spec = tie.close (tie.spec returns)

@@ -1,0 +1,63 @@
+-- `segments::map_place` meets its contract: what `spot_in` ensures at the segment that `find` ensures. Assumes nothing.
+use mathlib.Core.Path.{sym}
+use Rattle.whole.specs.Whole.{read}
+use Rattle.segments.specs.Tables.{mapByTables}
+use Rattle.segments.proofs.Entries.{fits-36}
+use borrow.Author.Needs.{needs}
+use Rattle.segments.proofs.map_place.Statement.{statement}
+use Rattle.segments.proofs.map_place.Tie as tie
+
+find-requires : tie.Need-find-requires
+find-requires c κs = search needs
+
+element-copy-out-spot-in : tie.Need-element-copy-out-spot-in
+element-copy-out-spot-in c = search needs
+
+mul-spot-in : tie.Need-mul-spot-in
+mul-spot-in c = search needs
+
+element-copy-out-spot-in-2 : tie.Need-element-copy-out-spot-in-2
+element-copy-out-spot-in-2 c = search needs
+
+add-spot-in : tie.Need-add-spot-in
+add-spot-in c = search needs
+
+mul-spot-in-2 : tie.Need-mul-spot-in-2
+mul-spot-in-2 c = search needs
+
+element-copy-out-spot-in-3 : tie.Need-element-copy-out-spot-in-3
+element-copy-out-spot-in-3 c = search needs
+
+mul-spot-in-3 : tie.Need-mul-spot-in-3
+mul-spot-in-3 c = search needs
+
+element-copy-out-spot-in-4 : tie.Need-element-copy-out-spot-in-4
+element-copy-out-spot-in-4 c = search needs
+
+spot-in-requires : tie.Need-spot-in-requires
+spot-in-requires c κs =
+    let w = c .before .before .before .before .before .before .pre .1 in
+    simp (read (fits-36 w)) w
+
+returns : tie.Need-returns
+unfolding mapByTables
+returns c =
+    let at-find = c .before .before .before .before .before in
+    let p = read (fits-36 (at-find .before .before .pre .1)) in
+    rw (sym (simp p at (at-find .find .ensures .1))) (simp p at (c .spot-in .ensures .0), c .spot-in .ensures .1)
+
+pub map-place-spec : {M : Type 1} → statement M
+map-place-spec =
+    tie.close
+    (tie.spec
+    find-requires
+    element-copy-out-spot-in
+    mul-spot-in
+    element-copy-out-spot-in-2
+    add-spot-in
+    mul-spot-in-2
+    element-copy-out-spot-in-3
+    mul-spot-in-3
+    element-copy-out-spot-in-4
+    spot-in-requires
+    returns)

@@ -1,0 +1,45 @@
+-- `segments::nearer_edge` meets its contract. Each return rewrites with the test, and with what the machine reads back. Assumes nothing.
+use mathlib.Core.Path.{refl, sym, _∙_}
+use borrow.Author.Needs.{needs}
+use Rattle.whole.specs.Whole.{read, fits-38}
+use Rattle.segments.specs.Places.{nearer}
+use Rattle.segments.proofs.Entries.{entry, negated, before-38, entry-38, kept-38, back-38}
+use Rattle.segments.proofs.nearer_edge.Statement.{statement}
+use Rattle.segments.proofs.nearer_edge.Tie as tie
+
+cast-place : tie.Need-cast-place
+cast-place c = search needs
+
+is-left-nearer-requires : tie.Need-is-left-nearer-requires
+is-left-nearer-requires c κs = search needs
+
+sub-before : tie.Need-sub-before
+sub-before c =
+    let t = c .before .before .fits .t in
+    simp (entry t) (fits-38 (before-38 t))
+
+sub-back : tie.Need-sub-back
+sub-back c = simp (read (c .before .before .fits .right), negated) (fits-38 (back-38 (c .before .before .pre .1)))
+
+returns : tie.Need-returns
+unfolding nearer
+returns c =
+    let a = c .before .before in
+    let t = a .fits .t in
+    let is-left = simp (read (a .fits .left), read (a .fits .right)) at (sym (c .before .is-left-nearer .ensures) ∙ c .if1 .taken) in
+    simp (entry t, read (fits-38 (before-38 t)), read (a .fits .left), is-left)
+    (refl, record { place-small = before-38 t; offset-small = kept-38 (a .pre .0) })
+
+returns-2 : tie.Need-returns-2
+unfolding nearer
+returns-2 c =
+    let a = c .before .before in
+    let t = a .fits .t in
+    let back = back-38 (a .pre .1) in
+    let is-right = simp (read (a .fits .left), read (a .fits .right)) at (sym (c .before .is-left-nearer .ensures) ∙ c .if1 .left) in
+    simp (entry t, read (a .fits .right), negated, read (fits-38 back), is-right)
+    (refl, record { place-small = entry-38 t; offset-small = back })
+
+pub nearer-edge-spec : {M : Type 1} → statement M
+nearer-edge-spec =
+    tie.close (tie.spec cast-place is-left-nearer-requires sub-before sub-back returns returns-2)
