@@ -7,6 +7,7 @@
 --     Lent        lent memory whose front is filled
 --     Read        a text alone, read into lent tables
 --     Write       what elements are written as
+--     Decimal     laws of decimal digits
 pub mod Elements
 pub mod Letters
 pub mod Text
@@ -15,3 +16,4 @@ pub mod Sound
 pub mod Lent
 pub mod Read
 pub mod Write
+pub mod Decimal
