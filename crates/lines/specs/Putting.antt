@@ -11,7 +11,7 @@ use native.Mathlib.Nat.{add-zero}
 use native.Mathlib.Omega.{arith}
 use lib.ListN.{length, set, length-append}
 use lib.Seq.{sets, length-sets}
-use Rattle.cigar.specs.Decimal.{sets-append}
+use Rattle.cigar.specs.Stores.{sets-append}
 
 pub record Put (before after : List ℕ) (at next : ℕ) (text : List ℕ) : Type 0 where
   pub past : next ≡ at + length text
