@@ -4,13 +4,19 @@ ghost use Prim.Native.Nat.{_+_, _≤_};
 ghost use lib.ListN.{length};
 ghost use lib.Seq.{sets};
 ghost use Rattle.card.specs.Layout.{mark, recordsAt};
-ghost use Rattle.card.specs.Card.{isMarked, numbersIn, isCard, readCard, strandOf};
+ghost use Rattle.whole.specs.Whole.{eqZ};
+ghost use Rattle.transcript.specs.Judging.{boundOf};
+ghost use Rattle.card.specs.Card.{boundNumber, isMarked, strandOf, numbersIn, isCard, readCard};
+use transcript::Bound;
 use refusals::BAD_VERSION;
 use refusals::MOST_CARD;
 use refusals::NO_CARD;
 use refusals::TOO_MUCH;
 
 const VERSION: u32 = 1;
+
+// Both CDS bits.
+const BOTH_BITS: u32 = 3;
 
 // Where a card's numbers stand, and its records.
 const VERSION_AT: usize = 3;
@@ -71,4 +77,45 @@ fn strand_of(b: u8) -> i32
         return 1;
     }
     -1
+}
+
+// The numbers before the records.
+fn read_numbers(card: &[u8]) -> Numbers
+    requires { ⌜ recordsAt ≤ length (now card) ⌝ }
+    ensures { λ r. ⌜ r ≡ numbersIn (now (card .entry)) ⌝ }
+{
+    let strand = strand_of(card[STRAND_AT]);
+    let cds = card[CDS_AT] as u32;
+    let start = fields::i32_at(card, START_AT);
+    let end = fields::i32_at(card, END_AT);
+    let count = fields::u16_at(card, COUNT_AT) as usize;
+    Numbers {
+        strand,
+        cds,
+        start,
+        end,
+        count,
+    }
+}
+
+// The number of a bound: 0 if it is not given.
+fn number_of(bound: Bound) -> i32
+    ensures { λ r. ⌜ r ≡ boundNumber bound ⌝ }
+{
+    match bound {
+        Bound::Given(number) => number,
+        Bound::Absent => 0,
+    }
+}
+
+// Writes bytes from a place on.
+fn put_bytes(buffer: &mut [u8], at: usize, bytes: &[u8])
+    requires { ⌜ at + length (now bytes) ≤ length (now buffer) ⌝ }
+    ensures { λ _. ⌜ now (buffer .exit) ≡ sets (now (buffer .entry)) at (now (bytes .entry)) ⌝ }
+{
+    let mut i = 0;
+    while i < bytes.len() {
+        buffer[at + i] = bytes[i];
+        i += 1;
+    }
 }
