@@ -48,18 +48,18 @@ unfoldable pub recordsText : List Record → List ℕ
 recordsText [] = []
 recordsText (r ∷ rs) = laid r ++ recordsText rs
 
--- what stands before the records
-unfoldable pub headerText : Input → List ℕ
-headerText i =
+-- what stands before n records
+unfoldable pub headerText : ℤ → Bound → Bound → ℕ → List ℕ
+headerText strand start end n =
     mark
     ++ bytes16 version
-    ++ strandByte (i .strand) ∷ cdsByte (i .start) (i .end) ∷ []
-    ++ bytes32 (bits32 (boundNumber (i .start)))
-    ++ bytes32 (bits32 (boundNumber (i .end)))
-    ++ bytes16 (length (i .records))
+    ++ strandByte strand ∷ cdsByte start end ∷ []
+    ++ bytes32 (bits32 (boundNumber start))
+    ++ bytes32 (bits32 (boundNumber end))
+    ++ bytes16 n
 
 unfoldable pub cardText : Input → List ℕ
-cardText i = headerText i ++ recordsText (i .records)
+cardText i = headerText (i .strand) (i .start) (i .end) (length (i .records)) ++ recordsText (i .records)
 
 -- ---- reading
 

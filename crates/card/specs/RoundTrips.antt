@@ -237,7 +237,7 @@ read-means s m e =
 strand-kept : (b : ℕ) → b ≤ 1 → strandByte (strandOf b) ≡ b
 strand-kept b h = by-test (eqb b 0) (λ t. rw t (sym (eqb-true b 0 t))) (λ t. rw t (omega (arith, eqb-false b 0 t)))
 
-cds-kept : (b : ℕ) (z w : ℤ) → b ≤ bothBits → cdsByte (startOf b z) (endOf b w) ≡ b
+pub cds-kept : (b : ℕ) (z w : ℤ) → b ≤ bothBits → cdsByte (startOf b z) (endOf b w) ≡ b
 cds-kept b z w h =
     by-test (eqb (b % 2) 1)
     (λ t. by-test (leb 2 b)
@@ -271,7 +271,7 @@ module _ (s : List ℕ) (bs : Bytes s) (c : IsCard s) where
   unfolding numbersIn
   count-kept = ap bytes16 (from-length (le16 s countAt) (drop recordsAt s) 0) ∙ bytes16-le s countAt bs (omega (arith, c .long))
 
-  header-kept : headerText its ≡ take recordsAt s
+  header-kept : headerText (its .strand) (its .start) (its .end) (length (its .records)) ≡ take recordsAt s
   unfolding headerText numbersIn
   header-kept =
       beside s 0 countAt 2

@@ -1,12 +1,14 @@
 // A card: building's input as bytes. Reading, and then building; and writing into a lent buffer.
 ghost use mathlib.Core.Path.{_≡_};
 ghost use Prim.Native.Nat.{_+_, _≤_};
+ghost use mathlib.Core.List.{[], _∷_, _++_};
 ghost use lib.ListN.{length};
 ghost use lib.Seq.{sets};
-ghost use Rattle.card.specs.Layout.{mark, recordsAt};
+ghost use Rattle.card.specs.Layout.{mark, version, startAt, recordsAt};
 ghost use Rattle.whole.specs.Whole.{eqZ};
+ghost use Rattle.fields.specs.Fields.{bytes16};
 ghost use Rattle.transcript.specs.Judging.{boundOf};
-ghost use Rattle.card.specs.Card.{boundNumber, isMarked, strandOf, numbersIn, isCard, readCard};
+ghost use Rattle.card.specs.Card.{strandByte, givenBit, cdsByte, boundNumber, headerText, isMarked, strandOf, numbersIn, isCard, readCard};
 use transcript::Bound;
 use refusals::BAD_VERSION;
 use refusals::MOST_CARD;
@@ -118,4 +120,53 @@ fn put_bytes(buffer: &mut [u8], at: usize, bytes: &[u8])
         buffer[at + i] = bytes[i];
         i += 1;
     }
+}
+
+// The byte of a strand.
+fn strand_byte(strand: i64) -> u8
+    ensures { λ r. ⌜ r ≡ strandByte strand ⌝ }
+{
+    if strand == 1 {
+        return 0;
+    }
+    1
+}
+
+// Whether a bound is given, as a bit.
+fn given_bit(bound: Bound) -> u8
+    ensures { λ r. ⌜ (r ≡ givenBit bound) × (r ≤ 1) ⌝ }
+{
+    match bound {
+        Bound::Given(_) => 1,
+        Bound::Absent => 0,
+    }
+}
+
+// The CDS byte.
+fn cds_byte(start: Bound, end: Bound) -> u8
+    ensures { λ r. ⌜ r ≡ cdsByte start end ⌝ }
+{
+    given_bit(start) + 2 * given_bit(end)
+}
+
+// Writes the mark, the version, and the strand and CDS bytes.
+fn put_front(buffer: &mut [u8], strand: u8, cds: u8)
+    requires { ⌜ startAt ≤ length (now buffer) ⌝ }
+    ensures { λ _. ⌜ now (buffer .exit) ≡ sets (now (buffer .entry)) 0 (mark ++ bytes16 version ++ strand ∷ cds ∷ []) ⌝ }
+{
+    put_mark(buffer);
+    fields::put_u16(buffer, VERSION_AT, VERSION);
+    buffer[STRAND_AT] = strand;
+    buffer[CDS_AT] = cds;
+}
+
+// Writes what stands before the records.
+fn put_header(buffer: &mut [u8], strand: i32, start: Bound, end: Bound, count: u32)
+    requires { ⌜ recordsAt ≤ length (now buffer) ⌝ }
+    ensures { λ _. ⌜ now (buffer .exit) ≡ sets (now (buffer .entry)) 0 (headerText strand start end count) ⌝ }
+{
+    put_front(buffer, strand_byte(strand as i64), cds_byte(start, end));
+    fields::put_i32(buffer, START_AT, number_of(start));
+    fields::put_i32(buffer, END_AT, number_of(end));
+    fields::put_u16(buffer, COUNT_AT, count);
 }

@@ -5,7 +5,7 @@ ghost use lib.ListN.{length, getD};
 ghost use lib.Seq.{sets};
 ghost use Rattle.refusals.specs.Numbers.{mostSegments};
 ghost use Rattle.lines.specs.Listing.{numberText, numbersText, signOf, headerText, lineAt, linesFrom, listingText, refusalText};
-ghost use Rattle.lines.specs.Putting.{Put};
+ghost use Rattle.card.specs.Putting.{Put};
 ghost use Rattle.lines.specs.Lengths.{mostHeader, mostLine, mostListing};
 use refusals::MOST_SEGMENTS;
 use refusals::MOST_STARTS;

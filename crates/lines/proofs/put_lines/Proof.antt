@@ -6,7 +6,7 @@ use Prim.Native.Nat.{_+_, _*_, _-_, _≤_}
 use lib.ListN.{length}
 use Rattle.lines.specs.Listing.{linesFrom}
 use Rattle.lines.specs.Lengths.{mostLine}
-use Rattle.lines.specs.Putting.{Put, none-put, then-put, put-length}
+use Rattle.card.specs.Putting.{Put, none-put, then-put, put-length}
 use Rattle.lines.proofs.Laws.{lines-none, lines-more}
 use borrow.Author.Needs.{needs}
 use Rattle.lines.proofs.put_lines.Statement.{statement}
