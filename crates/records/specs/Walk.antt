@@ -3,7 +3,7 @@ use Prim.Native.Nat.{ℕ, zero, suc, _+_, _-_, _≤_, _<_}
 use native.Mathlib.Omega.{arith}
 use mathlib.Core.Bool.{Bool, true, false, _&&_, false≢true}
 use mathlib.Core.List.{List, [], _∷_}
-use mathlib.Core.Path.{_≡_, refl, sym, _∙_}
+use mathlib.Core.Path.{_≡_, refl, sym, ap, subst, _∙_}
 use lib.Dec.{eqb, leb}
 use lib.IntN.{pos}
 use lib.ListN.{length}
@@ -70,6 +70,11 @@ unfolding recordsFrom
 records-one zero s at h = absurd (omega arith)
 records-one (suc n) s at h = rw (pred n)
 
+pub records-length : (n : ℕ) (s : List ℕ) (at : ℕ) → length (recordsFrom n s at) ≡ n
+unfolding recordsFrom
+records-length zero s at = refl
+records-length (suc n) s at = ap suc (records-length n s (nextAt s at))
+
 pub records-none : (n : ℕ) (s : List ℕ) (at : ℕ) → n ≡ 0 → recordsFrom n s at ≡ []
 unfolding recordsFrom
 records-none n s at e = rw e
@@ -124,48 +129,59 @@ pub record Beside (p r : Record) : Type 0 where
   pub start-whole : ltZ (r .alt-start) (pos 0) ≡ false
   pub in-order : ltZ (r .alt-start) (p .alt-end) ≡ false
 
+-- the records after p stand in genomic order
+abbrev pub Ordered : Record → List Record → Type 0
+Ordered p [] = Unit {0}
+Ordered p (r ∷ rs) = Beside p r × Ordered r rs
+
+pub ordered : (forward : Bool) (p : Record) (rs : List Record) → ownFault p ≡ 0 → faultsAfter forward p rs ≡ 0 → Ordered p rs
+unfolding faultsAfter
+ordered forward p [] own rest = tt
+ordered forward p (r ∷ rs) own rest =
+    let k = clear (ownFault r) (pairFault forward p r orElse faultsAfter forward r rs) rest in
+    let l = clear (pairFault forward p r) (faultsAfter forward r rs) (k .1) in (
+      record {
+        end-whole = own-sound p own .end-whole;
+        start-whole = own-sound r (k .0) .start-whole;
+        in-order = pair-ordered forward p r (l .0);
+      },
+      ordered forward r rs (k .0) (l .1),
+    )
+
 -- ---- a walk over records that passed
 
 -- n records are left, which begin at a place, after the record at `previous`
-pub record Walk (forward : Bool) (s : List ℕ) (previous n at : ℕ) : Type 0 where
+pub record Walk (s : List ℕ) (previous n at : ℕ) : Type 0 where
   pub exact : exactly n s at ≡ true
   pub inside : previous + cigarText ≤ length s
-  pub own : ownFault (recordAt s previous) ≡ 0
-  pub rest : faultsAfter forward (recordAt s previous) (recordsFrom n s at) ≡ 0
+  pub order : Ordered (recordAt s previous) (recordsFrom n s at)
 
 -- one record further on
-pub record Turn (forward : Bool) (s : List ℕ) (previous n at : ℕ) : Type 0 where
+pub record Turn (s : List ℕ) (previous n at : ℕ) : Type 0 where
   pub stands : Stands s at
   pub beside : Beside (recordAt s previous) (recordAt s at)
-  pub next : Walk forward s at (n - 1) (nextAt s at)
+  pub next : Walk s at (n - 1) (nextAt s at)
 
-pub turn : {forward : Bool} {s : List ℕ} {previous n at : ℕ} → 0 < n → Walk forward s previous n at → Turn forward s previous n at
-turn {forward} {s} {previous} {n} {at} h w =
+pub turn : {s : List ℕ} {previous n at : ℕ} → 0 < n → Walk s previous n at → Turn s previous n at
+turn {s} {previous} {n} {at} h w =
     let b = begins n s at h (w .exact) in
-    let k = clear (ownFault (recordAt s at)) _ (sym (faults-one forward (recordAt s previous) n s at h) ∙ w .rest) in
-    let l = clear (pairFault forward (recordAt s previous) (recordAt s at)) _ (k .1) in
-    record {
-      stands = b .stands;
-      beside = record {
-        end-whole = own-sound (recordAt s previous) (w .own) .end-whole;
-        start-whole = own-sound (recordAt s at) (k .0) .start-whole;
-        in-order = pair-ordered forward (recordAt s previous) (recordAt s at) (l .0);
-      };
-      next = record { exact = b .others; inside = b .stands .numbers; own = k .0; rest = l .1 };
-    }
+    let o = subst (Ordered (recordAt s previous)) (records-one n s at h) (w .order) in
+    record { stands = b .stands; beside = o .0; next = record { exact = b .others; inside = b .stands .numbers; order = o .1 } }
 
--- the first record, whose genome start is not negative, and those after it
-pub record First (forward : Bool) (s : List ℕ) (n at : ℕ) : Type 0 where
-  pub stands : Stands s at
-  pub start-whole : ltZ (recordAt s at .alt-start) (pos 0) ≡ false
-  pub next : Walk forward s at (n - 1) (nextAt s at)
+-- n records, at least one, passed: the first stands at the front, its genome start is not negative, and the others follow it
+pub record Ready (n : ℕ) (s : List ℕ) : Type 0 where
+  pub some : 0 < n
+  pub stands : Stands s 0
+  pub start-whole : ltZ (recordAt s 0 .alt-start) (pos 0) ≡ false
+  pub next : Walk s 0 (n - 1) (nextAt s 0)
 
-pub first : (forward : Bool) (n : ℕ) (s : List ℕ) (at : ℕ) → 0 < n → exactly n s at ≡ true → faults forward (recordsFrom n s at) ≡ 0 → First forward s n at
-first forward n s at h e f =
-    let b = begins n s at h e in
-    let k = clear (ownFault (recordAt s at)) _ (sym (faults-first forward n s at h) ∙ f) in
+pub ready : (forward : Bool) (n : ℕ) (s : List ℕ) → 0 < n → exactly n s 0 ≡ true → faults forward (recordsFrom n s 0) ≡ 0 → Ready n s
+ready forward n s h e f =
+    let b = begins n s 0 h e in
+    let k = clear (ownFault (recordAt s 0)) _ (sym (faults-first forward n s 0 h) ∙ f) in
     record {
+      some = h;
       stands = b .stands;
-      start-whole = own-sound (recordAt s at) (k .0) .start-whole;
-      next = record { exact = b .others; inside = b .stands .numbers; own = k .0; rest = k .1 };
+      start-whole = own-sound (recordAt s 0) (k .0) .start-whole;
+      next = record { exact = b .others; inside = b .stands .numbers; order = ordered forward (recordAt s 0) _ (k .0) (k .1) };
     }

@@ -1,5 +1,5 @@
 -- Lemmas on plain values, for the proofs of this crate.
 mod All
-mod Entries
+mod Bounds
 mod Finding
 mod Steps

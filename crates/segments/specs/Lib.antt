@@ -4,3 +4,5 @@ pub mod Tables
 pub mod Paper
 pub mod Meaning
 pub mod Reading
+pub mod Made
+pub mod Entries

@@ -63,15 +63,13 @@ rangeFault start end last =
 abbrev pub cdsFault : Bound → Bound → ℕ → ℕ
 cdsFault (Given s) (Given e) last = rangeFault s e (pos last)
 cdsFault (Given s) Absent last = 0
-cdsFault Absent (Given e) last = 0
-cdsFault Absent Absent last = 0
+cdsFault Absent end last = 0
 
 -- the CDS, where neither 11 nor 12 applies
 abbrev pub cdsOf : Bound → Bound → Cds
 cdsOf (Given s) (Given e) = cds (natAbs s) (natAbs e)
 cdsOf (Given s) Absent = noCds
-cdsOf Absent (Given e) = noCds
-cdsOf Absent Absent = noCds
+cdsOf Absent end = noCds
 
 -- ---- from records
 

@@ -18,9 +18,12 @@ startOf r = natAbs (r .alt-start)
 abbrev pub endOf : Record → ℕ
 endOf r = natAbs (r .alt-end)
 
--- the length of the gap between two records
+-- the N between two records
 abbrev pub gapOf : Record → Record → ℕ
 gapOf p r = startOf r - endOf p
+
+abbrev pub between : Record → Record → Element
+between p r = record { count = gapOf p r; letter = 78 }
 
 -- a record whose elements were read
 abbrev pub exonOf : Record → List Element → Exon

@@ -1,4 +1,7 @@
 // Transcripts: built from records or from a length, and what it means to hold together.
+pub mod holding;
+pub mod judging;
+pub mod reading;
 
 // A transcript beside its three tables: kind (0 built from records, 1 from a length), strand, first start, segment count, CDS bits
 // (1 start given, 2 end given), CDS start, CDS end, and the length of a length-only one. The numbers are the host's own, and any may be wrong.

@@ -3,7 +3,8 @@ use mathlib.Core.Path.{refl, ap}
 use native.Mathlib.Omega.{arith}
 use borrow.Author.Needs.{needs}
 use Rattle.whole.specs.Whole.{read, fits-38}
-use Rattle.segments.proofs.Entries.{entry, before-38, entry-38}
+use Rattle.segments.specs.Entries.{entry}
+use Rattle.segments.proofs.Bounds.{before-38, entry-38}
 use Rattle.segments.proofs.beside_at.Statement.{statement}
 use Rattle.segments.proofs.beside_at.Tie as tie
 

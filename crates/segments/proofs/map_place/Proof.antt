@@ -2,7 +2,7 @@
 use mathlib.Core.Path.{sym}
 use Rattle.whole.specs.Whole.{read}
 use Rattle.segments.specs.Tables.{mapByTables}
-use Rattle.segments.proofs.Entries.{fits-36}
+use Rattle.segments.proofs.Bounds.{fits-36}
 use borrow.Author.Needs.{needs}
 use Rattle.segments.proofs.map_place.Statement.{statement}
 use Rattle.segments.proofs.map_place.Tie as tie

@@ -3,7 +3,8 @@ use mathlib.Core.Path.{refl, sym, _∙_}
 use borrow.Author.Needs.{needs}
 use Rattle.whole.specs.Whole.{read, fits-38}
 use Rattle.segments.specs.Places.{nearer}
-use Rattle.segments.proofs.Entries.{entry, negated, before-38, entry-38, kept-38, back-38}
+use Rattle.segments.specs.Entries.{entry}
+use Rattle.segments.proofs.Bounds.{negated, before-38, entry-38, kept-38, back-38}
 use Rattle.segments.proofs.nearer_edge.Statement.{statement}
 use Rattle.segments.proofs.nearer_edge.Tie as tie
 

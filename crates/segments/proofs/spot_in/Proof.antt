@@ -6,7 +6,8 @@ use borrow.Author.Tests.{ne-eqb}
 use Rattle.whole.specs.Whole.{read, fits-38}
 use Rattle.cigar.specs.Elements.{kindOf}
 use Rattle.segments.specs.Places.{spotIn}
-use Rattle.segments.proofs.Entries.{entry, kept-38, along-38, left-37, right-37, place-38}
+use Rattle.segments.specs.Entries.{entry}
+use Rattle.segments.proofs.Bounds.{kept-38, along-38, left-37, right-37, place-38}
 use Rattle.segments.proofs.spot_in.Statement.{statement}
 use Rattle.segments.proofs.spot_in.Tie as tie
 

@@ -1,16 +1,11 @@
--- Entries of a table as whole numbers, and how large the numbers of a spot can be. A place below 2 ^ 36 in size, an entry below 2 ^ 32 and a 1 come to less than 2 ^ 37. Assumes nothing.
-use Prim.Native.Nat.{ℕ, _+_, _<_, _^_}
+-- How large the numbers of a spot can be. A place below 2 ^ 36 in size, an entry below 2 ^ 32 and a 1 come to less than 2 ^ 37. Assumes nothing.
+use Prim.Native.Nat.{ℕ}
 use native.Mathlib.Omega.{arith}
 use mathlib.Core.Path.{_≡_}
 use lib.IntN.{ℤ, pos, negℤ, _+ℤ_, _-ℤ_}
-use borrow.Author.Tests.{lt-ltb}
 use mir.Syntax.{w32, w64}
-use mir.Val.{Fits, SFits, toZ}
+use mir.Val.{Fits, SFits}
 use Rattle.whole.specs.Whole.{Within, order, dif, neg, mag-sum, mag-dif}
-
--- what the machine reads from an entry that it widened is the entry
-pub entry : {x : ℕ} → Fits w32 x → toZ w64 x ≡ pos x
-entry {x} f = rw (lt-ltb x (2 ^ 63) (omega (arith, f .fits)))
 
 -- the machine's change of sign is the definition's
 pub negated : (z : ℤ) → pos 0 -ℤ z ≡ negℤ z

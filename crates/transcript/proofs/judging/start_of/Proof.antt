@@ -1,0 +1,14 @@
+-- `judging::start_of` meets its contract. Assumes nothing.
+use Rattle.whole.specs.Whole.{read}
+use borrow.Author.Needs.{needs}
+use Rattle.transcript.proofs.judging.start_of.Statement.{statement}
+use Rattle.transcript.proofs.judging.start_of.Tie as tie
+
+bound-of-requires : tie.Need-bound-of-requires
+bound-of-requires c κs = search needs
+
+returns : tie.Need-returns
+returns c = rw (read (c .before .fits .number)) at (c .bound-of .ensures)
+
+pub start-of-spec : {M : Type 1} → statement M
+start-of-spec = tie.close (tie.spec bound-of-requires returns)
