@@ -10,15 +10,14 @@ ghost use Rattle.fields.specs.Fields.{bytes16};
 ghost use Rattle.transcript.specs.Judging.{boundOf};
 ghost use Rattle.card.specs.Card.{strandByte, givenBit, cdsByte, boundNumber, headerText, isMarked, strandOf, numbersIn, isCard, readCard};
 use transcript::Bound;
+use transcript::judging;
+use transcript::judging::BOTH_BITS;
 use refusals::BAD_VERSION;
 use refusals::MOST_CARD;
 use refusals::NO_CARD;
 use refusals::TOO_MUCH;
 
 const VERSION: u32 = 1;
-
-// Both CDS bits.
-const BOTH_BITS: u32 = 3;
 
 // Where a card's numbers stand, and its records.
 const VERSION_AT: usize = 3;
@@ -108,6 +107,56 @@ fn number_of(bound: Bound) -> i32
         Bound::Given(number) => number,
         Bound::Absent => 0,
     }
+}
+
+// Whether a CDS bound is given or its number is 0.
+fn is_plain(bound: Bound, number: i32) -> bool
+    ensures { λ r. ⌜ r ≡ eqZ (boundNumber bound) number ⌝ }
+{
+    let written = number_of(bound) as i64;
+    written == number as i64
+}
+
+// Whether bytes with the mark and the version are a card.
+fn is_card(card: &[u8]) -> bool
+    ensures { λ r. ⌜ r ≡ isCard (now (card .entry)) ⌝ }
+{
+    if card.len() < RECORDS_AT {
+        return false;
+    }
+    if 1 < card[STRAND_AT] {
+        return false;
+    }
+    let n = read_numbers(card);
+    if BOTH_BITS < n.cds {
+        return false;
+    }
+    if is_plain(judging::start_of(n.cds, n.start), n.start) {
+        if is_plain(judging::end_of(n.cds, n.end), n.end) {
+            return records::are_records(n.count, &card[RECORDS_AT..]);
+        }
+        return false;
+    }
+    false
+}
+
+// The numbers of the input that a card holds, or a refusal.
+pub fn read_card(card: &[u8]) -> ReadCard
+    ensures { λ r. ⌜ r ≡ readCard (now (card .entry)) ⌝ }
+{
+    if MOST_CARD < card.len() {
+        return ReadCard::Refused(TOO_MUCH);
+    }
+    if is_marked(card) {
+        if fields::u16_at(card, VERSION_AT) == VERSION {
+            if is_card(card) {
+                return ReadCard::Card(read_numbers(card));
+            }
+            return ReadCard::Refused(NO_CARD);
+        }
+        return ReadCard::Refused(BAD_VERSION);
+    }
+    ReadCard::Refused(NO_CARD)
 }
 
 // Writes bytes from a place on.

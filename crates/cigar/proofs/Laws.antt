@@ -1,5 +1,4 @@
 -- Laws of CIGAR text that the proofs of several functions use.
---     digit-bounds    what the test of a digit says
 --     saturated       a count above the largest is as good as any other
 --     starts, nothing a place inside the text begins an element, and one past its end does not
 --     digit-step      the byte at a place is a digit
@@ -25,16 +24,6 @@ use Rattle.whole.specs.Whole.{if_then_else_}
 use Rattle.refusals.specs.Numbers.{noElement, mostCount}
 use Rattle.cigar.specs.Elements.{isLetter}
 use Rattle.cigar.specs.Text.{isDigit, countOf, finished, elementFrom, stepOf, stepAt}
-
--- both halves of a test
-pub both : (p q : Bool) → p && q ≡ true → (p ≡ true) × (q ≡ true)
-both true q e = (refl, e)
-both false q e = absurd (false≢true e)
-
-pub digit-bounds : (b : ℕ) → isDigit b ≡ true → (48 ≤ b) × (b ≤ 57)
-digit-bounds b e =
-    let h : (leb 48 b ≡ true) × (leb b 57 ≡ true) = both (leb 48 b) (leb b 57) e in
-    (leb-true 48 b (h .0), leb-true b 57 (h .1))
 
 -- two counts above the largest one are refused alike, whatever follows
 saturated : (n m : ℕ) → mostCount + 1 ≤ n → mostCount + 1 ≤ m → (at : ℕ) (s : List ℕ) → elementFrom true n at s ≡ elementFrom true m at s
