@@ -82,22 +82,18 @@ numbersIn s = record {
   count = le16 s countAt;
 }
 
--- the CDS bounds, given or not
-abbrev pub startIn : List ℕ → Bound
-startIn s = startOf (getD s cdsAt 0) (fieldAt s startAt)
+-- the number of a bound that is not given is 0
+unfoldable pub arePlain : ℕ → ℤ → ℤ → Bool
+arePlain cds start end = eqZ (boundNumber (startOf cds start)) start && eqZ (boundNumber (endOf cds end)) end
 
-abbrev pub endIn : List ℕ → Bound
-endIn s = endOf (getD s cdsAt 0) (fieldAt s endAt)
-
--- all else: the strand and CDS bytes are of those above, the number of a bound that is not given is 0, the records are just as many as the count says, and nothing follows
+-- all else: the strand and CDS bytes are of those above, so are the bounds' numbers, the records are just as many as the count says, and nothing follows
 unfoldable pub isCard : List ℕ → Bool
 isCard s =
     leb recordsAt (length s)
     && (leb (getD s strandAt 0) 1
     && (leb (getD s cdsAt 0) bothBits
-    && (eqZ (boundNumber (startIn s)) (fieldAt s startAt)
-    && (eqZ (boundNumber (endIn s)) (fieldAt s endAt)
-    && exactly (le16 s countAt) (drop recordsAt s) 0))))
+    && (arePlain (getD s cdsAt 0) (fieldAt s startAt) (fieldAt s endAt)
+    && exactly (le16 s countAt) (drop recordsAt s) 0)))
 
 -- document 01's order: 3 (size), 21 (under 5 bytes or wrong mark), 22, 21 (all else)
 unfoldable pub readCard : List ℕ → ReadCard

@@ -26,7 +26,7 @@ use Rattle.transcript.specs.Judging.{bothBits, boundOf, startOf, endOf}
 use Rattle.transcript.specs.declared.Bound.{Bound}
 use Rattle.transcript.specs.declared.Bound.the-variants.{Given, Absent}
 use Rattle.card.specs.Layout.{mark, version, versionAt, strandAt, cdsAt, startAt, endAt, countAt, recordsAt}
-use Rattle.card.specs.Card.{Input, strandByte, cdsByte, boundNumber, recordsText, headerText, cardText, isMarked, strandOf, numbersIn, startIn, endIn, isCard, readCard, inputOf, inputIn, Said, input, refused, said, cardSays}
+use Rattle.card.specs.Card.{Input, strandByte, cdsByte, boundNumber, recordsText, headerText, cardText, isMarked, strandOf, numbersIn, arePlain, isCard, readCard, inputOf, inputIn, Said, input, refused, said, cardSays}
 use Rattle.card.specs.Records.{AllFit, signed-back, from-laid, exactly-laid, from-length, field-laid, beside, laid-from}
 use Rattle.card.specs.declared.Numbers.{Numbers}
 use Rattle.card.specs.declared.ReadCard.{ReadCard}
@@ -125,6 +125,11 @@ module _ (i : Input) (f : InputFits i) where
   exactly-written : exactly (le16 (cardText i) countAt) (drop recordsAt (cardText i)) 0 ≡ true
   exactly-written = rw (count-written, records-written) (exactly-laid (recordsText (i .records)) 0 (f .records-fit) (omega arith) refl)
 
+  plain-written : arePlain (cdsByte (i .start) (i .end)) (boundNumber (i .start)) (boundNumber (i .end)) ≡ true
+  unfolding arePlain
+  plain-written =
+      rw (start-back (i .start) (i .end), same-yes (boundNumber (i .start)), end-back (i .start) (i .end), same-yes (boundNumber (i .end)))
+
   card-written : isCard (cardText i) ≡ true
   unfolding isCard
   card-written =
@@ -135,11 +140,8 @@ module _ (i : Input) (f : InputFits i) where
         cds-written,
         cds-small (i .start) (i .end),
         start-written,
-        start-back (i .start) (i .end),
-        same-yes (boundNumber (i .start)),
         end-written,
-        end-back (i .start) (i .end),
-        same-yes (boundNumber (i .end)),
+        plain-written,
         exactly-written,
       )
 
@@ -169,8 +171,8 @@ pub record IsCard (s : List ℕ) : Type 0 where
   pub long : recordsAt ≤ length s
   pub strand-low : getD s strandAt 0 ≤ 1
   pub cds-low : getD s cdsAt 0 ≤ bothBits
-  pub start-plain : boundNumber (startIn s) ≡ fieldAt s startAt
-  pub end-plain : boundNumber (endIn s) ≡ fieldAt s endAt
+  pub start-plain : boundNumber (startOf (getD s cdsAt 0) (fieldAt s startAt)) ≡ fieldAt s startAt
+  pub end-plain : boundNumber (endOf (getD s cdsAt 0) (fieldAt s endAt)) ≡ fieldAt s endAt
   pub exact : exactly (le16 s countAt) (drop recordsAt s) 0 ≡ true
 
 both : (p q : Bool) → p && q ≡ true → (p ≡ true) × (q ≡ true)
@@ -195,6 +197,12 @@ marked-means s e =
     three s (omega (arith, leb-true strandAt (length s) (l .0)))
     ∙ rw (eqb-true (getD s 0 0) 84 (a .0), eqb-true (getD s 1 0) 88 (b .0), eqb-true (getD s 2 0) 67 (b .1))
 
+plain-means : (b : ℕ) (z w : ℤ) → arePlain b z w ≡ true → (boundNumber (startOf b z) ≡ z) × (boundNumber (endOf b w) ≡ w)
+unfolding arePlain
+plain-means b z w e =
+    let a = both _ _ e in
+    (same-means (boundNumber (startOf b z)) z (a .0), same-means (boundNumber (endOf b w)) w (a .1))
+
 card-means : (s : List ℕ) → length s ≤ mostCard → isMarked s ≡ true → le16 s versionAt ≡ version → isCard s ≡ true → IsCard s
 unfolding isCard
 card-means s f m v e =
@@ -202,7 +210,7 @@ card-means s f m v e =
     let b = both _ _ (a .1) in
     let c = both _ _ (b .1) in
     let d = both _ _ (c .1) in
-    let x = both _ _ (d .1) in
+    let p = plain-means (getD s cdsAt 0) (fieldAt s startAt) (fieldAt s endAt) (d .0) in
     record {
       few = f;
       marked = marked-means s m;
@@ -210,9 +218,9 @@ card-means s f m v e =
       long = leb-true _ _ (a .0);
       strand-low = leb-true _ _ (b .0);
       cds-low = leb-true _ _ (c .0);
-      start-plain = same-means (boundNumber (startIn s)) (fieldAt s startAt) (d .0);
-      end-plain = same-means (boundNumber (endIn s)) (fieldAt s endAt) (x .0);
-      exact = x .1;
+      start-plain = p .0;
+      end-plain = p .1;
+      exact = d .1;
     }
 
 pub read-means : (s : List ℕ) (m : Numbers) → readCard s ≡ read.Card m → IsCard s × (m ≡ numbersIn s)

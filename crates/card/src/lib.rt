@@ -7,8 +7,7 @@ ghost use lib.Seq.{sets};
 ghost use Rattle.card.specs.Layout.{mark, version, startAt, recordsAt};
 ghost use Rattle.whole.specs.Whole.{eqZ};
 ghost use Rattle.fields.specs.Fields.{bytes16};
-ghost use Rattle.transcript.specs.Judging.{boundOf};
-ghost use Rattle.card.specs.Card.{strandByte, givenBit, cdsByte, boundNumber, headerText, isMarked, strandOf, numbersIn, isCard, readCard};
+ghost use Rattle.card.specs.Card.{strandByte, givenBit, cdsByte, boundNumber, headerText, isMarked, strandOf, numbersIn, arePlain, isCard, readCard};
 use transcript::Bound;
 use transcript::judging;
 use transcript::judging::BOTH_BITS;
@@ -109,12 +108,26 @@ fn number_of(bound: Bound) -> i32
     }
 }
 
-// Whether a CDS bound is given or its number is 0.
-fn is_plain(bound: Bound, number: i32) -> bool
-    ensures { λ r. ⌜ r ≡ eqZ (boundNumber bound) number ⌝ }
+// Whether two numbers are the same.
+fn is_same(a: i64, b: i64) -> bool
+    ensures { λ r. ⌜ r ≡ eqZ a b ⌝ }
 {
-    let written = number_of(bound) as i64;
-    written == number as i64
+    if a == b {
+        return true;
+    }
+    false
+}
+
+// Whether the number of a CDS bound that is not given is 0.
+fn are_plain(cds: u32, start: i32, end: i32) -> bool
+    ensures { λ r. ⌜ r ≡ arePlain cds start end ⌝ }
+{
+    let from = number_of(judging::start_of(cds, start));
+    let to = number_of(judging::end_of(cds, end));
+    if is_same(from as i64, start as i64) {
+        return is_same(to as i64, end as i64);
+    }
+    false
 }
 
 // Whether bytes with the mark and the version are a card.
@@ -131,11 +144,8 @@ fn is_card(card: &[u8]) -> bool
     if BOTH_BITS < n.cds {
         return false;
     }
-    if is_plain(judging::start_of(n.cds, n.start), n.start) {
-        if is_plain(judging::end_of(n.cds, n.end), n.end) {
-            return records::are_records(n.count, &card[RECORDS_AT..]);
-        }
-        return false;
+    if are_plain(n.cds, n.start, n.end) {
+        return records::are_records(n.count, &card[RECORDS_AT..]);
     }
     false
 }
