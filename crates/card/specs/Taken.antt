@@ -1,14 +1,18 @@
--- What building takes can be written: its card, where it fits, reads back as the same input. Assumes nothing.
+-- What building takes can be written, and its card, where it fits, reads back as the same input.
+--     taken-records, taken-few   what building has tested that a card needs
+--     taken-fits, taken-back     the input of numbers and bytes as the code has them
+--     text-is, text-length       its card is a header before the very bytes
+-- Assumes nothing.
 use mathlib.Core.Path.{_≡_, ap, _∙_}
 use mathlib.Core.Bool.{Bool, true, false}
 use mathlib.Core.Logic.{_⊎_, inl, inr}
-use mathlib.Core.List.{List}
-use Prim.Native.Nat.{ℕ, _%_, _≤_}
+use mathlib.Core.List.{List, _++_}
+use Prim.Native.Nat.{ℕ, _+_, _%_, _≤_}
 use native.Mathlib.Omega.{arith}
 use borrow.Author.Tests.{ltb-false}
 use lib.Dec.{eqb, ltb, leb}
 use lib.IntN.{ℤ, pos, negsuc}
-use lib.ListN.{length}
+use lib.ListN.{length, length-append}
 use mir.Syntax.{w32}
 use mir.Val.{SFits}
 use Rattle.refusals.specs.Numbers.{mostRecords, mostCard}
@@ -17,8 +21,9 @@ use Rattle.fields.specs.RoundTrips.{Bytes}
 use Rattle.records.specs.Records.{Record, exactly, recordsFrom}
 use Rattle.transcript.specs.Judging.{Judged, Made, refused as refuses, accepted, bothBits, boundOf, startOf, endOf, judgeOn, judgeRecords, judge}
 use Rattle.transcript.specs.declared.Bound.{Bound}
-use Rattle.card.specs.Card.{Input, boundNumber, cardText, inputOf, input, cardSays}
-use Rattle.card.specs.Records.{from-length, from-fit}
+use Rattle.card.specs.Layout.{recordsAt}
+use Rattle.card.specs.Card.{Input, boundNumber, headerText, cardText, inputOf, input, cardSays}
+use Rattle.card.specs.Records.{from-length, from-fit, laid-from}
 use Rattle.card.specs.RoundTrips.{InputFits, same-means, reads-back}
 
 never : {k : ℕ} {m : Made} {P : Type 0} → refuses k ≡ accepted m → P
@@ -49,8 +54,7 @@ bound-fits true z f = f
 bound-fits false z f = record { sfits = omega arith }
 
 -- numbers and bytes as the code has them, which building takes
-module _ (strand : ℤ) (cds : ℕ) (start end : ℤ) (n : ℕ) (s : List ℕ) {m : Made}
-  (start-fits : SFits w32 start) (end-fits : SFits w32 end) (bs : Bytes s) (takes : judge strand cds start end n s ≡ accepted m) where
+module _ (strand : ℤ) (cds : ℕ) (start end : ℤ) (n : ℕ) (s : List ℕ) {m : Made} (takes : judge strand cds start end n s ≡ accepted m) where
   judged : (exactly n s 0 ≡ true) × Tested strand (recordsFrom n s 0)
   unfolding judge
   judged =
@@ -60,8 +64,17 @@ module _ (strand : ℤ) (cds : ℕ) (start end : ℤ) (n : ℕ) (s : List ℕ) {
       (λ u. (u, records-tested strand (startOf cds start) (endOf cds end) (recordsFrom n s 0) (simp (t, u) at takes)))
       (λ u. never (simp (t, u) at takes)))
 
-  pub taken-fits : InputFits (inputOf strand cds start end n s)
-  taken-fits = record {
+  pub taken-records : exactly n s 0 ≡ true
+  taken-records = judged .0
+
+  pub taken-few : n ≤ mostRecords
+  taken-few = omega (arith, judged .1 .few, from-length n s 0)
+
+  abbrev given-input : Input
+  given-input = inputOf strand cds start end n s
+
+  pub taken-fits : SFits w32 start → SFits w32 end → Bytes s → InputFits given-input
+  taken-fits start-fits end-fits bs = record {
     strand-is = judged .1 .strand-is;
     start-fits = bound-fits (eqb (cds % 2) 1) start start-fits;
     end-fits = bound-fits (leb 2 cds) end end-fits;
@@ -69,5 +82,18 @@ module _ (strand : ℤ) (cds : ℕ) (start end : ℤ) (n : ℕ) (s : List ℕ) {
     records-fit = from-fit n s 0 bs (judged .0);
   }
 
-  pub taken-back : length (cardText (inputOf strand cds start end n s)) ≤ mostCard → cardSays (cardText (inputOf strand cds start end n s)) ≡ input (inputOf strand cds start end n s)
-  taken-back h = reads-back (inputOf strand cds start end n s) taken-fits h
+  -- what is written reads back as the same input
+  pub taken-back : SFits w32 start → SFits w32 end → Bytes s → length (cardText given-input) ≤ mostCard → cardSays (cardText given-input) ≡ input given-input
+  taken-back start-fits end-fits bs h = reads-back given-input (taken-fits start-fits end-fits bs) h
+
+-- the card of records as they lie
+pub text-is : (strand : ℤ) (cds : ℕ) (start end : ℤ) (n : ℕ) (s : List ℕ) → Bytes s → exactly n s 0 ≡ true
+    → cardText (inputOf strand cds start end n s) ≡ headerText strand (startOf cds start) (endOf cds end) n ++ s
+unfolding cardText
+text-is strand cds start end n s bs e = rw (from-length n s 0, laid-from n s 0 bs e)
+
+pub text-length : (strand : ℤ) (cds : ℕ) (start end : ℤ) (n : ℕ) (s : List ℕ) → Bytes s → exactly n s 0 ≡ true
+    → length (cardText (inputOf strand cds start end n s)) ≡ recordsAt + length s
+unfolding headerText
+text-length strand cds start end n s bs e =
+    ap length (text-is strand cds start end n s bs e) ∙ length-append (headerText strand (startOf cds start) (endOf cds end) n) s

@@ -1,19 +1,27 @@
 // A card: building's input as bytes. Reading, and then building; and writing into a lent buffer.
 ghost use mathlib.Core.Path.{_≡_};
 ghost use Prim.Native.Nat.{_+_, _≤_};
+ghost use mathlib.Core.Bool.{true};
 ghost use mathlib.Core.List.{[], _∷_, _++_};
 ghost use lib.ListN.{length};
 ghost use lib.Seq.{sets};
+ghost use Rattle.refusals.specs.Numbers.{mostRecords};
+ghost use Rattle.cigar.specs.Write.{answerOf, bufferAfter};
+ghost use Rattle.records.specs.Records.{exactly};
 ghost use Rattle.card.specs.Layout.{mark, version, startAt, recordsAt};
 ghost use Rattle.whole.specs.Whole.{eqZ};
 ghost use Rattle.fields.specs.Fields.{bytes16};
-ghost use Rattle.card.specs.Card.{strandByte, givenBit, cdsByte, boundNumber, headerText, isMarked, strandOf, numbersIn, arePlain, isCard, readCard};
+ghost use Rattle.card.specs.Card.{strandByte, givenBit, cdsByte, boundNumber, headerText, cardText, isMarked, strandOf, numbersIn, arePlain, isCard, readCard, inputOf};
+ghost use Rattle.card.specs.Writing.{fitted, cardWriting};
+use cigar::write::Written;
 use transcript::Bound;
 use transcript::judging;
 use transcript::judging::BOTH_BITS;
+use transcript::reading::Tally;
 use refusals::BAD_VERSION;
 use refusals::MOST_CARD;
 use refusals::NO_CARD;
+use refusals::NO_ROOM;
 use refusals::TOO_MUCH;
 
 const VERSION: u32 = 1;
@@ -228,4 +236,51 @@ fn put_header(buffer: &mut [u8], strand: i32, start: Bound, end: Bound, count: u
     fields::put_i32(buffer, START_AT, number_of(start));
     fields::put_i32(buffer, END_AT, number_of(end));
     fields::put_u16(buffer, COUNT_AT, count);
+}
+
+// The card of records that stand in bytes, unless it is too large (3) or too long for the buffer (20).
+fn write_taken(
+    strand: i32,
+    cds: u32,
+    start: i32,
+    end: i32,
+    count: usize,
+    records: &[u8],
+    buffer: &mut [u8],
+) -> Written
+    requires { ⌜ (count ≤ mostRecords) × (exactly count (now records) 0 ≡ true) ⌝ }
+    ensures { λ r. ⌜ r ≡ answerOf (fitted (length (now (buffer .entry))) (cardText (inputOf strand cds start end count (now (records .entry))))) ⌝ }
+    ensures { λ _. ⌜ now (buffer .exit) ≡ bufferAfter (now (buffer .entry)) (fitted (length (now (buffer .entry))) (cardText (inputOf strand cds start end count (now (records .entry))))) ⌝ }
+{
+    let size = RECORDS_AT + records.len();
+    if MOST_CARD < size {
+        return Written::Refused(TOO_MUCH);
+    }
+    if buffer.len() < size {
+        return Written::Refused(NO_ROOM);
+    }
+    let from = judging::start_of(cds, start);
+    let to = judging::end_of(cds, end);
+    put_header(buffer, strand, from, to, count as u32);
+    put_bytes(buffer, RECORDS_AT, records);
+    Written::Text(size)
+}
+
+// The card of building's input at the front of a lent buffer, or a refusal, which leaves the buffer as it is.
+pub fn write_card(
+    strand: i32,
+    cds: u32,
+    start: i32,
+    end: i32,
+    count: usize,
+    records: &[u8],
+    buffer: &mut [u8],
+) -> Written
+    ensures { λ r. ⌜ r ≡ answerOf (cardWriting strand cds start end count (now (records .entry)) (length (now (buffer .entry)))) ⌝ }
+    ensures { λ _. ⌜ now (buffer .exit) ≡ bufferAfter (now (buffer .entry)) (cardWriting strand cds start end count (now (records .entry)) (length (now (buffer .entry)))) ⌝ }
+{
+    match judging::judge(strand, cds, start, end, count, records) {
+        Tally::Sums(_) => write_taken(strand, cds, start, end, count, records, buffer),
+        Tally::Refused(k) => Written::Refused(k),
+    }
 }
