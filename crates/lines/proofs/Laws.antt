@@ -6,7 +6,7 @@ use Prim.Native.Nat.{ℕ, zero, suc, _+_}
 use native.Mathlib.Nat.{add-zero, zero-add}
 use native.Mathlib.Omega.{arith}
 use native.Mathlib.Numerals.{add-one}
-use Rattle.lines.specs.Listing.{lineAt, linesFrom}
+use Rattle.lines.specs.Tables.{lineAt, linesFrom}
 
 module _ (g t l : List ℕ) where
   -- no line, and one line more at the end

@@ -4,7 +4,9 @@ ghost use Prim.Native.Nat.{_+_, _*_, _-_, _≤_, _<_, max};
 ghost use lib.ListN.{length, getD};
 ghost use lib.Seq.{sets};
 ghost use Rattle.refusals.specs.Numbers.{mostSegments};
-ghost use Rattle.lines.specs.Listing.{numberText, numbersText, signOf, headerText, lineAt, linesFrom, listingText, refusalText};
+ghost use Rattle.lines.specs.Listing.{numberText, numbersText, signOf, headerText, listingText, refusalText};
+ghost use Rattle.lines.specs.Tables.{lineAt, linesFrom};
+ghost use Rattle.segments.specs.Tables.{Holds, read};
 ghost use Rattle.card.specs.Putting.{Put};
 ghost use Rattle.lines.specs.Lengths.{mostHeader, mostLine, mostListing};
 use refusals::MOST_SEGMENTS;
@@ -138,7 +140,8 @@ pub fn put_listing(
     letters: &[u8; MOST_SEGMENTS],
 ) -> usize
     requires { ⌜ (count ≤ mostSegments) × (mostListing ≤ length (now buffer)) ⌝ }
-    ensures { λ r. ⌜ Put (now (buffer .entry)) (now (buffer .exit)) 0 r (listingText forward count (now (genome .entry)) (now (transcript .entry)) (now (letters .entry))) ⌝ }
+    requires { ⌜ Holds (now genome) (now transcript) (now letters) count ⌝ }
+    ensures { λ r. ⌜ Put (now (buffer .entry)) (now (buffer .exit)) 0 r (listingText forward (read (now (genome .entry)) (now (transcript .entry)) (now (letters .entry)) count)) ⌝ }
     ensures within { λ r. ⌜ r ≤ mostListing ⌝ }
 {
     let header = put_header(buffer, forward, count as u32, genome[count], transcript[count]);

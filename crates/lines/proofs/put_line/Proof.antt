@@ -2,7 +2,7 @@
 -- Assumes nothing.
 use native.Mathlib.Omega.{arith}
 use lib.ListN.{length-set}
-use Rattle.lines.specs.Listing.{lineAt}
+use Rattle.lines.specs.Tables.{lineAt}
 use Rattle.card.specs.Putting.{Put, byte-put, then-put, put-length}
 use borrow.Author.Needs.{needs}
 use Rattle.lines.proofs.put_line.Statement.{statement}

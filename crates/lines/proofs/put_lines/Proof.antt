@@ -4,7 +4,7 @@ use mathlib.Core.Path.{_≡_}
 use native.Mathlib.Omega.{arith}
 use Prim.Native.Nat.{_+_, _*_, _-_, _≤_}
 use lib.ListN.{length}
-use Rattle.lines.specs.Listing.{linesFrom}
+use Rattle.lines.specs.Tables.{linesFrom}
 use Rattle.lines.specs.Lengths.{mostLine}
 use Rattle.card.specs.Putting.{Put, none-put, then-put, put-length}
 use Rattle.lines.proofs.Laws.{lines-none, lines-more}
