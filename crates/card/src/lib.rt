@@ -14,25 +14,31 @@ ghost use Rattle.fields.specs.Fields.{bytes16};
 ghost use Rattle.card.specs.Card.{strandByte, givenBit, cdsByte, boundNumber, headerText, cardText, isMarked, strandOf, numbersIn, arePlain, isCard, readCard, inputOf};
 ghost use Rattle.card.specs.Writing.{fitted, cardWriting};
 use cigar::write::Written;
-use transcript::Bound;
-use transcript::judging;
-use transcript::judging::BOTH_BITS;
-use transcript::reading::Tally;
 use refusals::BAD_VERSION;
 use refusals::MOST_CARD;
 use refusals::NO_CARD;
 use refusals::NO_ROOM;
 use refusals::TOO_MUCH;
+use transcript::Bound;
+use transcript::judging;
+use transcript::judging::BOTH_BITS;
+use transcript::reading::Tally;
 
 const VERSION: u32 = 1;
 
 // Where a card's numbers stand, and its records.
 const VERSION_AT: usize = 3;
+
 const STRAND_AT: usize = 5;
+
 const CDS_AT: usize = 6;
+
 const START_AT: usize = 7;
+
 const END_AT: usize = 11;
+
 const COUNT_AT: usize = 15;
+
 pub const RECORDS_AT: usize = 17;
 
 // The numbers of building's input as a card holds them. Its records are the card's bytes from RECORDS_AT on.

@@ -113,13 +113,7 @@ fn sign(forward: bool) -> u8
 }
 
 // The header. Returns the place after it.
-fn put_header(
-    buffer: &mut [u8],
-    forward: bool,
-    count: u32,
-    genome: u32,
-    transcript: u32,
-) -> usize
+fn put_header(buffer: &mut [u8], forward: bool, count: u32, genome: u32, transcript: u32) -> usize
     requires { ⌜ mostHeader ≤ length (now buffer) ⌝ }
     ensures { λ r. ⌜ Put (now (buffer .entry)) (now (buffer .exit)) 0 r (headerText forward count genome transcript) ⌝ }
     ensures within { λ r. ⌜ r ≤ mostHeader ⌝ }
@@ -144,7 +138,13 @@ pub fn put_listing(
     ensures { λ r. ⌜ Put (now (buffer .entry)) (now (buffer .exit)) 0 r (listingText forward (read (now (genome .entry)) (now (transcript .entry)) (now (letters .entry)) count)) ⌝ }
     ensures within { λ r. ⌜ r ≤ mostListing ⌝ }
 {
-    let header = put_header(buffer, forward, count as u32, genome[count], transcript[count]);
+    let header = put_header(
+        buffer,
+        forward,
+        count as u32,
+        genome[count],
+        transcript[count],
+    );
     put_lines(buffer, header, count, genome, transcript, letters)
 }
 
@@ -161,7 +161,7 @@ pub fn put_refusal(buffer: &mut [u8], number: u8) -> usize
     buffer[4] = b's';
     buffer[5] = b'e';
     buffer[6] = b'd';
-    let end = put_number(buffer, 7, number as u32);
-    buffer[end] = b'\n';
-    end + 1
+    let last = put_number(buffer, 7, number as u32);
+    buffer[last] = b'\n';
+    last + 1
 }

@@ -43,7 +43,7 @@ loop-again c =
     let l = c .before .before .loop in
     let n : length (take (l .i) (a .bytes .now)) ≡ l .i = length-take-le (l .i) (a .bytes .now) (l .inv .0) in
     let more : take (l .i + 1) (a .bytes .now) ≡ take (l .i) (a .bytes .now) ++ getD (a .bytes .now) (l .i) 0 ∷ [] =
-        rw (add-one (l .i)) (take-suc (a .bytes .now) (l .i) 0 (c .before .loop-test .taken)) in (
+    rw (add-one (l .i)) (take-suc (a .bytes .now) (l .i) 0 (c .before .loop-test .taken)) in (
       omega arith,
       length-set (l .buffer) _ _ ∙ l .inv .1,
       rw (more, sets-snoc (take (l .i) (a .bytes .now)) (a .buffer .now) (a .at) (getD (a .bytes .now) (l .i) 0), n)
