@@ -131,7 +131,7 @@ fn last_fault(start: Bound, end: Bound, first: u32, sums: Sums) -> u8
 }
 
 // The number of a bound, 0 where it is not given.
-fn number_of(bound: Bound) -> i32
+pub fn number_of(bound: Bound) -> i32
     ensures { λ r. ⌜ r ≡ numberOf bound ⌝ }
 {
     match bound {
