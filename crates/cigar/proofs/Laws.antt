@@ -1,5 +1,4 @@
 -- Laws of CIGAR text that the proofs of several functions use.
---     digit-bounds    what the test of a digit says
 --     saturated       a count above the largest is as good as any other
 --     starts, nothing a place inside the text begins an element, and one past its end does not
 --     digit-step      the byte at a place is a digit
@@ -8,33 +7,22 @@
 --     cut-off         the text ends inside an element
 -- Assumes nothing.
 use mathlib.Core.Path.{_≡_, refl, ap₂}
-use mathlib.Core.Bool.{Bool, true, false, _&&_, false≢true}
+use mathlib.Core.Bool.{Bool, true, false}
 use mathlib.Core.List.{List, [], _∷_}
 use Prim.Native.Nat.{ℕ, _+_, _*_, _-_, _≤_, _<_, min}
 use native.Mathlib.Nat.{min-eq-left}
 use native.Mathlib.Decide.{decLe}
 use native.Mathlib.Numerals.{add-one}
 use native.Mathlib.Omega.{arith}
-use lib.Dec.{leb}
 use lib.ListN.{length, getD, drop, drop-of-length-le}
 use lib.Seq.{drop-cons}
-use borrow.Author.Tests.{lt-ltb, leb-true}
+use borrow.Author.Tests.{lt-ltb}
 use Rattle.cigar.specs.declared.Step.{Step}
 use Rattle.cigar.specs.declared.Step.the-variants.{Refused, End}
 use Rattle.whole.specs.Whole.{if_then_else_}
 use Rattle.refusals.specs.Numbers.{noElement, mostCount}
 use Rattle.cigar.specs.Elements.{isLetter}
 use Rattle.cigar.specs.Text.{isDigit, countOf, finished, elementFrom, stepOf, stepAt}
-
--- both halves of a test
-pub both : (p q : Bool) → p && q ≡ true → (p ≡ true) × (q ≡ true)
-both true q e = (refl, e)
-both false q e = absurd (false≢true e)
-
-pub digit-bounds : (b : ℕ) → isDigit b ≡ true → (48 ≤ b) × (b ≤ 57)
-digit-bounds b e =
-    let h : (leb 48 b ≡ true) × (leb b 57 ≡ true) = both (leb 48 b) (leb b 57) e in
-    (leb-true 48 b (h .0), leb-true b 57 (h .1))
 
 -- two counts above the largest one are refused alike, whatever follows
 saturated : (n m : ℕ) → mostCount + 1 ≤ n → mostCount + 1 ≤ m → (at : ℕ) (s : List ℕ) → elementFrom true n at s ≡ elementFrom true m at s

@@ -96,7 +96,7 @@ moves text at h = go (drop at text) (length-drop at text)
     go [] e = tt
     go (b ∷ s) e = element-moves (b ∷ s) false 0 at (length text) (omega arith)
 
-answered-before : (x : Element) (r : Reading) → Answered (before x r) → Answered r × (elementsIn (before x r) ≡ x ∷ elementsIn r)
+pub answered-before : (x : Element) (r : Reading) → Answered (before x r) → Answered r × (elementsIn (before x r) ≡ x ∷ elementsIn r)
 answered-before x (elements es) h = (tt, refl)
 answered-before x (refused k) h = absurd h
 
