@@ -1,28 +1,25 @@
--- Laws of the common prefix that the proofs of several functions use. `Upto s t i` is both loops' invariant: the first i bytes agree.
---     upto-none       where a loop begins
---     upto-more       the bytes at i agree too
---     upto-ends-s, -t one of the lists ends at i
---     upto-differs    the bytes at i differ
+-- How both loops count what two lists have in common. `Upto s t i` is their invariant: the first i bytes agree.
+--     upto-more          the bytes at i agree too
+--     upto-ends-s, -t    one of the lists ends at i
+--     upto-differs       the bytes at i differ
+--     getD-reverse       the i-th byte from the back
 -- Assumes nothing.
-use mathlib.Core.Path.{_≡_, refl, sym, ap, _∙_}
+use mathlib.Core.Path.{_≡_, refl, ap, _∙_}
 use mathlib.Core.List.{List, [], _∷_, reverse, reverse-cons}
 use Prim.Native.Nat.{ℕ, suc, _+_, _-_, _≤_, _<_}
-use native.Mathlib.Nat.{zero-add, add-zero}
+use native.Mathlib.Nat.{add-zero}
 use native.Mathlib.Decide.{decLt}
 use native.Mathlib.Numerals.{add-one}
 use native.Mathlib.Omega.{arith}
 use lib.ListN.{length, getD, drop, drop-of-length-le, length-reverse, List·getD-append}
 use lib.Seq.{drop-cons, getD-at}
 use borrow.Author.Tests.{eq-eqb, ne-eqb}
-use Rattle.sequences.specs.Trim.{prefixLen}
+use Rattle.sequences.specs.Alleles.{prefixLen}
 
 pub record Upto (s t : List ℕ) (i : ℕ) : Type 0 where
   pub in-s : i ≤ length s
   pub in-t : i ≤ length t
   pub agree : prefixLen s t ≡ i + prefixLen (drop i s) (drop i t)
-
-pub upto-none : (s t : List ℕ) → Upto s t 0
-upto-none s t = record { in-s = omega arith; in-t = omega arith; agree = sym (zero-add (prefixLen s t)) }
 
 -- one byte of each list in front
 cons-same : (a b : ℕ) (s t : List ℕ) → a ≡ b → prefixLen (a ∷ s) (b ∷ t) ≡ suc (prefixLen s t)
