@@ -4,7 +4,7 @@ ghost use lib.ListN.{length};
 ghost use Rattle.cigar.specs.Write.{answerOf as writtenOf, bufferAfter};
 ghost use Rattle.transcript.specs.Judging.{judge, judgeLength};
 ghost use Rattle.transcript.specs.Outcome.{answerOf, lengthAnswer, genomeAfter, transcriptAfter, lettersAfter};
-ghost use Rattle.card.specs.Writing.{cardWriting};
+ghost use Rattle.card.specs.Writing.{cardWriting, judgeCard};
 ghost use Rattle.entry.specs.Boundary.{headRow, builtNumber, builtHead, writtenLaid};
 use crate::lay::Length;
 use cigar::write::Written;
@@ -74,6 +74,25 @@ pub extern "C" fn txc_build(
         transcript,
         letters,
     );
+    lay_built(built, head)
+}
+
+// A transcript from a card: 0, or a refusal's number.
+#[no_mangle]
+pub extern "C" fn txc_build_card(
+    card: &[u8],
+    head: &mut [i32; 8],
+    genome: &mut [u32; MOST_STARTS],
+    transcript: &mut [u32; MOST_STARTS],
+    letters: &mut [u8; MOST_SEGMENTS],
+) -> u32
+    ensures { λ r. ⌜ r ≡ builtNumber (answerOf (judgeCard (now (card .entry)))) ⌝ }
+    ensures { λ _. ⌜ now (head .exit) ≡ builtHead (answerOf (judgeCard (now (card .entry)))) (now (head .entry)) ⌝ }
+    ensures { λ _. ⌜ now (genome .exit) ≡ genomeAfter (judgeCard (now (card .entry))) (now (genome .entry)) ⌝ }
+    ensures { λ _. ⌜ now (transcript .exit) ≡ transcriptAfter (judgeCard (now (card .entry))) (now (transcript .entry)) ⌝ }
+    ensures { λ _. ⌜ now (letters .exit) ≡ lettersAfter (judgeCard (now (card .entry))) (now (letters .entry)) ⌝ }
+{
+    let built = card::build_card(card, genome, transcript, letters);
     lay_built(built, head)
 }
 
