@@ -3,8 +3,9 @@
 --     none-put, byte-put   no byte, and one
 --     then-put             two texts in a row
 --     put-length           the buffer keeps its length
+--     put-as               the text by another name
 -- Assumes nothing.
-use mathlib.Core.Path.{_≡_, refl, sym, ap, _∙_}
+use mathlib.Core.Path.{_≡_, refl, sym, ap, subst, _∙_}
 use mathlib.Core.List.{List, [], _∷_, _++_}
 use Prim.Native.Nat.{ℕ, _+_}
 use native.Mathlib.Nat.{add-zero}
@@ -32,3 +33,7 @@ module _ {before between after : List ℕ} {at middle next : ℕ} {s t : List �
 
 pub put-length : {before after : List ℕ} {at next : ℕ} {text : List ℕ} → Put before after at next text → length after ≡ length before
 put-length {before} {after} {at} {next} {text} h = ap length (h .stored) ∙ length-sets before at text
+
+-- the text by another name
+pub put-as : {before after : List ℕ} {at next : ℕ} {s t : List ℕ} → s ≡ t → Put before after at next s → Put before after at next t
+put-as {before} {after} {at} {next} e h = subst (λ (text : List ℕ). Put before after at next text) e h

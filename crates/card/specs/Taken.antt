@@ -2,6 +2,7 @@
 --     taken-records, taken-few   what building has tested that a card needs
 --     taken-fits, taken-back     the input of numbers and bytes as the code has them
 --     text-is, text-length       its card is a header before the very bytes
+--     card-sane                  what a card makes
 -- Assumes nothing.
 use mathlib.Core.Path.{_≡_, ap, _∙_}
 use mathlib.Core.Bool.{Bool, true, false}
@@ -11,7 +12,7 @@ use Prim.Native.Nat.{ℕ, _+_, _%_, _≤_}
 use native.Mathlib.Omega.{arith}
 use lib.Dec.{eqb, leb}
 use lib.IntN.{ℤ, pos, negsuc}
-use lib.ListN.{length, length-append}
+use lib.ListN.{length, drop, length-append}
 use mir.Syntax.{w32}
 use mir.Val.{SFits}
 use Rattle.refusals.specs.Numbers.{mostRecords, mostCard}
@@ -19,9 +20,12 @@ use Rattle.fields.specs.RoundTrips.{Bytes}
 use Rattle.records.specs.Records.{exactly}
 use Rattle.transcript.specs.Judging.{Made, accepted, boundOf, startOf, endOf, judge}
 use Rattle.transcript.specs.Outcome.{strandOf, numberOf}
-use Rattle.transcript.specs.Accepted.{Accepted, accepted-means}
+use Rattle.transcript.specs.Accepted.{Accepted, accepted-means, Sane, judged-sane}
 use Rattle.card.specs.Layout.{recordsAt}
-use Rattle.card.specs.Card.{Input, headerText, cardText, inputOf, input, cardSays}
+use Rattle.card.specs.Card.{Input, headerText, cardText, readCard, inputOf, input, cardSays}
+use Rattle.card.specs.Writing.{judgeRead, judgeCard}
+use Rattle.card.specs.declared.ReadCard.{ReadCard}
+use Rattle.card.specs.declared.ReadCard.the-variants as read
 use Rattle.card.specs.Records.{from-length, from-fit, laid-from}
 use Rattle.card.specs.RoundTrips.{InputFits, reads-back}
 
@@ -71,3 +75,11 @@ pub text-length : (strand : ℤ) (cds : ℕ) (start end : ℤ) (n : ℕ) (s : Li
 unfolding headerText
 text-length strand cds start end n s bs e =
     ap length (text-is strand cds start end n s bs e) ∙ length-append (headerText strand (startOf cds start) (endOf cds end) n) s
+
+-- what a card makes is as building's judgment says
+pub card-sane : (s : List ℕ) (m : Made) → judgeCard s ≡ accepted m → Sane m
+card-sane s m e = go (readCard s) e
+  where
+    go : (r : ReadCard) → judgeRead s r ≡ accepted m → Sane m
+    go (read.Card n) h = judged-sane (n .strand) (n .cds) (n .start) (n .end) (n .count) (drop recordsAt s) m h
+    go (read.Refused k) h = absurd (let z : _≡_ {A = ℕ} 0 1 = cc in omega arith)

@@ -1,16 +1,22 @@
 // The listing of a transcript as text in a lent buffer: a header, and a line for each segment.
 ghost use mathlib.Core.Path.{_≡_};
+ghost use mathlib.Core.Bool.{true};
 ghost use Prim.Native.Nat.{_+_, _*_, _-_, _≤_, _<_, max};
 ghost use lib.ListN.{length, getD};
-ghost use lib.Seq.{sets};
+ghost use lib.IntN.{pos, natAbs};
+ghost use lib.Signed.{leZ};
+ghost use Rattle.whole.specs.Whole.{eqZ};
 ghost use Rattle.refusals.specs.Numbers.{mostSegments};
-ghost use Rattle.lines.specs.Listing.{numberText, numbersText, signOf, headerText, listingText, refusalText};
+ghost use Rattle.lines.specs.Listing.{numberText, numbersText, signOf, headerText, listingText, refusalText, judgmentText};
 ghost use Rattle.lines.specs.Tables.{lineAt, linesFrom};
 ghost use Rattle.segments.specs.Tables.{Holds, read};
+ghost use Rattle.transcript.specs.Outcome.{genomeAfter, transcriptAfter, lettersAfter};
 ghost use Rattle.card.specs.Putting.{Put};
+ghost use Rattle.card.specs.Writing.{judgeCard};
 ghost use Rattle.lines.specs.Lengths.{mostHeader, mostLine, mostListing};
 use refusals::MOST_SEGMENTS;
 use refusals::MOST_STARTS;
+use transcript::Built;
 
 // The most bytes of a listing.
 pub const MOST_LISTING: usize = 39 + 35 * MOST_SEGMENTS;
@@ -164,4 +170,48 @@ pub fn put_refusal(buffer: &mut [u8], number: u8) -> usize
     let last = put_number(buffer, 7, number as u32);
     buffer[last] = b'\n';
     last + 1
+}
+
+// Whether a strand is 1.
+fn is_plus(strand: i64) -> bool
+    ensures { λ r. ⌜ r ≡ eqZ strand (pos 1) ⌝ }
+{
+    if strand == 1 {
+        return true;
+    }
+    false
+}
+
+// A head's count of segments.
+fn count_in(count: i32) -> usize
+    requires { ⌜ leZ (pos 0) count ≡ true ⌝ }
+    ensures { λ r. ⌜ r ≡ natAbs count ⌝ }
+{
+    count as usize
+}
+
+// What a card is listed as, at the front of a buffer that has room for any: the listing of what it makes, or the line of a refusal.
+// The tables are left as building leaves them. Returns the text's length.
+pub fn list_card(
+    card: &[u8],
+    genome: &mut [u32; MOST_STARTS],
+    transcript: &mut [u32; MOST_STARTS],
+    letters: &mut [u8; MOST_SEGMENTS],
+    buffer: &mut [u8],
+) -> usize
+    requires { ⌜ mostListing ≤ length (now buffer) ⌝ }
+    ensures { λ r. ⌜ Put (now (buffer .entry)) (now (buffer .exit)) 0 r (judgmentText (judgeCard (now (card .entry)))) ⌝ }
+    ensures within { λ r. ⌜ r ≤ mostListing ⌝ }
+    ensures { λ _. ⌜ now (genome .exit) ≡ genomeAfter (judgeCard (now (card .entry))) (now (genome .entry)) ⌝ }
+    ensures { λ _. ⌜ now (transcript .exit) ≡ transcriptAfter (judgeCard (now (card .entry))) (now (transcript .entry)) ⌝ }
+    ensures { λ _. ⌜ now (letters .exit) ≡ lettersAfter (judgeCard (now (card .entry))) (now (letters .entry)) ⌝ }
+{
+    match card::build_card(card, genome, transcript, letters) {
+        Built::Transcript(head) => {
+            let forward = is_plus(head.strand as i64);
+            let count = count_in(head.count);
+            put_listing(buffer, forward, count, genome, transcript, letters)
+        }
+        Built::Refused(k) => put_refusal(buffer, k),
+    }
 }
