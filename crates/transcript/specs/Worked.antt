@@ -15,7 +15,7 @@ use Rattle.transcript.specs.Transcript.{Cds}
 use Rattle.transcript.specs.Transcript.Cds.{noCds, cds}
 use Rattle.transcript.specs.Building.{Exon, elementsOf, elementsAfter, partsOf, firstStart}
 use Rattle.transcript.specs.Reading.{exonsOf, exonsAfter, readFirst, readNext}
-use Rattle.transcript.specs.Judging.{Judged, Made, Measured, refused, accepted, judge, judgeRecords, judgeOn, judgeLength, lengthFault, lastFault, rangeFault}
+use Rattle.transcript.specs.Judging.{Judged, Made, refused, accepted, judge, judgeRecords, judgeOn, judgeLength, lengthFault, lastFault, rangeFault}
 
 -- ---- what is judged
 
