@@ -2,7 +2,7 @@
 use mathlib.Core.Path.{_≡_, refl, sym, ap, subst, _∙_}
 use mathlib.Core.Bool.{Bool, true, false}
 use mathlib.Core.List.{List}
-use Prim.Native.Nat.{ℕ, _≤_, _<_}
+use Prim.Native.Nat.{ℕ, _≤_}
 use native.Mathlib.Omega.{arith}
 use lib.IntN.{ℤ, pos, negsuc, natAbs}
 use lib.ListN.{length}
@@ -12,13 +12,13 @@ use Rattle.records.specs.Layout.{altStart}
 use Rattle.records.specs.Records.{fieldAt, recordAt, recordsFrom}
 use Rattle.records.specs.Walk.{Ready, ready, records-length}
 use Rattle.cigar.specs.Elements.{total, transcript}
-use Rattle.transcript.specs.Building.{firstStart, elementsOf}
+use Rattle.transcript.specs.Building.{firstStart}
 use Rattle.transcript.specs.Reading.{exonsOf}
-use Rattle.transcript.specs.Judging.{Judged, Made, Measured, refused, accepted, bothBits, startOf, endOf, judge, judgeLength}
+use Rattle.transcript.specs.Judging.{Judged, Made, Measured, refused, accepted, bothBits, startOf, endOf, judge}
 use Rattle.transcript.specs.Tallies.{sumsOf, talliedAll, toldOf}
 use Rattle.transcript.specs.Filling.{Tables, elementsAll, Small}
-use Rattle.transcript.specs.Outcome.{numberOf, withCds, bareHead, strandOf, elementsMade, headOf, lengthHead, bitsOf, startIn, endIn, tablesAfter, genomeAfter, transcriptAfter, lettersAfter}
-use Rattle.transcript.specs.Accepted.{Accepted, accepted-means, Sane, judged-sane, CdsPass, cds-pass, bits-are, LastPass, last-pass, Measures}
+use Rattle.transcript.specs.Outcome.{withCds, bareHead, strandOf, elementsMade, headOf, lengthHead, bitsOf, startIn, endIn, tablesAfter, genomeAfter, transcriptAfter, lettersAfter}
+use Rattle.transcript.specs.Accepted.{Accepted, accepted-means, judged-sane, cds-pass, bits-are, last-pass, Measures}
 use Rattle.transcript.specs.declared.Head.{Head}
 use Rattle.transcript.specs.declared.reading.Sums.{Sums}
 use Rattle.transcript.specs.declared.reading.Tally.the-variants as tally

@@ -5,28 +5,28 @@
 -- Assumes nothing.
 use Prim.Native.Nat.{ℕ, zero, suc, _+_, _-_, _%_, _≤_, _<_}
 use native.Mathlib.Omega.{arith}
-use mathlib.Core.Bool.{Bool, true, false, cond, not}
-use mathlib.Core.List.{List, [], _∷_, _++_}
-use mathlib.Core.Path.{_≡_, refl, sym, ap, subst, _∙_}
+use mathlib.Core.Bool.{Bool, true, false}
+use mathlib.Core.List.{List, [], _∷_}
+use mathlib.Core.Path.{_≡_, refl, sym, ap}
 use lib.Dec.{eqb, ltb, leb}
 use lib.IntN.{ℤ, pos, negsuc, natAbs}
 use lib.ListN.{length, length-append, length-reverse}
 use lib.Signed.{ltZ}
 use borrow.Author.Tests.{eqb-true, eqb-false, ltb-true, ltb-false, leb-true, leb-false}
 use Rattle.refusals.specs.Numbers.{mostRecords, mostSegments, mostText, mostBases}
-use Rattle.whole.specs.Whole.{if_then_else_, by-test, order, eqZ, eq-by, eq-yes-says}
+use Rattle.whole.specs.Whole.{by-test, order, eqZ, eq-by, eq-yes-says}
 use Rattle.cigar.specs.Elements.{Element, isLetter, genome, transcript, total}
 use Rattle.cigar.specs.Text.{Reading, elements, refused as unread, readAll}
 use Rattle.cigar.specs.Sound.{AllSound, read-sound, read-room}
 use Rattle.segments.specs.Made.{Lettered, lettered-append, lettered-reverse}
 use Rattle.records.specs.Records.{Record, exactly, recordsFrom}
-use Rattle.records.specs.Faults.{_orElse_, faults, faultsAfter, ownFault}
+use Rattle.records.specs.Faults.{faults, faultsAfter, ownFault}
 use Rattle.records.specs.Chain.{clear}
-use Rattle.records.specs.Walk.{Beside, beside-order, Ordered, ordered}
+use Rattle.records.specs.Walk.{beside-order, Ordered, ordered}
 use Rattle.transcript.specs.Transcript.{Cds}
 use Rattle.transcript.specs.Transcript.Cds.{noCds, cds}
-use Rattle.transcript.specs.Building.{Exon, partsOf, gap, elementsAfter, elementsOf, firstStart}
-use Rattle.transcript.specs.Reading.{startOf as genomeStart, endOf as genomeEnd, exonOf, Exons, exons, denied, beforeAll, andThen, readFirst, readNext, exonsAfter, exonsOf}
+use Rattle.transcript.specs.Building.{Exon, partsOf, elementsAfter, elementsOf, firstStart}
+use Rattle.transcript.specs.Reading.{endOf as genomeEnd, exonOf, Exons, exons, denied, beforeAll, andThen, readFirst, readNext, exonsAfter, exonsOf}
 use Rattle.transcript.specs.Judging.{Judged, refused, accepted, unless, Made, Measured, bothBits, startOf, endOf, halfFault, rangeFault, cdsFault, cdsOf, lastFault, judgeExons, judgeOn, judgeRecords, judge, lengthFault, judgeLength}
 use Rattle.transcript.specs.Outcome.{numberOf, bitsOf, startIn, endIn, strandOf, elementsMade}
 use Rattle.transcript.specs.declared.Bound.{Bound}

@@ -11,8 +11,10 @@ ghost use Rattle.transcript.specs.Tallies.{Bounded, BoundedTally, toldOf
 use crate::Bound;
 use crate::Head;
 use crate::holding::BOTH_GIVEN;
+use crate::reading;
 use crate::reading::Sums;
 use crate::reading::Tally;
+use records::ALT_START;
 use refusals::BAD_CDS;
 use refusals::HALF_CDS;
 use refusals::MOST_BASES;
@@ -170,9 +172,9 @@ fn judge_on(forward: bool, start: Bound, end: Bound, count: usize, s: &[u8]) -> 
     if half != 0 {
         return Tally::Refused(half);
     }
-    match crate::reading::tally_all(count, s) {
+    match reading::tally_all(count, s) {
         Tally::Sums(sums) => {
-            let first = crate::reading::bound(s, 0);
+            let first = reading::bound(s, ALT_START);
             let last = last_fault(start, end, first, sums);
             if last != 0 {
                 return Tally::Refused(last);

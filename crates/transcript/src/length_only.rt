@@ -6,6 +6,7 @@ ghost use Rattle.transcript.specs.Outcome.{lengthAnswer};
 use crate::Built;
 use crate::Head;
 use crate::holding::OF_LENGTH;
+use crate::judging;
 use crate::judging::BOTH_BITS;
 use refusals::BAD_BOUND;
 use refusals::MOST_BASES;
@@ -44,13 +45,13 @@ pub fn build_length(length: i32, cds: u32, start: i32, end: i32) -> Built
     if fault != 0 {
         return Built::Refused(fault);
     }
-    let from = crate::judging::start_of(cds, start);
-    let to = crate::judging::end_of(cds, end);
-    let half = crate::judging::half_fault(from, to);
+    let from = judging::start_of(cds, start);
+    let to = judging::end_of(cds, end);
+    let half = judging::half_fault(from, to);
     if half != 0 {
         return Built::Refused(half);
     }
-    let outside = crate::judging::cds_fault(from, to, bases_of(length));
+    let outside = judging::cds_fault(from, to, bases_of(length));
     if outside != 0 {
         return Built::Refused(outside);
     }
@@ -64,5 +65,5 @@ pub fn build_length(length: i32, cds: u32, start: i32, end: i32) -> Built
         end: 0,
         length,
     };
-    Built::Transcript(crate::judging::with_cds(bare, cds, start, end))
+    Built::Transcript(judging::with_cds(bare, cds, start, end))
 }

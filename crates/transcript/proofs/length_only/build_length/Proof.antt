@@ -1,7 +1,6 @@
 -- `length_only::build_length` meets its contract. Each link of the chain is a law of `Lengths`. Assumes nothing.
 use mathlib.Core.Path.{_≡_, sym, ap, _∙_}
 use Prim.Native.Nat.{ℕ, _≤_}
-use native.Mathlib.Omega.{arith}
 use lib.IntN.{pos, natAbs}
 use Rattle.refusals.specs.Numbers.{mostBases}
 use Rattle.whole.specs.Whole.{read, widened, fits-wider}
