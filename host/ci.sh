@@ -2,6 +2,8 @@
 # The host's part of the gate: builds it over the archive, runs its tests, tries bad input, measures the stack and, where the source of
 # crate hgvs is at hand (HGVS_SRC, or `shared/docs/src/src` beside the repository), compares with it.
 set -eu
+# A relative folder is the caller's.
+[ -z "${HGVS_SRC:-}" ] || HGVS_SRC=$(cd "$HGVS_SRC" && pwd)
 cd "$(dirname "$0")"
 command -v cargo >/dev/null || PATH="$HOME/.cargo/bin:$PATH"
 log=$(mktemp)
@@ -20,6 +22,9 @@ last_line() {
 
 ./install.sh
 [ -n "${TXC_ARCHIVE:-}" ] || (cd .. && rt staticlib entry)
+# The archive exports just the header's entries.
+grep -o 'txc_[a-z_]*(' ../include/txc.h | tr -d '(' | sort -u >"$log"
+nm -g --defined-only "${TXC_ARCHIVE:-../target/staticlib}/libentry.a" | awk '$2 == "T" { print $3 }' | sort | diff "$log" -
 # Debian's packages fix the versions.
 rm -f Cargo.lock
 
