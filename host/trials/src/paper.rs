@@ -263,8 +263,17 @@ fn judge_cds(cds: u32, start: i32, end: i32, length: i64) -> Result<Option<(i64,
     }
 }
 
-/// The transcript of records, by building's order. CDS bits are 0 to 3.
+/// CDS bits of no such value are 23, before all else.
+fn judge_bits(cds: u32) -> Result<(), Refusal> {
+    match cds {
+        0..=3 => Ok(()),
+        _ => Err(Refusal::NotTogether),
+    }
+}
+
+/// The transcript of records, by building's order.
 pub fn build(from: Laid<'_>) -> Result<Aligned, Refusal> {
+    judge_bits(from.cds)?;
     let exons = records(from.count, from.records).ok_or(Refusal::NoCard)?;
     let first = i64::from(exons.first().ok_or(Refusal::NoRecords)?.alt_start_i);
     if from.strand != 1 && from.strand != -1 {
@@ -292,6 +301,7 @@ pub fn build(from: Laid<'_>) -> Result<Aligned, Refusal> {
 
 /// A length-only transcript: 4, 9, 11, 12.
 pub fn build_length(length: i32, cds: u32, start: i32, end: i32) -> Result<Source, Refusal> {
+    judge_bits(cds)?;
     let length = i64::from(length);
     if length < 0 {
         return Err(Refusal::BadBound);
@@ -501,7 +511,7 @@ impl Source {
     /// g. to n.: 18, 19, 14, 17.
     pub fn g_to_n(&self, start: i32, end: i32, missing: u32, strict: bool) -> Result<Answer, Refusal> {
         let t = self.aligned()?;
-        if missing != 0 {
+        if missing & 3 != 0 {
             return Err(Refusal::MissingEnd);
         }
         let place = |g: i32| i64::from(g) - 1 - t.first;
@@ -587,7 +597,7 @@ impl Source {
     /// In bounds: 18, 19.
     pub fn in_bounds(&self, start: i32, end: i32, missing: u32) -> Result<Said, Refusal> {
         let t = self.aligned()?;
-        if missing != 0 {
+        if missing & 3 != 0 {
             return Err(Refusal::MissingEnd);
         }
         let place = |g: i32| i64::from(g) - 1 - t.first;
