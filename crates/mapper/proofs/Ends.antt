@@ -1,7 +1,7 @@
 -- An interval fits where both its ends do: 17 of an interval is 17 of its ends, the first one's first. Assumes nothing.
-use mathlib.Core.Path.{_≡_, refl, _∙_}
+use mathlib.Core.Path.{_≡_, refl}
 use mathlib.Core.Bool.{Bool, true, false, _&&_}
-use Rattle.mapper.specs.Answers.{Answer, Plain, marked, stepC, bothEnds, fitting, plainFitting}
+use Rattle.mapper.specs.Answers.{marked, stepC, bothEnds, fitting, plainFitting}
 use Rattle.mapper.specs.Answers.Plain.{told, denied}
 use Rattle.whole.specs.Whole.{if_then_else_}
 use Rattle.refusals.specs.Numbers.{tooWide}

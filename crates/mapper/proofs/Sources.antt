@@ -25,7 +25,7 @@ use Rattle.mapper.specs.Mapping.{placeOfG, nOfSpot, wholeN, gToN, gOfSpo
 use Rattle.mapper.specs.Asking.{GAsked, Bound, whole, bounded, askGToN, askNToG, askNToC, askGToC, askInBounds}
 use Rattle.mapper.specs.Asking.Bound.{at, missing}
 use Rattle.mapper.specs.Paper.{paperBound}
-use Rattle.mapper.specs.Lying.{lying, Sound, alignmentOf, givenOf}
+use Rattle.mapper.specs.Aligned.{alignedBy, Sound, alignmentOf, givenOf}
 use Rattle.mapper.specs.declared.Bound as code
 use Rattle.mapper.specs.declared.asking.Given.the-variants as given
 use Rattle.mapper.specs.declared.GInterval as code-g
@@ -119,11 +119,11 @@ chained strict (lengthOnly n c) q = refl
 
 module _ (h : Head) (g t l : List ℕ) (strict : Bool) where
   -- between g. and n. the CDS is not looked at
-  pub records-g-to-n : ofRecords h ≡ true → (q : GAsked) → askGToN strict (sourceOf h g t l) q ≡ whole (gToN strict (lying (alignmentOf h) g t l)) q
+  pub records-g-to-n : ofRecords h ≡ true → (q : GAsked) → askGToN strict (sourceOf h g t l) q ≡ whole (gToN strict (alignedBy (alignmentOf h) g t l)) q
   unfolding askGToN gToN wholeN placeOfG nOfSpot
   records-g-to-n r q = rw (source-of-records h g t l r)
 
-  pub records-n-to-g : ofRecords h ≡ true → (i : NInterval) → askNToG strict (sourceOf h g t l) i ≡ nToG strict (lying (alignmentOf h) g t l) i
+  pub records-n-to-g : ofRecords h ≡ true → (i : NInterval) → askNToG strict (sourceOf h g t l) i ≡ nToG strict (alignedBy (alignmentOf h) g t l) i
   unfolding askNToG nToG gOfEnds gOfSpot
   records-n-to-g r i = rw (source-of-records h g t l r)
 

@@ -16,15 +16,15 @@ use Rattle.transcript.specs.Transcript.{genomeLength, transcriptLength}
 use Rattle.mapper.specs.Answers.{NPosition, stepC, fits, gFits, nFits, nBothFit, fitting}
 use Rattle.mapper.specs.Answers.Answer.{refused}
 use Rattle.mapper.specs.Mapping.{inside, turned, gInterval, nInterval, placeOfG, nOfSpot, wholeN, gToN, gOfSpot, gOfEnds}
-use Rattle.mapper.specs.Lying.{lying, Sound, nJoined, gJoined}
+use Rattle.mapper.specs.Aligned.{alignedBy, Sound, nJoined, gJoined}
 use Rattle.mapper.specs.declared.genome.Alignment.{Alignment}
 use Rattle.mapper.proofs.Ends.{plain-ends, marked-fit}
 
 module _ (a : Alignment) (g t l : List ℕ) (sound : Sound a g t l) where
-  pub span-is : genomeLength (lying a g t l) ≡ getD g (a .count) 0
+  pub span-is : genomeLength (alignedBy a g t l) ≡ getD g (a .count) 0
   span-is = last-genome g t l (a .count) (holds-means g t l (a .count) (sound .segments))
 
-  pub length-is : transcriptLength (lying a g t l) ≡ getD t (a .count) 0
+  pub length-is : transcriptLength (alignedBy a g t l) ≡ getD t (a .count) 0
   length-is = last-transcript g t l (a .count) (holds-means g t l (a .count) (sound .segments))
 
   -- g. to n.: the places of the two numbers, whether strict mode takes them, and what they map to
@@ -44,11 +44,11 @@ module _ (a : Alignment) (g t l : List ℕ) (sound : Sound a g t l) where
     abbrev pub n-to : Spot
     n-to = toTranscript g t l (a .count) g-to stop (a .forward)
 
-    pub n-answered : g-inside ≡ true → gToN strict (lying a g t l) (gInterval from to) ≡ nJoined (a .forward) (getD t (a .count) 0) n-from n-to
+    pub n-answered : g-inside ≡ true → gToN strict (alignedBy a g t l) (gInterval from to) ≡ nJoined (a .forward) (getD t (a .count) 0) n-from n-to
     unfolding gToN wholeN placeOfG nOfSpot nJoined
     n-answered e = simp (span-is, length-is, e) (marked-fit _ nBothFit _ ∙ ap (stepC _) (plain-ends nInterval nFits _ _ nBothFit refl))
 
-    pub n-refused : g-inside ≡ false → gToN strict (lying a g t l) (gInterval from to) ≡ refused outside
+    pub n-refused : g-inside ≡ false → gToN strict (alignedBy a g t l) (gInterval from to) ≡ refused outside
     unfolding gToN wholeN placeOfG
     n-refused e = simp (span-is, e)
 
@@ -69,10 +69,10 @@ module _ (a : Alignment) (g t l : List ℕ) (sound : Sound a g t l) where
     abbrev pub s-to : Spot
     s-to = toGenome g t l (a .count) t-to stop
 
-    pub g-answered : t-inside ≡ true → fitting gFits (gOfEnds strict (lying a g t l) u v) ≡ gJoined (a .forward) (a .first) s-from s-to (u .offset) (v .offset)
+    pub g-answered : t-inside ≡ true → fitting gFits (gOfEnds strict (alignedBy a g t l) u v) ≡ gJoined (a .forward) (a .first) s-from s-to (u .offset) (v .offset)
     unfolding gOfEnds gOfSpot gJoined
     g-answered e = simp (length-is, e) (marked-fit _ gFits _ ∙ ap (stepC _) (plain-ends gInterval fits _ _ gFits refl))
 
-    pub g-refused : t-inside ≡ false → fitting gFits (gOfEnds strict (lying a g t l) u v) ≡ refused outside
+    pub g-refused : t-inside ≡ false → fitting gFits (gOfEnds strict (alignedBy a g t l) u v) ≡ refused outside
     unfolding gOfEnds
     g-refused e = simp (length-is, e)

@@ -1,15 +1,14 @@
 -- The test for 17 that the code makes, as the test of the definitions. Assumes nothing.
-use mathlib.Core.Path.{_≡_, refl, sym, ap, _∙_}
-use mathlib.Core.Bool.{Bool, true, false, and-false}
+use mathlib.Core.Path.{_≡_, ap, _∙_}
+use mathlib.Core.Bool.{true, false, and-false}
 use Prim.Native.Nat.{ℕ}
 use native.Mathlib.Omega.{arith}
 use borrow.Author.Tests.{le-leb}
 use lib.IntN.{ℤ, pos, negsuc}
 use lib.Signed.{ltZ, leZ}
-use mir.Syntax.{w32, w64}
-use mir.Val.{Fits, SFits, toZ, ofZ}
-use mir.ValLaws.{toZ-pos}
-use Rattle.whole.specs.Whole.{if_then_else_, by-test, order, read, Within}
+use mir.Syntax.{w32}
+use mir.Val.{SFits, toZ, ofZ}
+use Rattle.whole.specs.Whole.{by-test, order, read}
 use Rattle.whole.specs.Fits.{fitOf, number-is}
 use Rattle.whole.specs.declared.Fit.the-variants.{Number, TooWide}
 use Rattle.mapper.specs.Answers.{fits}

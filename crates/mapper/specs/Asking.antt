@@ -14,7 +14,7 @@ use Rattle.transcript.specs.declared.Head.{Head}
 use Rattle.mapper.specs.Answers.{GInterval, NInterval, CInterval, Answer, Plain, thenAsk}
 use Rattle.mapper.specs.Answers.Answer.{refused}
 use Rattle.mapper.specs.Answers.Plain.{told, denied}
-use Rattle.mapper.specs.Mapping.{placeOfG, gToN, nToG, nToC, cToN, gToC, cToG}
+use Rattle.mapper.specs.Mapping.{placeOfG, gToN, nToG, nToC, cToN, gToC}
 
 -- the start or the end of a g. interval as it is asked: a number, or none
 pub data Bound : Type 0 where

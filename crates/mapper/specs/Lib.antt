@@ -3,7 +3,7 @@ pub mod Answers
 pub mod Mapping
 pub mod Asking
 pub mod Paper
-pub mod Lying
+pub mod Aligned
 pub mod Refusing
 pub mod Occurring
 pub mod Lenient

@@ -1,6 +1,6 @@
 -- The mark of an answer: it is uncertain exactly when either end fell in an I or a D segment. Assumes nothing.
 use Prim.Native.Nat.{ℕ}
-use mathlib.Core.Path.{_≡_, refl, ap, _∙_}
+use mathlib.Core.Path.{_≡_, refl, ap}
 use mathlib.Core.Bool.{Bool, true, false, not, _&&_, _||_}
 use mathlib.Core.List.{List}
 use lib.IntN.{ℤ, pos}
@@ -9,15 +9,15 @@ use Rattle.refusals.specs.Numbers.{outside}
 use Rattle.numbering.specs.Numbers.{placeOfN, nOfC}
 use Rattle.cigar.specs.Elements.{Element, Side, Kind, genome, transcript}
 use Rattle.cigar.specs.Elements.Kind.{matches, inserts, deletes, skips}
-use Rattle.segments.specs.Places.{Segment, Spot, End, leftNearer, segmentFrom, nearer, spotIn, spotOf, mapPlace}
+use Rattle.segments.specs.Places.{End, leftNearer, segmentFrom, nearer, spotIn, mapPlace}
 use Rattle.segments.specs.Places.End.{start, stop}
 use Rattle.transcript.specs.Transcript.{Transcript, Cds, genomeLength, transcriptLength}
 use Rattle.transcript.specs.Transcript.Cds.{noCds, cds}
-use Rattle.mapper.specs.Answers.{GInterval, NPosition, NInterval, CPosition, CInterval, Answer, Plain, marked, stepC, andThen, thenAsk, bothEnds, Answered, fitting, plainFitting, nFits}
+use Rattle.mapper.specs.Answers.{GInterval, NPosition, NInterval, CInterval, Answer, Plain, marked, stepC, andThen, thenAsk, Answered, fitting}
 use Rattle.mapper.specs.Answers.Answer.{certain, uncertain, refused}
 use Rattle.mapper.specs.Answers.Plain.{told, denied}
 use Rattle.mapper.specs.Refusing.{denied-told, told-is, both-told}
-use Rattle.mapper.specs.Mapping.{inside, turned, earlier, later, nInterval, gInterval, placeOfG, nOfSpot, nAnswer, wholeN, gToN, gOfSpot, gAnswer, gOfEnds, nToG, nToC, refuses16, nPosition, cToN, gToC, cToG}
+use Rattle.mapper.specs.Mapping.{inside, turned, earlier, later, nInterval, gInterval, placeOfG, nOfSpot, nAnswer, wholeN, gToN, gOfSpot, gAnswer, gOfEnds, nToG, nToC, cToN, gToC, cToG}
 
 -- an I or a D
 abbrev pub gap : Kind → Bool

@@ -1,7 +1,7 @@
 -- Each refusal of each question's row occurs: a question that is refused with it, computed. With the rows of `Refusing` the sets are exact. Assumes nothing.
 use Prim.Native.Nat.{ℕ}
 use mathlib.Core.Path.{_≡_, refl}
-use mathlib.Core.Bool.{Bool, true, false}
+use mathlib.Core.Bool.{true, false}
 use mathlib.Core.List.{List, [], _∷_, map}
 use lib.IntN.{ℤ, pos, negsuc}
 use Rattle.numbering.specs.Numbers.{nOfPlace, placeOfN, plainC, cOfN, nOfC, skipZero}
@@ -10,11 +10,11 @@ use Rattle.segments.specs.Places.{segmentFrom, nearer, spotIn, mapPlace}
 use Rattle.segments.specs.Tables.{stepRight, allBelow, segmentsHold, elementsFrom}
 use Rattle.transcript.specs.Holding.{cdsHolds, recordsHold, lengthHolds, holds, sourceOf}
 use Rattle.transcript.specs.declared.Head.{Head}
-use Rattle.mapper.specs.Answers.{NPosition, NInterval, CPosition, CInterval, Answer, Plain, fits}
+use Rattle.mapper.specs.Answers.{NInterval, CInterval, fits}
 use Rattle.mapper.specs.Answers.Answer.{refused}
 use Rattle.mapper.specs.Answers.Plain.{denied}
 use Rattle.mapper.specs.Mapping.{inside, turned, placeOfG, nOfSpot, wholeN, gToN, gOfSpot, gOfEnds, nToG, refuses15, cPosition, cOfInterval, nToC, refuses16, nPosition, cToN, gToC}
-use Rattle.mapper.specs.Asking.{GAsked, askGToN, askNToG, askNToC, askCToN, askGToC, askCToG, askCoding, askInBounds, answerGToN, answerNToG, answerNToC, answerCToN, answerGToC, answerCToG, answerCoding, answerInBounds}
+use Rattle.mapper.specs.Asking.{GAsked, askGToN, askNToG, askNToC, askCToN, askGToC, askCToG, askInBounds, answerGToN, answerNToG, answerNToC, answerCToN, answerGToC, answerCToG, answerCoding, answerInBounds}
 use Rattle.mapper.specs.Asking.Bound.{at, missing}
 use Rattle.mapper.specs.Refusing.{gToNRefusals, nToGRefusals, nToCRefusals, cToNRefusals, gToCRefusals, cToGRefusals, codingRefusals, inBoundsRefusals}
 

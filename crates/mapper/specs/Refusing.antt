@@ -23,7 +23,7 @@ use Rattle.mapper.specs.Answers.{GInterval, NPosition, NInterval, CPosit
 use Rattle.mapper.specs.Answers.Answer.{certain, uncertain, refused}
 use Rattle.mapper.specs.Answers.Plain.{told, denied}
 use Rattle.mapper.specs.Mapping.{inside, turned, earlier, later, gInterval, nInterval, placeOfG, nOfSpot, gOfSpot, nAnswer, wholeN, gToN, gAnswer, gOfEnds, nToG, refuses15, cOfInterval, nToC, refuses16, nPosition, cToN, gToC}
-use Rattle.mapper.specs.Asking.{Bound, GAsked, given, whole, bounded, askGToN, askNToG, askNToC, askCToN, askGToC, askCToG, askCoding, askInBounds, answerGToN, answerNToG, answerNToC, answerCToN, answerGToC, answerCToG, answerCoding, answerInBounds}
+use Rattle.mapper.specs.Asking.{Bound, GAsked, given, bounded, askGToN, askNToG, askNToC, askCToN, askGToC, askCToG, askCoding, askInBounds, answerGToN, answerNToG, answerNToC, answerCToN, answerGToC, answerCToG, answerCoding, answerInBounds}
 use Rattle.mapper.specs.Asking.Bound.{at, missing}
 
 -- k is one of ks

@@ -7,7 +7,7 @@ ghost use Rattle.transcript.specs.Holding.{ofRecords, holds, sourceOf};
 ghost use Rattle.transcript.specs.Held.{headHolds};
 ghost use Rattle.mapper.specs.Asking.{askGToN, askNToG, askNToC, askCToN, askGToC, askCToG, askCoding, askInBounds};
 ghost use Rattle.mapper.specs.Paper.{paperAsked, paperNInterval, paperCInterval, paperG, paperN, paperC, paperNPlain, paperCPlain, paperSaid};
-ghost use Rattle.mapper.specs.Lying.{alignmentOf, givenOf, paperCoding};
+ghost use Rattle.mapper.specs.Aligned.{alignmentOf, givenOf, paperCoding};
 use crate::Bound;
 use crate::CAnswer;
 use crate::CInterval;

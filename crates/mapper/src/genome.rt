@@ -12,7 +12,7 @@ ghost use Rattle.segments.specs.Paper.{Small, spotSaid};
 ghost use Rattle.mapper.specs.Answers.{gFits, fitting};
 ghost use Rattle.mapper.specs.Mapping.{inside, turned, signed, gInterval, gToN, gOfEnds, nToG};
 ghost use Rattle.mapper.specs.Paper.{paperGEnd, paperNEnd, paperNPosition, paperNInterval, paperG, paperN};
-ghost use Rattle.mapper.specs.Lying.{lying, Sound, nEndAt, nJoined, gEndAt, gJoined};
+ghost use Rattle.mapper.specs.Aligned.{alignedBy, Sound, nEndAt, nJoined, gEndAt, gJoined};
 use crate::GAnswer;
 use crate::NAnswer;
 use crate::NInterval;
@@ -41,7 +41,7 @@ pub fn last(starts: &[u32; MOST_STARTS], count: usize) -> u32
     starts[count]
 }
 
-// The place of a g. number.
+// The place of a g. number. g. numbers are counted from 1 and run through 0, so this 1 is not the missing zero's.
 fn place_of_g(first: u32, g: i32) -> Place
     ensures { λ r. ⌜ (r .0 ≡ g -ℤ pos 1 -ℤ pos first) × Within 36 (r .0) ⌝ }
 {
@@ -154,7 +154,7 @@ pub fn to_n(
     strict: bool,
 ) -> NAnswer
     requires { ⌜ Sound at (now genome) (now transcript) (now letters) ⌝ }
-    ensures { λ r. ⌜ paperN r ≡ gToN strict (lying at (now (genome .entry)) (now (transcript .entry)) (now (letters .entry))) (gInterval from to) ⌝ }
+    ensures { λ r. ⌜ paperN r ≡ gToN strict (alignedBy at (now (genome .entry)) (now (transcript .entry)) (now (letters .entry))) (gInterval from to) ⌝ }
 {
     let forward = at.forward;
     let count = at.count;
@@ -208,7 +208,7 @@ fn g_of_ends(
     strict: bool,
 ) -> GAnswer
     requires { ⌜ Sound at (now genome) (now transcript) (now letters) ⌝ }
-    ensures { λ r. ⌜ paperG r ≡ fitting gFits (gOfEnds strict (lying at (now (genome .entry)) (now (transcript .entry)) (now (letters .entry))) (paperNPosition a) (paperNPosition b)) ⌝ }
+    ensures { λ r. ⌜ paperG r ≡ fitting gFits (gOfEnds strict (alignedBy at (now (genome .entry)) (now (transcript .entry)) (now (letters .entry))) (paperNPosition a) (paperNPosition b)) ⌝ }
 {
     let forward = at.forward;
     let first = at.first;
@@ -234,7 +234,7 @@ pub fn to_g(
     strict: bool,
 ) -> GAnswer
     requires { ⌜ Sound at (now genome) (now transcript) (now letters) ⌝ }
-    ensures { λ r. ⌜ paperG r ≡ nToG strict (lying at (now (genome .entry)) (now (transcript .entry)) (now (letters .entry))) (paperNInterval n) ⌝ }
+    ensures { λ r. ⌜ paperG r ≡ nToG strict (alignedBy at (now (genome .entry)) (now (transcript .entry)) (now (letters .entry))) (paperNInterval n) ⌝ }
 {
     let from = n.from;
     let to = n.to;

@@ -1,6 +1,5 @@
 -- `mapper::c_to_n` meets its contract. Assumes nothing.
-use mathlib.Core.Path.{_≡_, sym, _∙_}
-use mathlib.Core.Bool.{true, false}
+use mathlib.Core.Path.{sym, _∙_}
 use Rattle.mapper.specs.Asking.{answerCToN}
 use borrow.Author.Needs.{needs}
 use Rattle.mapper.proofs.c_to_n.Statement.{statement}

@@ -1,6 +1,5 @@
 -- `mapper::g_to_c` meets its contract. Assumes nothing.
-use mathlib.Core.Path.{_≡_, sym, _∙_}
-use mathlib.Core.Bool.{true, false}
+use mathlib.Core.Path.{sym, _∙_}
 use Rattle.mapper.specs.Asking.{answerGToC}
 use borrow.Author.Needs.{needs}
 use Rattle.mapper.proofs.g_to_c.Statement.{statement}

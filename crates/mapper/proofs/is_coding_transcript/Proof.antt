@@ -1,6 +1,5 @@
 -- `mapper::is_coding_transcript` meets its contract. Assumes nothing.
-use mathlib.Core.Path.{_≡_, sym, _∙_}
-use mathlib.Core.Bool.{true, false}
+use mathlib.Core.Path.{sym, _∙_}
 use Rattle.mapper.specs.Asking.{answerCoding}
 use borrow.Author.Needs.{needs}
 use Rattle.mapper.proofs.is_coding_transcript.Statement.{statement}

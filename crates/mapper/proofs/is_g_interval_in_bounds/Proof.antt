@@ -1,6 +1,5 @@
 -- `mapper::is_g_interval_in_bounds` meets its contract. Assumes nothing.
-use mathlib.Core.Path.{_≡_, sym, _∙_}
-use mathlib.Core.Bool.{true, false}
+use mathlib.Core.Path.{sym, _∙_}
 use Rattle.mapper.specs.Asking.{answerInBounds}
 use borrow.Author.Needs.{needs}
 use Rattle.mapper.proofs.is_g_interval_in_bounds.Statement.{statement}

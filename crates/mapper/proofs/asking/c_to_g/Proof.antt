@@ -1,7 +1,5 @@
 -- `mapper::asking::c_to_g` meets its contract. Assumes nothing.
-use mathlib.Core.Path.{_≡_, sym, ap, _∙_}
 use Rattle.mapper.specs.Asking.{askCToG}
-use Rattle.mapper.specs.Paper.{paperNPlain}
 use borrow.Author.Needs.{needs}
 use Rattle.mapper.proofs.asking.c_to_g.Statement.{statement}
 use Rattle.mapper.proofs.asking.c_to_g.Tie as tie
@@ -22,14 +20,13 @@ returns : tie.Need-returns
 unfolding askCToG
 returns c =
     let n = c .before .before in
-    let first = sym (n .before .before .c-to-n .ensures) ∙ ap paperNPlain (n .n .given .1) in
-    rw first (c .n-to-g .ensures)
+    rw (← n .before .before .c-to-n .ensures, n .n .given .1) (c .n-to-g .ensures)
 
 returns-2 : tie.Need-returns-2
 unfolding askCToG
 returns-2 c =
     let k = c .before in
-    rw (sym (k .before .before .c-to-n .ensures) ∙ ap paperNPlain (k .k .given .1))
+    rw (← k .before .before .c-to-n .ensures, k .k .given .1)
 
 pub c-to-g-spec : {M : Type 1} → statement M
 c-to-g-spec =

@@ -1,10 +1,6 @@
 -- `mapper::asking::c_to_n` meets its contract. Assumes nothing.
-use mathlib.Core.Path.{_≡_, sym, ap, _∙_}
-use Rattle.transcript.specs.Transcript.{Cds, codingOf}
-use Rattle.transcript.specs.Holding.{sourceOf}
 use Rattle.mapper.specs.Mapping.{cToN}
 use Rattle.mapper.specs.Asking.{askCToN}
-use Rattle.mapper.specs.Lying.{paperCoding}
 use borrow.Author.Needs.{needs}
 use Rattle.mapper.proofs.asking.c_to_n.Statement.{statement}
 use Rattle.mapper.proofs.asking.c_to_n.Tie as tie
@@ -28,15 +24,12 @@ returns : tie.Need-returns
 unfolding askCToN
 returns c =
     let m = c .before .before .before .before in
-    let is = sym (m .coding-of .ensures) ∙ ap paperCoding (c .before .before .s .given .1) in
-    rw is (rw (m .before .length .ensures) at (c .to-n .ensures))
+    rw (← m .coding-of .ensures, c .before .before .s .given .1) (rw (m .before .length .ensures) at (c .to-n .ensures))
 
 returns-2 : tie.Need-returns-2
 unfolding askCToN cToN
 returns-2 c =
-    let m = c .before .before in
-    let is = sym (m .coding-of .ensures) ∙ ap paperCoding (c .enum-told .given .1) in
-    rw is
+    rw (← c .before .before .coding-of .ensures, c .enum-told .given .1)
 
 pub c-to-n-spec : {M : Type 1} → statement M
 c-to-n-spec =

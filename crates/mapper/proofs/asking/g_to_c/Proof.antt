@@ -1,6 +1,4 @@
 -- `mapper::asking::g_to_c` meets its contract. Assumes nothing.
-use mathlib.Core.Path.{_≡_, sym, ap, _∙_}
-use Rattle.mapper.specs.Paper.{paperN}
 use Rattle.mapper.proofs.Sources.{chained}
 use borrow.Author.Needs.{needs}
 use Rattle.mapper.proofs.asking.g_to_c.Statement.{statement}
@@ -33,21 +31,17 @@ enum-known-k c = search needs
 returns : tie.Need-returns
 returns c =
     let n = c .before .before .before in
-    let g = n .before .before in
-    let first = sym (g .g-to-n .ensures) ∙ ap paperN (n .n .given .1) in
-    simp (chained, first) (rw (c .before .n-to-c .ensures) at (c .c-marked .ensures))
+    rw (chained, ← n .before .before .g-to-n .ensures, n .n .given .1) (rw (c .before .n-to-c .ensures) at (c .c-marked .ensures))
 
 returns-2 : tie.Need-returns-2
 returns-2 c =
     let n = c .before .before .before in
-    let g = n .before .before in
-    let first = sym (g .g-to-n .ensures) ∙ ap paperN (n .n2 .given .1) in
-    simp (chained, first) (rw (c .before .n-to-c2 .ensures) at (c .c-marked2 .ensures))
+    rw (chained, ← n .before .before .g-to-n .ensures, n .n2 .given .1) (rw (c .before .n-to-c2 .ensures) at (c .c-marked2 .ensures))
 
 returns-3 : tie.Need-returns-3
 returns-3 c =
     let k = c .before in
-    simp (chained, sym (k .before .before .g-to-n .ensures) ∙ ap paperN (k .k .given .1))
+    rw (chained, ← k .before .before .g-to-n .ensures, k .k .given .1)
 
 pub g-to-c-spec : {M : Type 1} → statement M
 g-to-c-spec =

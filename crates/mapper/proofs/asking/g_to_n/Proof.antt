@@ -8,7 +8,7 @@ use Rattle.refusals.specs.Numbers.{missingEnd}
 use Rattle.mapper.specs.Answers.Answer.{refused}
 use Rattle.mapper.specs.Mapping.{gToN}
 use Rattle.mapper.specs.Asking.{given}
-use Rattle.mapper.specs.Lying.{lying, alignmentOf}
+use Rattle.mapper.specs.Aligned.{alignedBy, alignmentOf}
 use Rattle.mapper.proofs.Sources.{head-right, sound, asked-whole, asked-missing, records-g-to-n, length-g-to-n}
 use borrow.Author.Needs.{needs}
 use Rattle.mapper.proofs.asking.g_to_n.Statement.{statement}
@@ -52,17 +52,17 @@ returns c =
     let a = t .before .before .args in
     let from = told w32 (i .0 .0 .from) (c .before .before .struct-told .given .0 .1) in
     let to = told w32 (i .0 .0 .to) (c .before .struct-told2 .given .1 .0 .1) in
-    let whole = asked-whole (given (gToN (a .strict) (lying (alignmentOf (a .head)) (a .genome .now) (a .transcript .now) (a .letters .now)))) (a .q .from) (a .q .to) (i .0 .0) (sym (b .both-ends .ensures) ∙ i .1) in
-    simp (l .alignment .ensures, from, to) at (c .to-n .ensures) ∙ sym (records-g-to-n _ _ _ _ (a .strict) (is-records t) _ ∙ whole)
+    let whole = asked-whole (given (gToN (a .strict) (alignedBy (alignmentOf (a .head)) (a .genome .now) (a .transcript .now) (a .letters .now)))) (a .q .from) (a .q .to) (i .0 .0) (sym (b .both-ends .ensures) ∙ i .1) in
+    rw (records-g-to-n (a .head) (a .genome .now) (a .transcript .now) (a .letters .now) (a .strict) (is-records t), whole) (simp (l .alignment .ensures, from, to) at (c .to-n .ensures))
 
 returns-2 : tie.Need-returns-2
 returns-2 c =
     let b = c .before .before in
     let t = b .before in
     let a = t .before .before .args in
-    let f = given (gToN (a .strict) (lying (alignmentOf (a .head)) (a .genome .now) (a .transcript .now) (a .letters .now))) in
+    let f = given (gToN (a .strict) (alignedBy (alignmentOf (a .head)) (a .genome .now) (a .transcript .now) (a .letters .now))) in
     let whole = asked-missing f (refused missingEnd) (λ x. refl) (λ x. refl) (a .q .from) (a .q .to) (sym (b .both-ends .ensures) ∙ c .enum-told .given .1) in
-    sym (records-g-to-n _ _ _ _ (a .strict) (is-records t) _ ∙ whole)
+    rw (records-g-to-n (a .head) (a .genome .now) (a .transcript .now) (a .letters .now) (a .strict) (is-records t), whole)
 
 returns-3 : tie.Need-returns-3
 returns-3 c = sym (length-g-to-n _ _ _ _ (c .before .before .args .strict) (is-length c) _)

@@ -1,7 +1,6 @@
 -- `mapper::asking::length` meets its contract. Assumes nothing.
-use mathlib.Core.Path.{_≡_, sym, ap, _∙_}
+use mathlib.Core.Path.{_≡_, sym, _∙_}
 use mathlib.Core.Bool.{true, false}
-use lib.ListN.{getD}
 use mir.Syntax.{w32}
 use Rattle.whole.specs.Whole.{told}
 use Rattle.transcript.specs.Holding.{ofRecords}

@@ -26,7 +26,7 @@ returns : tie.Need-returns
 returns c =
     let t = c .before .before in
     let a = t .before .before .args in
-    rw (c .before .alignment .ensures) at (c .to-g .ensures) ∙ sym (records-n-to-g _ _ _ _ (a .strict) (is-records t) _)
+    rw (records-n-to-g (a .head) (a .genome .now) (a .transcript .now) (a .letters .now) (a .strict) (is-records t)) (rw (c .before .alignment .ensures) at (c .to-g .ensures))
 
 returns-2 : tie.Need-returns-2
 returns-2 c = sym (length-n-to-g _ _ _ _ (c .before .before .args .strict) (is-length c) _)

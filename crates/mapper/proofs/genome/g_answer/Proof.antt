@@ -1,6 +1,6 @@
 -- `mapper::genome::g_answer` meets its contract. Assumes nothing.
 use Rattle.whole.specs.Whole.{read}
-use Rattle.mapper.specs.Lying.{gJoined}
+use Rattle.mapper.specs.Aligned.{gJoined}
 use borrow.Author.Needs.{needs}
 use Rattle.mapper.proofs.genome.g_answer.Statement.{statement}
 use Rattle.mapper.proofs.genome.g_answer.Tie as tie

@@ -69,8 +69,8 @@ returns c =
     let to = rw (to-is q) at (y .transcript-to-genome2 .ensures .0) in
     let o = told w32 (a .a .offset) (c .before .before .struct-told3 .given .1 .0 .1) in
     let u = told w32 (a .b .offset) (c .before .struct-told4 .given .1 .0 .1) in
-    simp (from, to, o, u) at (c .g-answer .ensures)
-    ∙ sym (g-answered (a .at) _ _ _ (s .pre) (a .strict) (paperNPosition (a .a)) (paperNPosition (a .b)) (test-is (t .before) ∙ t .if1 .taken))
+    rw (g-answered (a .at) _ _ _ (s .pre) (a .strict) (paperNPosition (a .a)) (paperNPosition (a .b)) (test-is (t .before) ∙ t .if1 .taken))
+    (simp (from, to, o, u) at (c .g-answer .ensures))
 
 returns-2 : tie.Need-returns-2
 returns-2 c =

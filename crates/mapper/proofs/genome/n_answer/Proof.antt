@@ -1,6 +1,6 @@
 -- `mapper::genome::n_answer` meets its contract. Assumes nothing.
 use borrow.Author.Needs.{needs}
-use Rattle.mapper.specs.Lying.{nJoined}
+use Rattle.mapper.specs.Aligned.{nJoined}
 use Rattle.mapper.proofs.genome.n_answer.Statement.{statement}
 use Rattle.mapper.proofs.genome.n_answer.Tie as tie
 

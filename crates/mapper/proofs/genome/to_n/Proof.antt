@@ -56,8 +56,8 @@ returns c =
     let a = s .args in
     let from = rw (from-is (q .before)) at (x .genome-to-transcript .ensures .0) in
     let to = rw (to-is q) at (y .genome-to-transcript2 .ensures .0) in
-    simp (from, to, c .before .last2 .ensures) at (c .n-answer .ensures)
-    ∙ sym (n-answered (a .at) _ _ _ (s .pre) (a .strict) (a .from) (a .to) (test-is (t .before) ∙ t .if1 .taken))
+    rw (n-answered (a .at) _ _ _ (s .pre) (a .strict) (a .from) (a .to) (test-is (t .before) ∙ t .if1 .taken))
+    (simp (from, to, c .before .last2 .ensures) at (c .n-answer .ensures))
 
 returns-2 : tie.Need-returns-2
 returns-2 c =

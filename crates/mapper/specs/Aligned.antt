@@ -1,4 +1,4 @@
--- A transcript's lie on the genome as the code holds it, what the steps of g. to n. and back give at one end, and what a head and a question tell. Assumes nothing.
+-- How a transcript lies on the genome as the code holds it, what the steps of g. to n. and back give at one end, and what a head and a question tell. Assumes nothing.
 use Prim.Native.Nat.{ℕ, _≤_}
 use mathlib.Core.Path.{_≡_}
 use mathlib.Core.Bool.{Bool, true, _&&_}
@@ -23,8 +23,8 @@ use Rattle.mapper.specs.declared.asking.Coding.{Coding}
 use Rattle.mapper.specs.declared.asking.Coding.the-variants as coding
 
 -- the transcript that lies so. Between g. and n. its CDS is not looked at
-abbrev pub lying : Alignment → List ℕ → List ℕ → List ℕ → Transcript
-lying a g t l = record { forward = a .forward; first = a .first; elements = read g t l (a .count); coding = noCds }
+abbrev pub alignedBy : Alignment → List ℕ → List ℕ → List ℕ → Transcript
+alignedBy a g t l = record { forward = a .forward; first = a .first; elements = read g t l (a .count); coding = noCds }
 
 -- its tables hold together
 pub record Sound (a : Alignment) (g t l : List ℕ) : Type 0 where
@@ -48,7 +48,7 @@ gEndAt forward first p o = plainFitting fits (told (p +ℤ pos first +ℤ pos 1 
 unfoldable pub gJoined : Bool → ℕ → Spot → Spot → ℤ → ℤ → Answer GInterval
 gJoined forward first a b o u = stepC (a .sure && b .sure) (bothEnds gInterval (gEndAt forward first (a .place) o) (gEndAt forward first (b .place) u))
 
--- a head's lie on the genome
+-- how a head's transcript lies
 abbrev pub alignmentOf : Head → Alignment
 alignmentOf h = record { forward = isForward h; first = natAbs (h .first); count = segmentsIn h }
 
