@@ -3,7 +3,6 @@
 use mathlib.Core.Path.{sym}
 use native.Mathlib.Omega.{arith}
 use lib.Seq.{length-take-le}
-use Rattle.card.specs.Putting.{put-length}
 use borrow.Author.Needs.{needs}
 use Rattle.listing.proofs.main.Statement.{statement}
 use Rattle.listing.proofs.main.Tie as tie
@@ -32,7 +31,7 @@ array-share-prefix-text c = search needs
 slice-aggregate-write-all : tie.Need-slice-aggregate-write-all
 slice-aggregate-write-all c =
     let l = c .before .before .list-card in
-    sym (length-take-le (l .result) (l .last .1 .1 .1 .1 .0) (omega (arith, put-length (l .ensures .0))))
+    sym (length-take-le (l .result) (l .last .1 .1 .1 .1 .0) (omega arith))
 
 write-all-requires : tie.Need-write-all-requires
 write-all-requires c κs = search needs

@@ -5,7 +5,6 @@ use Prim.Native.Nat.{_-_, _≤_}
 use native.Mathlib.Omega.{arith}
 use lib.ListN.{length}
 use lib.Seq.{length-take-le}
-use Rattle.card.specs.Putting.{put-length}
 use borrow.Author.Needs.{needs}
 use Rattle.listings.proofs.list_all.Statement.{statement}
 use Rattle.listings.proofs.list_all.Tie as tie
@@ -62,7 +61,7 @@ slice-reshare-prefix-write-all c = search needs
 slice-aggregate-write-all : tie.Need-slice-aggregate-write-all Inv-loop μ-loop
 slice-aggregate-write-all c =
     let l = c .before .before .before .list-card in
-    sym (length-take-le (l .result) (l .last .1 .1 .1 .1 .0) (omega (arith, put-length (l .ensures .0))))
+    sym (length-take-le (l .result) (l .last .1 .1 .1 .1 .0) (omega arith))
 
 write-all-requires : tie.Need-write-all-requires Inv-loop μ-loop
 write-all-requires c κs = search needs
