@@ -3,31 +3,37 @@
 --     taken-fits, taken-back     the input of numbers and bytes as the code has them
 --     text-is, text-length       its card is a header before the very bytes
 --     card-sane                  what a card makes
+--     written-back               what is written reads back as the same input
+--     read-rewritten             a card that is read is the card that writing gives
 -- Assumes nothing.
-use mathlib.Core.Path.{_≡_, ap, _∙_}
+use mathlib.Core.Path.{_≡_, refl, sym, ap, _∙_}
 use mathlib.Core.Bool.{Bool, true, false}
 use mathlib.Core.Logic.{_⊎_, inl, inr}
 use mathlib.Core.List.{List, _++_}
 use Prim.Native.Nat.{ℕ, _+_, _%_, _≤_}
 use native.Mathlib.Omega.{arith}
-use lib.Dec.{eqb, leb}
+use borrow.Author.Tests.{ltb-false, le-ltb}
+use lib.Dec.{eqb, ltb, leb}
 use lib.IntN.{ℤ, pos, negsuc}
 use lib.ListN.{length, drop, length-append}
 use mir.Syntax.{w32}
 use mir.Val.{SFits}
 use Rattle.refusals.specs.Numbers.{mostRecords, mostCard}
+use Rattle.whole.specs.Whole.{by-test}
 use Rattle.fields.specs.RoundTrips.{Bytes}
+use Rattle.cigar.specs.Write.{written, denied}
 use Rattle.records.specs.Records.{exactly}
-use Rattle.transcript.specs.Judging.{Made, accepted, boundOf, startOf, endOf, judge}
+use Rattle.transcript.specs.Judging.{Judged, Made, refused, accepted, boundOf, startOf, endOf, judge}
 use Rattle.transcript.specs.Outcome.{strandOf, numberOf}
 use Rattle.transcript.specs.Accepted.{Accepted, accepted-means, Sane, judged-sane}
 use Rattle.card.specs.Layout.{recordsAt}
-use Rattle.card.specs.Card.{Input, headerText, cardText, readCard, inputOf, input, cardSays}
-use Rattle.card.specs.Writing.{judgeRead, judgeCard}
+use Rattle.card.specs.Card.{Input, headerText, cardText, readCard, inputOf, inputIn, input, cardSays}
+use Rattle.card.specs.Writing.{judgeRead, judgeCard, fitted, ifTaken, cardWriting}
+use Rattle.card.specs.declared.Numbers.{Numbers}
 use Rattle.card.specs.declared.ReadCard.{ReadCard}
 use Rattle.card.specs.declared.ReadCard.the-variants as read
 use Rattle.card.specs.Records.{from-length, from-fit, laid-from}
-use Rattle.card.specs.RoundTrips.{InputFits, reads-back}
+use Rattle.card.specs.RoundTrips.{InputFits, reads-back, read-means, text-kept}
 
 one-of-two : {z : ℤ} (forward : Bool) → z ≡ strandOf forward → (z ≡ pos 1) ⊎ (z ≡ negsuc 0)
 one-of-two true e = inl e
@@ -83,3 +89,45 @@ card-sane s m e = go (readCard s) e
     go : (r : ReadCard) → judgeRead s r ≡ accepted m → Sane m
     go (read.Card n) h = judged-sane (n .strand) (n .cds) (n .start) (n .end) (n .count) (drop recordsAt s) m h
     go (read.Refused k) h = absurd (let z : _≡_ {A = ℕ} 0 1 = cc in omega arith)
+
+-- ---- the two ways together, as the code has them
+
+-- a text that is written is the card of what building takes, and fits
+record Fitting (text : List ℕ) (j : Judged Made) (card : List ℕ) : Type 0 where
+  made : Made
+  takes : j ≡ accepted made
+  is : text ≡ card
+  small : length card ≤ mostCard
+
+fits-in : (j : Judged Made) (room : ℕ) (card text : List ℕ) → ifTaken j (fitted room card) ≡ written text → Fitting text j card
+fits-in (refused k) room card text e = absurd (let z : _≡_ {A = ℕ} 0 1 = cc in omega arith)
+fits-in (accepted m) room card text e =
+    by-test (ltb mostCard (length card))
+    (λ t. absurd (clash (simp t at e)))
+    (λ t. by-test (ltb room (length card))
+    (λ u. absurd (clash (simp (t, u) at e)))
+    (λ u. record { made = m; takes = refl; is = same (simp (t, u) at e); small = ltb-false mostCard (length card) t }))
+  where
+    clash : {k : ℕ} → denied k ≡ written text → ⊥
+    clash q = let z : _≡_ {A = ℕ} 0 1 = cc in omega arith
+
+    same : written card ≡ written text → text ≡ card
+    same q = cc
+
+-- what `write_card` writes reads back as the input that was handed over
+pub written-back : (strand : ℤ) (cds : ℕ) (start end : ℤ) (n : ℕ) (s : List ℕ) (room : ℕ) (text : List ℕ) → SFits w32 start → SFits w32 end → Bytes s
+    → cardWriting strand cds start end n s room ≡ written text → cardSays text ≡ input (inputOf strand cds start end n s)
+unfolding cardWriting
+written-back strand cds start end n s room text start-fits end-fits bs e =
+    let f = fits-in (judge strand cds start end n s) room (cardText (inputOf strand cds start end n s)) text e in
+    ap cardSays (f .is) ∙ taken-back strand cds start end n s (f .takes) start-fits end-fits bs (f .small)
+
+-- a card that reads and builds is what `write_card` writes of what it says
+pub read-rewritten : (s : List ℕ) (m : Numbers) (x : Made) (room : ℕ) → Bytes s → readCard s ≡ read.Card m → judgeCard s ≡ accepted x → length s ≤ room
+    → cardWriting (m .strand) (m .cds) (m .start) (m .end) (m .count) (drop recordsAt s) room ≡ written s
+unfolding cardWriting
+read-rewritten s m x room bs r j h =
+    let k = read-means s m r in
+    let text : cardText (inputIn s m) ≡ s = ap (λ (y : Numbers). cardText (inputIn s y)) (k .1) ∙ text-kept s bs (k .0) in
+    let taken : judge (m .strand) (m .cds) (m .start) (m .end) (m .count) (drop recordsAt s) ≡ accepted x = sym (ap (judgeRead s) r) ∙ j in
+    rw (taken, text, le-ltb mostCard (length s) (k .0 .few), le-ltb room (length s) h)

@@ -1,15 +1,18 @@
--- How long the listing's texts are at most, for numbers of 32 bits. Assumes nothing.
-use mathlib.Core.Path.{_≡_, refl, sym, ap, _∙_}
-use mathlib.Core.List.{List, [], _∷_, _++_}
-use Prim.Native.Nat.{ℕ, zero, suc, _+_, _*_, _^_, _≤_, _<_}
+-- How long the listing's texts are at most. A number of 32 bits has at most ten digits. Assumes nothing.
+use Prim.Native.Nat.{ℕ, _+_, _*_, _^_, _≤_, _<_}
 use native.Mathlib.Omega.{arith}
-use lib.ListN.{length, length-append}
+use lib.ListN.{length}
 use Rattle.refusals.specs.Numbers.{mostSegments}
 use Rattle.cigar.specs.Decimal.{decimal-short}
-use Rattle.cigar.specs.Write.{decimal}
-use Rattle.lines.specs.Listing.{numberText, numbersText}
+use Rattle.lines.specs.Listing.{numberText}
 
--- a header, and a line
+-- a space and a number, three of them and the newline, a header, a line
+abbrev pub mostNumber : ℕ
+mostNumber = 11
+
+abbrev pub mostNumbers : ℕ
+mostNumbers = 34
+
 abbrev pub mostHeader : ℕ
 mostHeader = 39
 
@@ -20,12 +23,5 @@ mostLine = 35
 abbrev pub mostListing : ℕ
 mostListing = mostHeader + mostLine * mostSegments
 
-pub number-short : (n : ℕ) → n < 2 ^ 32 → length (numberText n) ≤ 11
+pub number-short : (n : ℕ) → n < 2 ^ 32 → length (numberText n) ≤ mostNumber
 number-short n h = omega (arith, decimal-short n h)
-
-pub numbers-length : (a b c : ℕ) → length (numbersText a b c) ≡ length (numberText a) + length (numberText b) + length (numberText c) + 1
-unfolding numbersText
-numbers-length a b c = simp length-append
-
-pub numbers-short : (a b c : ℕ) → a < 2 ^ 32 → b < 2 ^ 32 → c < 2 ^ 32 → length (numbersText a b c) ≤ 34
-numbers-short a b c f g h = omega (arith, numbers-length a b c, number-short a f, number-short b g, number-short c h)

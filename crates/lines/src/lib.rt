@@ -9,23 +9,28 @@ ghost use Rattle.whole.specs.Whole.{eqZ};
 ghost use Rattle.refusals.specs.Numbers.{mostSegments};
 ghost use Rattle.lines.specs.Listing.{numberText, numbersText, signOf, headerText, listingText, refusalText, judgmentText};
 ghost use Rattle.lines.specs.Tables.{lineAt, linesFrom};
+ghost use Rattle.cigar.specs.Lent.{atFront};
 ghost use Rattle.segments.specs.Tables.{Holds, read};
 ghost use Rattle.transcript.specs.Outcome.{genomeAfter, transcriptAfter, lettersAfter};
 ghost use Rattle.card.specs.Putting.{Put};
 ghost use Rattle.card.specs.Writing.{judgeCard};
-ghost use Rattle.lines.specs.Lengths.{mostHeader, mostLine, mostListing};
+ghost use Rattle.lines.specs.Lengths.{mostNumber, mostNumbers, mostHeader, mostLine, mostListing};
 use refusals::MOST_SEGMENTS;
 use refusals::MOST_STARTS;
 use transcript::Built;
 
-// The most bytes of a listing.
-pub const MOST_LISTING: usize = 39 + 35 * MOST_SEGMENTS;
+// The most bytes of a header and of a line, whose numbers have ten digits at most, and of a listing: 71,719.
+const MOST_HEADER: usize = 39;
+
+const MOST_LINE: usize = 35;
+
+pub const MOST_LISTING: usize = MOST_HEADER + MOST_LINE * MOST_SEGMENTS;
 
 // A space and a number. Returns the place after it.
 fn put_number(buffer: &mut [u8], at: usize, n: u32) -> usize
-    requires { ⌜ at + 11 ≤ length (now buffer) ⌝ }
+    requires { ⌜ at + mostNumber ≤ length (now buffer) ⌝ }
     ensures { λ r. ⌜ Put (now (buffer .entry)) (now (buffer .exit)) at r (numberText n) ⌝ }
-    ensures within { λ r. ⌜ r ≤ at + 11 ⌝ }
+    ensures within { λ r. ⌜ r ≤ at + mostNumber ⌝ }
 {
     buffer[at] = b' ';
     cigar::write::put_digits(buffer, at + 1, n)
@@ -33,9 +38,9 @@ fn put_number(buffer: &mut [u8], at: usize, n: u32) -> usize
 
 // The three numbers that end a line, and the newline. Returns the place after it.
 fn put_numbers(buffer: &mut [u8], at: usize, a: u32, b: u32, c: u32) -> usize
-    requires { ⌜ at + 34 ≤ length (now buffer) ⌝ }
+    requires { ⌜ at + mostNumbers ≤ length (now buffer) ⌝ }
     ensures { λ r. ⌜ Put (now (buffer .entry)) (now (buffer .exit)) at r (numbersText a b c) ⌝ }
-    ensures within { λ r. ⌜ r ≤ at + 34 ⌝ }
+    ensures within { λ r. ⌜ r ≤ at + mostNumbers ⌝ }
 {
     let second = put_number(buffer, at, a);
     let third = put_number(buffer, second, b);
@@ -131,7 +136,7 @@ fn put_header(buffer: &mut [u8], forward: bool, count: u32, genome: u32, transcr
 }
 
 // The listing, at the front of a buffer that has room for any. Returns its length.
-pub fn put_listing(
+fn put_listing(
     buffer: &mut [u8],
     forward: bool,
     count: usize,
@@ -155,7 +160,7 @@ pub fn put_listing(
 }
 
 // The line of a refusal, at the front. Returns its length.
-pub fn put_refusal(buffer: &mut [u8], number: u8) -> usize
+fn put_refusal(buffer: &mut [u8], number: u8) -> usize
     requires { ⌜ mostListing ≤ length (now buffer) ⌝ }
     ensures { λ r. ⌜ Put (now (buffer .entry)) (now (buffer .exit)) 0 r (refusalText number) ⌝ }
     ensures within { λ r. ⌜ r ≤ mostListing ⌝ }
@@ -200,8 +205,9 @@ pub fn list_card(
     buffer: &mut [u8],
 ) -> usize
     requires { ⌜ mostListing ≤ length (now buffer) ⌝ }
-    ensures { λ r. ⌜ Put (now (buffer .entry)) (now (buffer .exit)) 0 r (judgmentText (judgeCard (now (card .entry)))) ⌝ }
+    ensures { λ r. ⌜ r ≡ length (judgmentText (judgeCard (now (card .entry)))) ⌝ }
     ensures within { λ r. ⌜ r ≤ mostListing ⌝ }
+    ensures { λ _. ⌜ now (buffer .exit) ≡ atFront (judgmentText (judgeCard (now (card .entry)))) (now (buffer .entry)) ⌝ }
     ensures { λ _. ⌜ now (genome .exit) ≡ genomeAfter (judgeCard (now (card .entry))) (now (genome .entry)) ⌝ }
     ensures { λ _. ⌜ now (transcript .exit) ≡ transcriptAfter (judgeCard (now (card .entry))) (now (transcript .entry)) ⌝ }
     ensures { λ _. ⌜ now (letters .exit) ≡ lettersAfter (judgeCard (now (card .entry))) (now (letters .entry)) ⌝ }

@@ -2,7 +2,8 @@
 -- Assumes nothing.
 use mathlib.Core.Path.{_≡_, sym, ap, _∙_}
 use mathlib.Core.List.{List}
-use Prim.Native.Nat.{ℕ}
+use Prim.Native.Nat.{ℕ, _≤_}
+use native.Mathlib.Nat.{zero-add}
 use native.Mathlib.Omega.{arith}
 use borrow.Author.Tests.{le-leb}
 use lib.IntN.{ℤ, pos, natAbs}
@@ -10,16 +11,18 @@ use lib.ListN.{length}
 use mir.Syntax.{w32}
 use mir.Val.{SFits}
 use Rattle.whole.specs.Whole.{eqZ, read, widened, fits-wider}
+use Rattle.cigar.specs.Lent.{atFront, sets-front}
 use Rattle.cigar.specs.Elements.{genome, transcript}
 use Rattle.segments.specs.Tables.{startTable, letterTable}
 use Rattle.transcript.specs.Judging.{Judged, Made}
 use Rattle.transcript.specs.Outcome.{strandOf, elementsIn, genomeAfter, transcriptAfter, lettersAfter}
 use Rattle.transcript.specs.Accepted.{Sane}
 use Rattle.transcript.specs.declared.Head.{Head}
-use Rattle.card.specs.Putting.{put-length, put-as}
+use Rattle.card.specs.Putting.{Put, put-length, put-as}
 use Rattle.card.specs.Taken.{card-sane}
 use Rattle.card.specs.Writing.{judgeCard}
 use Rattle.lines.specs.Listing.{judgmentText}
+use Rattle.lines.specs.Lengths.{mostListing}
 use Rattle.lines.proofs.Built.{Makes, makes, refuses, strand-fits, plus-is, made-holds, made-listed}
 use borrow.Author.Needs.{needs}
 use Rattle.lines.proofs.list_card.Statement.{statement}
@@ -112,6 +115,13 @@ enum-known-k c = search needs
 put-refusal-requires : tie.Need-put-refusal-requires
 put-refusal-requires c κs = omega arith
 
+-- a text of at most a listing's length, put at the front
+in-front : {before after text : List ℕ} {r : ℕ} → Put before after 0 r text → r ≤ mostListing → mostListing ≤ length before
+    → (r ≡ length text) × (after ≡ atFront text before)
+in-front {before} {after} {text} p short room =
+    let n : _ ≡ length text = p .past ∙ zero-add (length text) in
+    (n, p .stored ∙ sets-front text before (omega (arith, n)))
+
 same-length : tie.Need-same-length
 same-length c = put-length (c .before .before .put-listing .ensures .0)
 
@@ -122,7 +132,8 @@ returns c =
     let e = made-listed (thing h) (genome-is h) (transcript-is h) (letters-are h) (number-is n) (forward-is n) ∙ sym (ap judgmentText (makes-head h .is)) in
     let b = call h .build-card .ensures in
     let p = c .before .before .put-listing .ensures in
-    (put-as e (p .0), (p .1, b .1))
+    let w = in-front (put-as e (p .0)) (p .1) (entry (call h) .pre) in
+    (w .0, (p .1, (w .1, b .1)))
 
 same-length-2 : tie.Need-same-length-2
 same-length-2 c = put-length (c .before .before .put-refusal .ensures .0)
@@ -133,7 +144,8 @@ returns-2 c =
     let b = c .before .before .before .before .before .before .before .build-card .ensures in
     let e = ap judgmentText (refuses (judgeCard (entry (c .before .before .before .before .before .before .before) .args .card .now)) (k .0 .0) (sym (b .0) ∙ k .1)) in
     let p = c .before .before .put-refusal .ensures in
-    (put-as (sym e) (p .0), (p .1, b .1))
+    let w = in-front (put-as (sym e) (p .0)) (p .1) (entry (c .before .before .before .before .before .before .before) .pre) in
+    (w .0, (p .1, (w .1, b .1)))
 
 pub list-card-spec : {M : Type 1} → statement M
 list-card-spec =
