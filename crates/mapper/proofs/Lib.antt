@@ -3,3 +3,4 @@ mod Wide
 mod Ends
 mod Sizes
 mod Spans
+mod Sources

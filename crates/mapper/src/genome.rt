@@ -34,7 +34,7 @@ pub struct Alignment {
 }
 
 // The last entry of a table of count segments: how far they go in all.
-fn last(starts: &[u32; MOST_STARTS], count: usize) -> u32
+pub fn last(starts: &[u32; MOST_STARTS], count: usize) -> u32
     requires { ⌜ count ≤ mostSegments ⌝ }
     ensures { λ r. ⌜ r ≡ getD (now (starts .entry)) count 0 ⌝ }
 {
