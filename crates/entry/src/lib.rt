@@ -1,5 +1,6 @@
 // The host's boundary: the functions of include/txc.h. Each takes plain numbers and lent memory apart, calls one function of the floors
 // below and lays its answer out; no rule lives here.
-mod lay;
+pub mod ask;
+pub mod lay;
 mod take;
-mod text;
+pub mod text;

@@ -5,3 +5,7 @@ pub mod Asking
 pub mod Paper
 pub mod Lying
 pub mod Refusing
+pub mod Occurring
+pub mod Lenient
+pub mod Marks
+pub mod Same

@@ -47,23 +47,39 @@ pub record Only {A : Type 0} (ks : List ℕ) (a : Answer A) : Type 0 where
 pub record OnlyPlain {A : Type 0} (ks : List ℕ) (a : Plain A) : Type 0 where
   pub only : AmongPlain ks a
 
-denied-told : {A : Type 0} {k : ℕ} {a : A} → denied k ≡ told a → ⊥
-denied-told e = let z : _≡_ {A = ℕ} 0 1 = cc in omega arith
+-- ---- what c. to n. tells
 
-neither : (a b : Bool) → (a || b) ≡ false → (a ≡ false) × (b ≡ false)
-neither true b e = absurd (false≢true (sym e))
-neither false b e = (refl, e)
+pub denied-told : {A : Type 0} {k : ℕ} {a : A} → denied k ≡ told a → ⊥
+denied-told e = let z : _≡_ {A = ℕ} 0 1 = cc in omega arith
 
 told-same : {A : Type 0} {a b : A} → told a ≡ told b → a ≡ b
 told-same e = cc
 
+-- a position that is told is the crossed one, which 16 does not refuse
+pub told-is : (strict : Bool) (len s e : ℕ) (a : CPosition) (n : NPosition) → nPosition strict len s e a ≡ told n → (record { base = nOfC (pos s) (pos e) (a .base); offset = a .offset } ≡ n) × (refuses16 strict len (n .base) ≡ false)
+unfolding nPosition
+told-is strict len s e a n h =
+    let there : NPosition = record { base = nOfC (pos s) (pos e) (a .base); offset = a .offset } in
+    by-test (refuses16 strict len (there .base))
+    (λ t. absurd (denied-told (simp t at h)))
+    (λ t.
+    by-test (nFits there)
+    (λ f.
+    let same : there ≡ n = told-same (simp (t, f) at h) in
+    (same, subst (λ (x : NPosition). refuses16 strict len (x .base) ≡ false) same t))
+    (λ f. absurd (denied-told (simp (t, f) at h))))
+
 -- an interval that is told has both its ends told
-both-told : (a b : Plain NPosition) (n : NInterval) → bothEnds nInterval a b ≡ told n → (a ≡ told (n .from)) × (b ≡ told (n .to))
+pub both-told : (a b : Plain NPosition) (n : NInterval) → bothEnds nInterval a b ≡ told n → (a ≡ told (n .from)) × (b ≡ told (n .to))
 both-told (told a) (told b) n e =
     let i : nInterval a b ≡ n = told-same e in
     (ap (λ (j : NInterval). told (j .from)) i, ap (λ (j : NInterval). told (j .to)) i)
 both-told (told a) (denied k) n e = absurd (denied-told e)
 both-told (denied k) b n e = absurd (denied-told e)
+
+neither : (a b : Bool) → (a || b) ≡ false → (a ≡ false) × (b ≡ false)
+neither true b e = absurd (false≢true (sym e))
+neither false b e = (refl, e)
 
 -- the place that an n. position is looked up at
 abbrev turnedPlace : Transcript → NPosition → ℤ
@@ -176,19 +192,7 @@ module _ (ks : List ℕ) where
 
     -- ---- c. to g.: an n. number that strict c. to n. gives lies in 1 to the length, so the second mapping never gives 14
 
-    -- what c. to n. tells is not refused by 16
-    told-kept : (len s e : ℕ) (a : CPosition) (n : NPosition) → nPosition strict len s e a ≡ told n → refuses16 strict len (n .base) ≡ false
-    unfolding nPosition
-    told-kept len s e a n h =
-        let there : NPosition = record { base = nOfC (pos s) (pos e) (a .base); offset = a .offset } in
-        by-test (refuses16 strict len (there .base))
-        (λ t. absurd (denied-told (simp t at h)))
-        (λ t.
-        by-test (nFits there)
-        (λ f. let same : there ≡ n = told-same (simp (t, f) at h) in subst (λ (x : NPosition). refuses16 strict len (x .base) ≡ false) same t)
-        (λ f. absurd (denied-told (simp (t, f) at h))))
-
-    -- nor is its place outside, turned or not
+    -- what is not refused by 16 has no place outside, turned or not
     kept-inside : (forward : Bool) (len : ℕ) (n : ℤ) → refuses16 strict len n ≡ false → inside strict len (turned forward len (placeOfN n)) ≡ true
     unfolding refuses16 inside turned placeOfN
     kept-inside forward len n h = by-test strict (λ s. rw s (go forward (simp s at h))) (λ s. rw s)
@@ -231,7 +235,7 @@ module _ (ks : List ℕ) where
         go noCds n e = absurd (denied-told e)
         go (cds s e) n h =
             let (from, to) = both-told _ _ n h in
-            (told-kept (transcriptLength t) s e (i .from) (n .from) from, told-kept (transcriptLength t) s e (i .to) (n .to) to)
+            (told-is strict (transcriptLength t) s e (i .from) (n .from) from .1, told-is strict (transcriptLength t) s e (i .to) (n .to) to .1)
 
     -- ---- the questions
 

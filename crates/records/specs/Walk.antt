@@ -1,14 +1,14 @@
 -- Where a walk over records stands, and how it goes on. The passes over records that passed 21, 4, 5 and 6 ask for this. Assumes nothing.
 use Prim.Native.Nat.{ℕ, zero, suc, _+_, _-_, _≤_, _<_}
 use native.Mathlib.Omega.{arith}
-use mathlib.Core.Bool.{Bool, true, false, _&&_, false≢true}
+use mathlib.Core.Bool.{Bool, true, false, _&&_, false≢true, true≢false}
 use mathlib.Core.List.{List, [], _∷_}
 use mathlib.Core.Path.{_≡_, refl, sym, ap, subst, _∙_}
 use lib.Dec.{eqb, leb}
-use lib.IntN.{pos}
+use lib.IntN.{ℤ, pos, negsuc, natAbs}
 use lib.ListN.{length}
 use lib.Signed.{ltZ}
-use borrow.Author.Tests.{leb-true, le-leb, lt-leb}
+use borrow.Author.Tests.{ltb-false, leb-true, le-leb, lt-leb}
 use Rattle.refusals.specs.Numbers.{badBound}
 use Rattle.whole.specs.Whole.{if_then_else_}
 use Rattle.records.specs.Layout.{cigarText}
@@ -128,6 +128,14 @@ pub record Beside (p r : Record) : Type 0 where
   pub end-whole : ltZ (p .alt-end) (pos 0) ≡ false
   pub start-whole : ltZ (r .alt-start) (pos 0) ≡ false
   pub in-order : ltZ (r .alt-start) (p .alt-end) ≡ false
+
+whole-order : (a b : ℤ) → ltZ a (pos 0) ≡ false → ltZ b (pos 0) ≡ false → ltZ b a ≡ false → natAbs a ≤ natAbs b
+whole-order (pos a) (pos b) h k l = omega (arith, ltb-false)
+whole-order (pos a) (negsuc b) h k l = absurd (true≢false k)
+whole-order (negsuc a) b h k l = absurd (true≢false h)
+
+pub beside-order : {p r : Record} → Beside p r → natAbs (p .alt-end) ≤ natAbs (r .alt-start)
+beside-order {p} {r} b = whole-order (p .alt-end) (r .alt-start) (b .end-whole) (b .start-whole) (b .in-order)
 
 -- the records after p stand in genomic order
 abbrev pub Ordered : Record → List Record → Type 0

@@ -158,7 +158,7 @@ fn judge_on(forward: bool, start: Bound, end: Bound, count: usize, s: &[u8]) -> 
 }
 
 // Building's own order: 1, 2, and the rest on a strand.
-fn judge_records(strand: i64, start: Bound, end: Bound, count: usize, s: &[u8]) -> Tally
+fn judge_records(strand: i32, start: Bound, end: Bound, count: usize, s: &[u8]) -> Tally
     requires { ⌜ exactly count (now s) 0 ≡ true ⌝ }
     ensures { λ r. ⌜ (r ≡ toldOf (judgeRecords strand start end (recordsFrom count (now (s .entry)) 0))) × BoundedTally r ⌝ }
 {
@@ -184,7 +184,7 @@ pub fn judge(strand: i32, bits: u32, start: i32, end: i32, count: usize, s: &[u8
     if records::are_records(count, s) {
         let from = start_of(bits, start);
         let to = end_of(bits, end);
-        return judge_records(strand as i64, from, to, count, s);
+        return judge_records(strand, from, to, count, s);
     }
     Tally::Refused(NO_CARD)
 }

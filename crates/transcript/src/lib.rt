@@ -1,4 +1,5 @@
 // Transcripts: built from records or from a length, and what it means to hold together.
+pub mod building;
 pub mod holding;
 pub mod judging;
 pub mod reading;

@@ -1,7 +1,7 @@
 -- `judging::judge` meets its contract. The tests go the way of the definition. Assumes nothing.
 use mathlib.Core.Path.{_≡_, refl, sym, _∙_}
 use borrow.Author.Tests.{lt-ltb, le-ltb}
-use Rattle.whole.specs.Whole.{read, widened, fits-wider}
+use Rattle.whole.specs.Whole.{read}
 use Rattle.transcript.specs.Judging.{bothBits, judge}
 use borrow.Author.Needs.{needs}
 use Rattle.transcript.proofs.judging.judge.Statement.{statement}
@@ -21,11 +21,6 @@ start-of-requires c κs = search needs
 end-of-requires : tie.Need-end-of-requires
 end-of-requires c κs = search needs
 
-cast-judge-records : tie.Need-cast-judge-records
-cast-judge-records c =
-    let f = c .before .before .before .before .before .before .fits .strand in
-    rw (read f) (fits-wider f)
-
 judge-records-requires : tie.Need-judge-records-requires
 judge-records-requires c κs = sym (c .before .before .before .are-records .ensures) ∙ c .before .before .if2 .taken
 
@@ -37,7 +32,7 @@ returns-2 c =
     let exact = sym (c .before .before .before .before .are-records .ensures) ∙ c .before .before .before .if2 .taken in
     let start = c .before .before .start-of .ensures in
     let end = c .before .end-of .ensures in
-    (rw (known, exact) (rw (widened (s .fits .strand), start, end, read (s .fits .start), read (s .fits .end)) at (c .judge-records .ensures .0)), c .judge-records .ensures .1)
+    (rw (known, exact) (rw (read (s .fits .strand), start, end, read (s .fits .start), read (s .fits .end)) at (c .judge-records .ensures .0)), c .judge-records .ensures .1)
 
 returns-3 : tie.Need-returns-3
 unfolding judge
@@ -55,7 +50,6 @@ judge-spec =
     are-records-requires
     start-of-requires
     end-of-requires
-    cast-judge-records
     judge-records-requires
     returns-2
     returns-3)

@@ -4,22 +4,22 @@ use mathlib.Core.List.{List}
 use native.Mathlib.Omega.{arith}
 use lib.IntN.{pos, negsuc}
 use lib.ListN.{length}
-use mir.Syntax.{w64}
+use mir.Syntax.{w32}
 use mir.Val.{SFits}
 use borrow.Author.Tests.{eq-eqb, ne-eqb}
-use Rattle.whole.specs.Whole.{same-read, other-read}
 use Rattle.records.specs.Records.{Record, recordsFrom}
 use Rattle.records.specs.Walk.{records-length}
 use Rattle.transcript.specs.Judging.{judgeRecords}
+use Rattle.transcript.proofs.Heads.{same-32, other-32}
 use borrow.Author.Needs.{needs}
 use Rattle.transcript.proofs.judging.judge_records.Statement.{statement}
 use Rattle.transcript.proofs.judging.judge_records.Tie as tie
 
--- the two strands fit an `i64`
-one : SFits w64 (pos 1)
+-- the two strands fit an `i32`
+one : SFits w32 (pos 1)
 one = omega arith
 
-minus-one : SFits w64 (negsuc 0)
+minus-one : SFits w32 (negsuc 0)
 minus-one = omega arith
 
 -- the records
@@ -43,7 +43,7 @@ unfolding judgeRecords
 returns-2 c =
     let s = c .before .before .before .before in
     let some = ne-eqb (length (rs s)) 0 (λ e. c .before .before .if1 .left (sym (many s) ∙ e)) in
-    let plus = same-read (s .args .strand) (pos 1) (s .fits .strand) one (c .before .if2 .taken) in
+    let plus = same-32 (s .fits .strand) one (c .before .if2 .taken) in
     (rw (some, plus) (c .judge-on .ensures .0), c .judge-on .ensures .1)
 
 judge-on-requires-2 : tie.Need-judge-on-requires-2
@@ -54,8 +54,8 @@ unfolding judgeRecords
 returns-3 c =
     let s = c .before .before .before .before .before in
     let some = ne-eqb (length (rs s)) 0 (λ e. c .before .before .before .if1 .left (sym (many s) ∙ e)) in
-    let not-plus = other-read (s .args .strand) (pos 1) (c .before .before .if2 .left) in
-    let minus = same-read (s .args .strand) (negsuc 0) (s .fits .strand) minus-one (c .before .if3 .taken) in
+    let not-plus = other-32 (s .args .strand) (pos 1) (c .before .before .if2 .left) in
+    let minus = same-32 (s .fits .strand) minus-one (c .before .if3 .taken) in
     (rw (some, not-plus, minus) (c .judge-on2 .ensures .0), c .judge-on2 .ensures .1)
 
 returns-4 : tie.Need-returns-4
@@ -63,8 +63,8 @@ unfolding judgeRecords
 returns-4 c =
     let s = c .before .before .before .before in
     let some = ne-eqb (length (rs s)) 0 (λ e. c .before .before .if1 .left (sym (many s) ∙ e)) in
-    let not-plus = other-read (s .args .strand) (pos 1) (c .before .if2 .left) in
-    let not-minus = other-read (s .args .strand) (negsuc 0) (c .if3 .left) in
+    let not-plus = other-32 (s .args .strand) (pos 1) (c .before .if2 .left) in
+    let not-minus = other-32 (s .args .strand) (negsuc 0) (c .if3 .left) in
     (rw (some, not-plus, not-minus), tt)
 
 pub judge-records-spec : {M : Type 1} → statement M

@@ -3,7 +3,7 @@ use mathlib.Core.Path.{ap₂}
 use Prim.Native.Nat.{_-_}
 use native.Mathlib.Omega.{arith}
 use Rattle.records.specs.Records.{recordAt}
-use Rattle.transcript.proofs.Gaps.{beside-order}
+use Rattle.records.specs.Walk.{beside-order}
 use borrow.Author.Needs.{needs}
 use Rattle.transcript.proofs.reading.gap_at.Statement.{statement}
 use Rattle.transcript.proofs.reading.gap_at.Tie as tie

@@ -1,0 +1,389 @@
+-- What is known of an input that building accepts.
+--     accepted-means, records-mean, measured-means    the judgment taken apart: no test refused, and what was made of the input
+--     sane                                            what is known of what records make: few segments, six letters, none of 9, 10 and 12, records in order
+-- Assumes nothing.
+use Prim.Native.Nat.{ℕ, zero, suc, _+_, _-_, _%_, _≤_, _<_}
+use native.Mathlib.Omega.{arith}
+use mathlib.Core.Bool.{Bool, true, false, cond, not}
+use mathlib.Core.List.{List, [], _∷_, _++_}
+use mathlib.Core.Path.{_≡_, refl, sym, ap, subst, _∙_}
+use lib.Dec.{eqb, ltb, leb}
+use lib.IntN.{ℤ, pos, negsuc, natAbs}
+use lib.ListN.{length, length-append, length-reverse}
+use lib.Signed.{ltZ}
+use borrow.Author.Tests.{eqb-true, eqb-false, ltb-true, ltb-false, leb-true, leb-false}
+use Rattle.refusals.specs.Numbers.{mostRecords, mostSegments, mostText, mostBases}
+use Rattle.whole.specs.Whole.{if_then_else_, by-test, order, eqZ, eq-by, eq-yes-says}
+use Rattle.cigar.specs.Elements.{Element, isLetter, genome, transcript, total}
+use Rattle.cigar.specs.Text.{Reading, elements, refused as unread, readAll}
+use Rattle.cigar.specs.Sound.{AllSound, read-sound, read-room}
+use Rattle.segments.specs.Made.{Lettered, lettered-append, lettered-reverse}
+use Rattle.records.specs.Records.{Record, exactly, recordsFrom}
+use Rattle.records.specs.Faults.{_orElse_, faults, faultsAfter, ownFault}
+use Rattle.records.specs.Chain.{clear}
+use Rattle.records.specs.Walk.{Beside, beside-order, Ordered, ordered}
+use Rattle.transcript.specs.Transcript.{Cds}
+use Rattle.transcript.specs.Transcript.Cds.{noCds, cds}
+use Rattle.transcript.specs.Building.{Exon, partsOf, gap, elementsAfter, elementsOf, firstStart}
+use Rattle.transcript.specs.Reading.{startOf as genomeStart, endOf as genomeEnd, exonOf, Exons, exons, denied, beforeAll, andThen, readFirst, readNext, exonsAfter, exonsOf}
+use Rattle.transcript.specs.Judging.{Judged, refused, accepted, unless, Made, Measured, bothBits, startOf, endOf, halfFault, rangeFault, cdsFault, cdsOf, lastFault, judgeExons, judgeOn, judgeRecords, judge, judgeLength}
+use Rattle.transcript.specs.Outcome.{bitsOf, startIn, endIn, strandOf, elementsIn}
+use Rattle.transcript.specs.declared.Bound.{Bound}
+use Rattle.transcript.specs.declared.Bound.the-variants.{Given, Absent}
+
+-- ---- the judgment, taken apart
+
+-- a refusal is no acceptance
+clash : {A : Type 0} {k : ℕ} {a : A} → refused k ≡ accepted a → ⊥
+clash e = let z : _≡_ {A = ℕ} 0 1 = cc in omega arith
+
+same : {A : Type 0} {a b : A} → accepted a ≡ accepted b → a ≡ b
+same e = cc
+
+-- where a chain accepts, no test of it refuses
+passed : {A : Type 0} (k : ℕ) (j : Judged A) (a : A) → unless k j ≡ accepted a → (k ≡ 0) × (j ≡ accepted a)
+passed k j a =
+    by-test (eqb k 0)
+    (λ t. rw t (λ h. (eqb-true k 0 t, h)))
+    (λ t. rw t (λ h. absurd (clash h)))
+
+-- on a strand
+pub record On (start end : Bound) (rs : List Record) (m : Made) : Type 0 where
+  pub few : length rs ≤ mostRecords
+  pub sound : faults (m .forward) rs ≡ 0
+  pub both-or-none : halfFault start end ≡ 0
+  pub were-read : exonsOf rs ≡ exons (m .exon-list)
+  pub last : lastFault start end (length (elementsIn m)) (firstStart (m .exon-list)) (total genome (elementsIn m)) (total transcript (elementsIn m)) ≡ 0
+  pub coding-is : m .coding ≡ cdsOf start end
+
+module _ (forward : Bool) (start end : Bound) (rs : List Record) (m : Made) where
+  exons-pass : (x : Exons) → x ≡ exonsOf rs → length rs ≤ mostRecords → faults forward rs ≡ 0 → halfFault start end ≡ 0
+      → judgeExons forward start end x ≡ accepted m → (m .forward ≡ forward) × On start end rs m
+  exons-pass (exons xs) read few sound half h =
+      let (no-last, is) = passed _ (accepted _) m h in
+      let made = same is in
+      rw (← made) (refl, record { few = few; sound = sound; both-or-none = half; were-read = sym read; last = no-last; coding-is = refl })
+  exons-pass (denied k) read few sound half h = absurd (clash h)
+
+  on-strand : judgeOn forward start end rs ≡ accepted m → (m .forward ≡ forward) × On start end rs m
+  unfolding judgeOn
+  on-strand =
+      by-test (ltb mostRecords (length rs))
+      (λ t. rw t (λ h. absurd (clash h)))
+      (λ t. rw t (λ h.
+      let (sound, h₁) = passed (faults forward rs) (unless (halfFault start end) (judgeExons forward start end (exonsOf rs))) m h in
+      let (half, h₂) = passed (halfFault start end) (judgeExons forward start end (exonsOf rs)) m h₁ in
+      exons-pass (exonsOf rs) refl (ltb-false mostRecords (length rs) t) sound half h₂))
+
+-- records that are accepted: there is one, the strand is 1 or -1, and nothing refuses them on it
+pub record RecordsPass (strand : ℤ) (start end : Bound) (rs : List Record) (m : Made) : Type 0 where
+  pub some : 0 < length rs
+  pub strand-is : strand ≡ strandOf (m .forward)
+  pub on : On start end rs m
+
+positive : (n : ℕ) → (n ≡ 0 → ⊥) → 0 < n
+positive zero h = absurd (h refl)
+positive (suc n) h = omega arith
+
+pub records-mean : (strand : ℤ) (start end : Bound) (rs : List Record) (m : Made) → judgeRecords strand start end rs ≡ accepted m → RecordsPass strand start end rs m
+unfolding judgeRecords
+records-mean strand start end rs m =
+    by-test (eqb (length rs) 0)
+    (λ t. rw t (λ h. absurd (clash h)))
+    (λ t.
+    let some = positive (length rs) (eqb-false (length rs) 0 t) in
+    by-test (eqZ strand (pos 1))
+    (λ u. rw (t, u) (λ h.
+    let (forward, on) = on-strand true start end rs m h in
+    record { some = some; strand-is = rw forward (eq-by strand (pos 1) (eq-yes-says strand (pos 1) u)); on = on }))
+    (λ u.
+    by-test (eqZ strand (negsuc 0))
+    (λ v. rw (t, u, v) (λ h.
+    let (forward, on) = on-strand false start end rs m h in
+    record { some = some; strand-is = rw forward (eq-by strand (negsuc 0) (eq-yes-says strand (negsuc 0) v)); on = on }))
+    (λ v. rw (t, u, v) (λ h. absurd (clash h)))))
+
+-- what a host hands over and is accepted: known CDS bits, and bytes that are just n records
+pub record Accepted (strand : ℤ) (bits : ℕ) (start end : ℤ) (n : ℕ) (s : List ℕ) (m : Made) : Type 0 where
+  pub known : bits ≤ bothBits
+  pub exact : exactly n s 0 ≡ true
+  pub pass : RecordsPass strand (startOf bits start) (endOf bits end) (recordsFrom n s 0) m
+
+pub accepted-means : (strand : ℤ) (bits : ℕ) (start end : ℤ) (n : ℕ) (s : List ℕ) (m : Made) → judge strand bits start end n s ≡ accepted m → Accepted strand bits start end n s m
+unfolding judge
+accepted-means strand bits start end n s m =
+    by-test (ltb bothBits bits)
+    (λ t. rw t (λ h. absurd (clash h)))
+    (λ t.
+    by-test (exactly n s 0)
+    (λ u. rw (t, u) (λ h.
+    record { known = ltb-false bothBits bits t; exact = u; pass = records-mean strand (startOf bits start) (endOf bits end) (recordsFrom n s 0) m h }))
+    (λ u. rw (t, u) (λ h. absurd (clash h))))
+
+-- ---- the CDS
+
+-- a CDS lies in a transcript of that length
+abbrev pub CdsInside : Cds → ℕ → Type 0
+CdsInside noCds len = Unit {0}
+CdsInside (cds s e) len = (s ≤ e) × (e ≤ len)
+
+-- the number of a bound, 0 where it is not given
+abbrev pub numberOf : Bound → ℤ
+numberOf (Given z) = z
+numberOf Absent = pos 0
+
+-- bounds that pass 11 and 12: the CDS lies in the transcript, and its numbers are those that were given
+pub record CdsPass (start end : Bound) (len : ℕ) : Type 0 where
+  pub inside : CdsInside (cdsOf start end) len
+  pub start-is : numberOf start ≡ startIn (cdsOf start end)
+  pub end-is : numberOf end ≡ endIn (cdsOf start end)
+
+whole : (z : ℤ) → ltZ z (pos 0) ≡ false → z ≡ pos (natAbs z)
+whole (pos n) h = refl
+whole (negsuc n) h = absurd (omega order)
+
+range-pass : (s e : ℤ) (len : ℕ) → rangeFault s e (pos len) ≡ 0 → CdsPass (Given s) (Given e) len
+unfolding rangeFault
+range-pass s e len =
+    by-test (ltZ s (pos 0))
+    (λ t. rw t (λ h. absurd (omega arith)))
+    (λ t.
+    by-test (ltZ e s)
+    (λ u. rw (t, u) (λ h. absurd (omega arith)))
+    (λ u.
+    by-test (ltZ (pos len) e)
+    (λ v. rw (t, u, v) (λ h. absurd (omega arith)))
+    (λ v h.
+    let s-whole = whole s t in
+    let e-whole = whole e (omega order) in
+    record { inside = (omega order, omega order); start-is = s-whole; end-is = e-whole })))
+
+pub cds-pass : (start end : Bound) (len : ℕ) → halfFault start end ≡ 0 → cdsFault start end len ≡ 0 → CdsPass start end len
+cds-pass (Given s) (Given e) len h k = range-pass s e len k
+cds-pass (Given s) Absent len h k = absurd (omega arith)
+cds-pass Absent (Given e) len h k = absurd (omega arith)
+cds-pass Absent Absent len h k = record { inside = tt; start-is = refl; end-is = refl }
+
+-- bits that pass 23 and 11 are those of the CDS
+pub bits-are : (bits : ℕ) (start end : ℤ) → bits ≤ bothBits → halfFault (startOf bits start) (endOf bits end) ≡ 0
+    → pos bits ≡ bitsOf (cdsOf (startOf bits start) (endOf bits end))
+bits-are bits start end known =
+    by-test (eqb (bits % 2) 1)
+    (λ t.
+    by-test (leb 2 bits)
+    (λ u. rw (t, u) (λ h. ap pos (omega (arith, eqb-true (bits % 2) 1 t, leb-true 2 bits u))))
+    (λ u. rw (t, u) (λ h. absurd (omega arith))))
+    (λ t.
+    by-test (leb 2 bits)
+    (λ u. rw (t, u) (λ h. absurd (omega arith)))
+    (λ u. rw (t, u) (λ h. ap pos (even bits (leb-false 2 bits u) (eqb-false (bits % 2) 1 t)))))
+  where
+    even : (n : ℕ) → n < 2 → (n % 2 ≡ 1 → ⊥) → n ≡ 0
+    even zero l h = refl
+    even (suc zero) l h = absurd (h refl)
+    even (suc (suc n)) l h = absurd (omega arith)
+
+-- ---- 10, 9 and 12
+
+pub record LastPass (start end : Bound) (n first g t : ℕ) : Type 0 where
+  pub some : 0 < n
+  pub transcript-small : t ≤ mostBases
+  pub genome-small : first + g ≤ mostBases
+  pub cds-fits : cdsFault start end t ≡ 0
+
+pub last-pass : (start end : Bound) (n first g t : ℕ) → lastFault start end n first g t ≡ 0 → LastPass start end n first g t
+unfolding lastFault
+last-pass start end n first g t =
+    by-test (eqb n 0)
+    (λ a. rw a (λ h. absurd (omega arith)))
+    (λ a.
+    by-test (ltb mostBases t)
+    (λ b. rw (a, b) (λ h. absurd (omega arith)))
+    (λ b.
+    by-test (ltb mostBases (first + g))
+    (λ c. rw (a, b, c) (λ h. absurd (omega arith)))
+    (λ c. rw (a, b, c) (λ h. record {
+      some = positive n (eqb-false n 0 a);
+      transcript-small = ltb-false mostBases t b;
+      genome-small = ltb-false mostBases (first + g) c;
+      cds-fits = h;
+    }))))
+
+-- ---- records that were read
+
+-- a record that was read, and those after it
+pub record Split (r : Record) (p : Reading) (next : ℕ → Exons) (xs : List Exon) : Type 0 where
+  pub own : List Element
+  pub rest : List Exon
+  pub was-read : p ≡ elements own
+  pub others : next (length own) ≡ exons rest
+  pub is : xs ≡ exonOf r own ∷ rest
+
+pub split : (r : Record) (p : Reading) (next : ℕ → Exons) (xs : List Exon) → andThen r p next ≡ exons xs → Split r p next xs
+split r (elements es) next xs h = go (next (length es)) refl h
+  where
+    go : (q : Exons) → next (length es) ≡ q → beforeAll (exonOf r es) q ≡ exons xs → Split r (elements es) next xs
+    go (exons ys) e h = record { own = es; rest = ys; was-read = refl; others = e; is = let is : exonOf r es ∷ ys ≡ xs = cc in sym is }
+    go (denied k) e h = let z : _≡_ {A = ℕ} 0 1 = cc in absurd (omega arith)
+split r (unread k) next xs h = let z : _≡_ {A = ℕ} 0 1 = cc in absurd (omega arith)
+
+none-left : (xs : List Exon) → exons [] ≡ exons xs → xs ≡ []
+none-left xs h = let is : [] ≡ xs = cc in sym is
+
+-- ---- few segments, and six letters
+
+lettered : (es : List Element) → AllSound es → Lettered es
+lettered [] h = tt
+lettered (x ∷ xs) (s, h) = (s .lettered, lettered xs h)
+
+-- a record's elements, in the order of the strand, and others after them
+parts-lettered : (forward : Bool) (x : Exon) → Lettered (x .parts) → Lettered (partsOf forward x)
+unfolding partsOf
+parts-lettered true x h = h
+parts-lettered false x h = lettered-reverse (x .parts) h
+
+parts-length : (forward : Bool) (x : Exon) → length (partsOf forward x) ≡ length (x .parts)
+unfolding partsOf
+parts-length true x = refl
+parts-length false x = length-reverse (x .parts)
+
+-- a reading's elements have room, and six letters
+pub record Fine (room : ℕ) (es : List Element) : Type 0 where
+  pub fits : length es ≤ room
+  pub letters : Lettered es
+
+never : {k : ℕ} {es : List Element} → unread k ≡ elements es → ⊥
+never e = let z : _≡_ {A = ℕ} 0 1 = cc in omega arith
+
+read-fine : (room : ℕ) (text : List ℕ) (es : List Element) → readAll room text ≡ elements es → Fine room es
+read-fine room text es e = record { fits = read-room room text e; letters = lettered es (read-sound room text e) }
+
+first-fine : (r : Record) (es : List Element) → readFirst r ≡ elements es → Fine mostSegments es
+unfolding readFirst
+first-fine r es =
+    by-test (ltb mostText (length (r .cigar)))
+    (λ t. rw t (λ h. absurd (never h)))
+    (λ t. rw t (λ h. read-fine mostSegments (r .cigar) es h))
+
+next-fine : (used : ℕ) (r : Record) (es : List Element) → used ≤ mostSegments → readNext used r ≡ elements es → (used < mostSegments) × Fine (mostSegments - (used + 1)) es
+unfolding readNext
+next-fine used r es few =
+    by-test (ltb mostText (length (r .cigar)))
+    (λ t. rw t (λ h. absurd (never h)))
+    (λ t.
+    by-test (eqb used mostSegments)
+    (λ u. rw (t, u) (λ h. absurd (never h)))
+    (λ u. rw (t, u) (λ h. (below used few (eqb-false used mostSegments u), read-fine (mostSegments - (used + 1)) (r .cigar) es h))))
+  where
+    below : (n : ℕ) → n ≤ mostSegments → (n ≡ mostSegments → ⊥) → n < mostSegments
+    below n l h = by-test (ltb n mostSegments) (λ e. ltb-true n mostSegments e) (λ e. let past = ltb-false n mostSegments e in absurd (h (omega arith)))
+
+-- the N before a record is one of the six letters
+gap-lettered : isLetter 78 ≡ true
+unfolding isLetter
+gap-lettered = refl
+
+module _ (forward : Bool) where
+  after-fine : (e used : ℕ) (rs : List Record) (xs : List Exon) → used ≤ mostSegments → exonsAfter used rs ≡ exons xs → Fine (mostSegments - used) (elementsAfter forward e xs)
+  unfolding exonsAfter elementsAfter
+  after-fine e used [] xs few h = rw (none-left xs h) (record { fits = omega arith; letters = tt })
+  after-fine e used (r ∷ rs) xs few h =
+      let s = split r (readNext used r) (λ n. exonsAfter (used + 1 + n) rs) xs h in
+      let (room, own) = next-fine used r (s .own) few (s .was-read) in
+      let x = exonOf r (s .own) in
+      let rest = after-fine (x .alt-end) (used + 1 + length (s .own)) rs (s .rest) (omega (arith, own .fits)) (s .others) in
+      let es = elementsAfter forward (x .alt-end) (s .rest) in
+      rw (s .is) (record {
+        fits = omega (arith, length-append (partsOf forward x) es, parts-length forward x, own .fits, rest .fits);
+        letters = (gap-lettered, lettered-append (partsOf forward x) es (parts-lettered forward x (own .letters)) (rest .letters));
+      })
+
+  pub all-fine : (rs : List Record) (xs : List Exon) → exonsOf rs ≡ exons xs → Fine mostSegments (elementsOf forward xs)
+  unfolding exonsOf elementsOf
+  all-fine [] xs h = rw (none-left xs h) (record { fits = omega arith; letters = tt })
+  all-fine (r ∷ rs) xs h =
+      let s = split r (readFirst r) (λ n. exonsAfter n rs) xs h in
+      let own = first-fine r (s .own) (s .was-read) in
+      let x = exonOf r (s .own) in
+      let rest = after-fine (x .alt-end) (length (s .own)) rs (s .rest) (own .fits) (s .others) in
+      let es = elementsAfter forward (x .alt-end) (s .rest) in
+      rw (s .is) (record {
+        fits = omega (arith, length-append (partsOf forward x) es, parts-length forward x, own .fits, rest .fits);
+        letters = lettered-append (partsOf forward x) es (parts-lettered forward x (own .letters)) (rest .letters);
+      })
+
+-- ---- records in order
+
+-- no record starts below the end of the one before it, and the first not below e
+abbrev pub InOrder : ℕ → List Exon → Type 0
+InOrder e [] = Unit {0}
+InOrder e (x ∷ xs) = (e ≤ x .alt-start) × InOrder (x .alt-end) xs
+
+after-in-order : (p : Record) (used : ℕ) (rs : List Record) (xs : List Exon) → Ordered p rs → exonsAfter used rs ≡ exons xs → InOrder (genomeEnd p) xs
+unfolding exonsAfter
+after-in-order p used [] xs o h = rw (none-left xs h) tt
+after-in-order p used (r ∷ rs) xs (b, o) h =
+    let s = split r (readNext used r) (λ n. exonsAfter (used + 1 + n) rs) xs h in
+    rw (s .is) (beside-order b, after-in-order r (used + 1 + length (s .own)) rs (s .rest) o (s .others))
+
+pub all-in-order : (forward : Bool) (rs : List Record) (xs : List Exon) → faults forward rs ≡ 0 → exonsOf rs ≡ exons xs → InOrder 0 xs
+unfolding exonsOf faults
+all-in-order forward [] xs f h = rw (none-left xs h) tt
+all-in-order forward (r ∷ rs) xs f h =
+    let s = split r (readFirst r) (λ n. exonsAfter n rs) xs h in
+    let (own, rest) = clear (ownFault r) (faultsAfter forward r rs) f in
+    rw (s .is) (omega arith, after-in-order r (length (s .own)) rs (s .rest) (ordered forward r rs own rest) (s .others))
+
+-- ---- what records make
+
+pub record Sane (m : Made) : Type 0 where
+  pub some : 0 < length (elementsIn m)
+  pub few : length (elementsIn m) ≤ mostSegments
+  pub letters : Lettered (elementsIn m)
+  pub transcript-small : total transcript (elementsIn m) ≤ mostBases
+  pub genome-small : firstStart (m .exon-list) + total genome (elementsIn m) ≤ mostBases
+  pub inside : CdsInside (m .coding) (total transcript (elementsIn m))
+  pub in-order : InOrder 0 (m .exon-list)
+
+pub sane : (start end : Bound) (rs : List Record) (m : Made) → On start end rs m → Sane m
+sane start end rs m o =
+    let es = elementsIn m in
+    let last = last-pass start end (length es) (firstStart (m .exon-list)) (total genome es) (total transcript es) (o .last) in
+    let fine = all-fine (m .forward) rs (m .exon-list) (o .were-read) in
+    record {
+      some = last .some;
+      few = fine .fits;
+      letters = fine .letters;
+      transcript-small = last .transcript-small;
+      genome-small = last .genome-small;
+      inside = rw (o .coding-is) (cds-pass start end (total transcript es) (o .both-or-none) (last .cds-fits) .inside);
+      in-order = all-in-order (m .forward) rs (m .exon-list) (o .sound) (o .were-read);
+    }
+
+-- ---- from a length
+
+pub record Measures (len : ℤ) (bits : ℕ) (start end : ℤ) (m : Measured) : Type 0 where
+  pub known : bits ≤ bothBits
+  pub length-is : len ≡ pos (m .bases)
+  pub small : m .bases ≤ mostBases
+  pub both-or-none : halfFault (startOf bits start) (endOf bits end) ≡ 0
+  pub cds-fits : cdsFault (startOf bits start) (endOf bits end) (m .bases) ≡ 0
+  pub coding-is : m .coding ≡ cdsOf (startOf bits start) (endOf bits end)
+
+pub measured-means : (len : ℤ) (bits : ℕ) (start end : ℤ) (m : Measured) → judgeLength len bits start end ≡ accepted m → Measures len bits start end m
+unfolding judgeLength
+measured-means len bits start end m =
+    by-test (ltb bothBits bits)
+    (λ t. rw t (λ h. absurd (clash h)))
+    (λ t.
+    by-test (ltZ len (pos 0))
+    (λ u. rw (t, u) (λ h. absurd (clash h)))
+    (λ u.
+    by-test (ltZ (pos mostBases) len)
+    (λ v. rw (t, u, v) (λ h. absurd (clash h)))
+    (λ v. rw (t, u, v) (λ h.
+    let (half, h₁) = passed (halfFault (startOf bits start) (endOf bits end)) _ m h in
+    let (fits, h₂) = passed (cdsFault (startOf bits start) (endOf bits end) (natAbs len)) _ m h₁ in
+    let made = same h₂ in
+    let is = whole len u in
+    rw (← made) (record { known = ltb-false bothBits bits t; length-is = is; small = omega (order, is); both-or-none = half; cds-fits = fits; coding-is = refl })))))
