@@ -5,6 +5,7 @@
 --     Steps        a text is read element by element
 --     Sound        what was read has counts up to the largest and letters of the six
 --     Lent         lent memory whose front is filled
+--     Stores       a text that is stored in two parts
 --     Read         a text alone, read into lent tables
 --     Write        what elements are written as
 --     Decimal      laws of decimal digits and of an element's text
@@ -16,6 +17,7 @@ pub mod Letters
 pub mod Steps
 pub mod Sound
 pub mod Lent
+pub mod Stores
 pub mod Read
 pub mod Write
 pub mod Decimal

@@ -6,6 +6,8 @@ use lib.Dec.{eqb}
 use lib.IntN.{ℤ, pos}
 use lib.ListN.{getD}
 use Rattle.transcript.specs.declared.Head.{Head}
+use Rattle.transcript.specs.declared.Built.{Built}
+use Rattle.transcript.specs.declared.Built.the-variants as built
 use Rattle.mapper.specs.Answers as paper
 use Rattle.mapper.specs.Answers.Answer.{certain, uncertain, refused}
 use Rattle.mapper.specs.Answers.Plain.{told, denied}
@@ -125,3 +127,12 @@ writtenLaid (written.Refused k) = lengthRefused k
 -- of the reference (0) or of the alternative (1)
 abbrev pub partLaid : alleles.Part → Part
 partLaid p = record { alternative = starOf (p .alternative); from = p .from; to = p .to }
+
+-- what building tells: 0, or the refusal's number; and the head afterwards, which a refusal leaves
+abbrev pub builtNumber : Built → ℕ
+builtNumber (built.Transcript h) = 0
+builtNumber (built.Refused k) = k
+
+abbrev pub builtHead : Built → List ℤ → List ℤ
+builtHead (built.Transcript h) was = headRow h
+builtHead (built.Refused k) was = was

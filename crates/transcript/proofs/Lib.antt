@@ -10,6 +10,8 @@
 --     Past       records that were accepted are put in one by one
 --     Runs       runs of stores
 --     Finished   tables that were filled and finished
+--     Passed     what was judged and is no refusal
+--     Lengths    the judgment of a length, link by link
 pub mod Heads
 pub mod Gaps
 pub mod Sizes
@@ -21,3 +23,5 @@ pub mod Taken
 pub mod Past
 pub mod Runs
 pub mod Finished
+pub mod Passed
+pub mod Lengths

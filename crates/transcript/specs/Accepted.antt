@@ -1,6 +1,7 @@
 -- What is known of an input that building accepts.
 --     accepted-means, records-mean, measured-means    the judgment taken apart: no test refused, and what was made of the input
---     sane                                            what is known of what records make: few segments, six letters, none of 9, 10 and 12, records in order
+--     sane, judged-sane                               what is known of what records make: few segments, six letters, none of 9, 10 and 12, records in order
+--     measured-inside                                 what is known of what a length makes
 -- Assumes nothing.
 use Prim.Native.Nat.{ℕ, zero, suc, _+_, _-_, _%_, _≤_, _<_}
 use native.Mathlib.Omega.{arith}
@@ -26,8 +27,8 @@ use Rattle.transcript.specs.Transcript.{Cds}
 use Rattle.transcript.specs.Transcript.Cds.{noCds, cds}
 use Rattle.transcript.specs.Building.{Exon, partsOf, gap, elementsAfter, elementsOf, firstStart}
 use Rattle.transcript.specs.Reading.{startOf as genomeStart, endOf as genomeEnd, exonOf, Exons, exons, denied, beforeAll, andThen, readFirst, readNext, exonsAfter, exonsOf}
-use Rattle.transcript.specs.Judging.{Judged, refused, accepted, unless, Made, Measured, bothBits, startOf, endOf, halfFault, rangeFault, cdsFault, cdsOf, lastFault, judgeExons, judgeOn, judgeRecords, judge, judgeLength}
-use Rattle.transcript.specs.Outcome.{bitsOf, startIn, endIn, strandOf, elementsIn}
+use Rattle.transcript.specs.Judging.{Judged, refused, accepted, unless, Made, Measured, bothBits, startOf, endOf, halfFault, rangeFault, cdsFault, cdsOf, lastFault, judgeExons, judgeOn, judgeRecords, judge, lengthFault, judgeLength}
+use Rattle.transcript.specs.Outcome.{numberOf, bitsOf, startIn, endIn, strandOf, elementsIn}
 use Rattle.transcript.specs.declared.Bound.{Bound}
 use Rattle.transcript.specs.declared.Bound.the-variants.{Given, Absent}
 
@@ -126,11 +127,6 @@ accepted-means strand bits start end n s m =
 abbrev pub CdsInside : Cds → ℕ → Type 0
 CdsInside noCds len = Unit {0}
 CdsInside (cds s e) len = (s ≤ e) × (e ≤ len)
-
--- the number of a bound, 0 where it is not given
-abbrev pub numberOf : Bound → ℤ
-numberOf (Given z) = z
-numberOf Absent = pos 0
 
 -- bounds that pass 11 and 12: the CDS lies in the transcript, and its numbers are those that were given
 pub record CdsPass (start end : Bound) (len : ℕ) : Type 0 where
@@ -360,6 +356,10 @@ sane start end rs m o =
       in-order = all-in-order (m .forward) rs (m .exon-list) (o .sound) (o .were-read);
     }
 
+pub judged-sane : (strand : ℤ) (bits : ℕ) (start end : ℤ) (n : ℕ) (s : List ℕ) (m : Made) → judge strand bits start end n s ≡ accepted m → Sane m
+judged-sane strand bits start end n s m h =
+    sane (startOf bits start) (endOf bits end) (recordsFrom n s 0) m (accepted-means strand bits start end n s m h .pass .on)
+
 -- ---- from a length
 
 pub record Measures (len : ℤ) (bits : ℕ) (start end : ℤ) (m : Measured) : Type 0 where
@@ -370,20 +370,28 @@ pub record Measures (len : ℤ) (bits : ℕ) (start end : ℤ) (m : Measured) : 
   pub cds-fits : cdsFault (startOf bits start) (endOf bits end) (m .bases) ≡ 0
   pub coding-is : m .coding ≡ cdsOf (startOf bits start) (endOf bits end)
 
+pub length-pass : (len : ℤ) → lengthFault len ≡ 0 → (len ≡ pos (natAbs len)) × (natAbs len ≤ mostBases)
+unfolding lengthFault
+length-pass len =
+    by-test (ltZ len (pos 0))
+    (λ t. rw t (λ h. absurd (omega arith)))
+    (λ t.
+    by-test (ltZ (pos mostBases) len)
+    (λ u. rw (t, u) (λ h. absurd (omega arith)))
+    (λ u h. let is = whole len t in (is, omega (order, is))))
+
 pub measured-means : (len : ℤ) (bits : ℕ) (start end : ℤ) (m : Measured) → judgeLength len bits start end ≡ accepted m → Measures len bits start end m
 unfolding judgeLength
 measured-means len bits start end m =
     by-test (ltb bothBits bits)
     (λ t. rw t (λ h. absurd (clash h)))
-    (λ t.
-    by-test (ltZ len (pos 0))
-    (λ u. rw (t, u) (λ h. absurd (clash h)))
-    (λ u.
-    by-test (ltZ (pos mostBases) len)
-    (λ v. rw (t, u, v) (λ h. absurd (clash h)))
-    (λ v. rw (t, u, v) (λ h.
-    let (half, h₁) = passed (halfFault (startOf bits start) (endOf bits end)) _ m h in
-    let (fits, h₂) = passed (cdsFault (startOf bits start) (endOf bits end) (natAbs len)) _ m h₁ in
-    let made = same h₂ in
-    let is = whole len u in
-    rw (← made) (record { known = ltb-false bothBits bits t; length-is = is; small = omega (order, is); both-or-none = half; cds-fits = fits; coding-is = refl })))))
+    (λ t. rw t (λ h.
+    let (long, h₁) = passed (lengthFault len) _ m h in
+    let (half, h₂) = passed (halfFault (startOf bits start) (endOf bits end)) _ m h₁ in
+    let (fits, h₃) = passed (cdsFault (startOf bits start) (endOf bits end) (natAbs len)) _ m h₂ in
+    let (is, small) = length-pass len long in
+    rw (← same h₃) (record { known = ltb-false bothBits bits t; length-is = is; small = small; both-or-none = half; cds-fits = fits; coding-is = refl })))
+
+pub measured-inside : (len : ℤ) (bits : ℕ) (start end : ℤ) (m : Measured) → Measures len bits start end m → CdsInside (m .coding) (m .bases)
+measured-inside len bits start end m a =
+    rw (a .coding-is) (cds-pass (startOf bits start) (endOf bits end) (m .bases) (a .both-or-none) (a .cds-fits) .inside)

@@ -10,6 +10,7 @@
 --     Worked        worked examples of the judgment
 --     Holding       when a transcript holds together, and what it stands for
 --     Held          the same as facts, and what a question goes by
+--     Standing      what building makes holds together, and stands for what was made
 --     Totals        how far a list of elements goes, by its parts
 pub mod Transcript
 pub mod Building
@@ -22,4 +23,5 @@ pub mod Accepted
 pub mod Worked
 pub mod Holding
 pub mod Held
+pub mod Standing
 pub mod Totals

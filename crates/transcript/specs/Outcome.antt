@@ -9,7 +9,10 @@ use Rattle.segments.specs.Tables.{startTable, letterTable}
 use Rattle.transcript.specs.Transcript.{Cds}
 use Rattle.transcript.specs.Transcript.Cds.{noCds, cds}
 use Rattle.transcript.specs.Building.{elementsOf, firstStart}
-use Rattle.transcript.specs.Judging.{Judged, refused, accepted, Made, Measured, bothBits}
+use Rattle.transcript.specs.Judging.{Judged, refused, accepted, Made, Measured, bothBits, startOf, endOf}
+use Rattle.transcript.specs.Filling.{Tables, tablesOf}
+use Rattle.transcript.specs.declared.Bound.{Bound}
+use Rattle.transcript.specs.declared.Bound.the-variants.{Given, Absent}
 use Rattle.transcript.specs.declared.Head.{Head}
 use Rattle.transcript.specs.declared.Built.{Built}
 use Rattle.transcript.specs.declared.Built.the-variants as answer
@@ -28,6 +31,28 @@ startIn (cds s e) = pos s
 abbrev pub endIn : Cds → ℤ
 endIn noCds = pos 0
 endIn (cds s e) = pos e
+
+-- the number of a bound that was handed over, 0 where it is not given
+abbrev pub numberOf : Bound → ℤ
+numberOf (Given z) = z
+numberOf Absent = pos 0
+
+-- a head with a CDS as it was handed over
+abbrev pub withCds : Head → ℕ → ℤ → ℤ → Head
+withCds h bits start end = record {
+  kind = h .kind;
+  strand = h .strand;
+  first = h .first;
+  count = h .count;
+  bits = pos bits;
+  start = numberOf (startOf bits start);
+  end = numberOf (endOf bits end);
+  length = h .length;
+}
+
+-- a head of records without a CDS
+abbrev pub bareHead : ℤ → ℤ → ℕ → Head
+bareHead strand first n = record { kind = pos 0; strand = strand; first = first; count = pos n; bits = pos 0; start = pos 0; end = pos 0; length = pos 0 }
 
 -- the number of a strand
 abbrev pub strandOf : Bool → ℤ
@@ -87,3 +112,7 @@ transcriptAfter (accepted m) was = startTable transcript (elementsIn m)
 abbrev pub lettersAfter : Judged Made → List ℕ → List ℕ
 lettersAfter (refused k) was = was
 lettersAfter (accepted m) was = letterTable (elementsIn m)
+
+abbrev pub tablesAfter : Judged Made → Tables → Tables
+tablesAfter (refused k) was = was
+tablesAfter (accepted m) was = tablesOf (elementsIn m)

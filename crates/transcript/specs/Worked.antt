@@ -15,7 +15,7 @@ use Rattle.transcript.specs.Transcript.{Cds}
 use Rattle.transcript.specs.Transcript.Cds.{noCds, cds}
 use Rattle.transcript.specs.Building.{Exon, elementsOf, elementsAfter, partsOf, firstStart}
 use Rattle.transcript.specs.Reading.{exonsOf, exonsAfter, readFirst, readNext}
-use Rattle.transcript.specs.Judging.{Judged, Made, Measured, refused, accepted, judge, judgeRecords, judgeOn, judgeLength, lastFault, rangeFault}
+use Rattle.transcript.specs.Judging.{Judged, Made, Measured, refused, accepted, judge, judgeRecords, judgeOn, judgeLength, lengthFault, lastFault, rangeFault}
 
 -- ---- what is judged
 
@@ -142,5 +142,5 @@ measured : judgeLength (pos 18) 3 (pos 3) (pos 15)
     ∷ refused halfCds
     ∷ refused badCds
     ∷ []
-unfolding judgeLength rangeFault
+unfolding judgeLength lengthFault rangeFault
 measured = refl

@@ -5,17 +5,25 @@ ghost use lib.ListN.{length, replicate};
 ghost use lib.Seq.{sets};
 ghost use Rattle.refusals.specs.Numbers.{mostSegments, mostStarts, mostBases};
 ghost use Rattle.cigar.specs.Text.{readAll};
-ghost use Rattle.records.specs.Layout.{cigarText};
-ghost use Rattle.records.specs.Records.{recordAt, recordsFrom};
+ghost use Rattle.records.specs.Layout.{altStart, cigarText};
+ghost use Rattle.records.specs.Records.{fieldAt, recordAt, recordsFrom};
 ghost use Rattle.records.specs.Walk.{Beside, Stands, Walk, Ready};
 ghost use Rattle.transcript.specs.Reading.{between, endOf, readFirst, readNext, exonsAfter, exonsOf};
 ghost use Rattle.transcript.specs.Tallies.{Bounded, nothing, oneOn, tallied, talliedAfter, talliedAll};
 ghost use Rattle.transcript.specs.declared.reading.Tally.the-variants as tally;
 ghost use Rattle.transcript.specs.Filling.{tables, Long, fill, finished, tablesOf, ordered, turnedOn, elementsIn, nextElements, elementsPast, elementsAll, UpTo, Before, Small, SmallTally};
+ghost use Rattle.transcript.specs.Judging.{bothBits, judge};
+ghost use Rattle.transcript.specs.Outcome.{withCds, bareHead, answerOf, tablesAfter, genomeAfter, transcriptAfter, lettersAfter};
+use crate::Built;
+use crate::Head;
+use crate::holding::OF_RECORDS;
 use crate::reading::Sums;
 use crate::reading::Tally;
 use cigar::Step;
+use records::ALT_START;
 use records::CIGAR_TEXT;
+use refusals::MOST_SEGMENTS;
+use refusals::MOST_STARTS;
 
 // A table of starts is cleared from a place on.
 fn clear_starts(table: &mut [u32], from: usize)
@@ -253,4 +261,80 @@ fn write_tables(
 {
     fill_all(forward, count, s, genome, transcript, letters);
     finish(to, genome, transcript, letters);
+}
+
+// The head of records that passed every test, whose elements go to `to`.
+fn head_of(strand: i32, bits: u32, start: i32, end: i32, s: &[u8], to: Sums) -> Head
+    requires { ⌜ (cigarText ≤ length (now s)) × (to .count ≤ mostSegments) × (bits ≤ bothBits) ⌝ }
+    ensures { λ r. ⌜ r ≡ withCds (bareHead strand (fieldAt (now (s .entry)) altStart) (to .count)) bits start end ⌝ }
+{
+    let first = fields::i32_at(s, ALT_START);
+    let count = to.count as i32;
+    let bare = Head {
+        kind: OF_RECORDS,
+        strand,
+        first,
+        count,
+        bits: 0,
+        start: 0,
+        end: 0,
+        length: 0,
+    };
+    crate::judging::with_cds(bare, bits, start, end)
+}
+
+// The transcript that records make, in tables of the right lengths.
+fn build_into(
+    strand: i32,
+    cds: u32,
+    start: i32,
+    end: i32,
+    count: usize,
+    s: &[u8],
+    genome: &mut [u32],
+    transcript: &mut [u32],
+    letters: &mut [u8],
+) -> Built
+    requires { ⌜ Long (tables (now genome) (now transcript) (now letters)) ⌝ }
+    ensures { λ r. ⌜ r ≡ answerOf (judge strand cds start end count (now (s .entry))) ⌝ }
+    ensures { λ _. ⌜ tables (now (genome .exit)) (now (transcript .exit)) (now (letters .exit)) ≡ tablesAfter (judge strand cds start end count (now (s .entry))) (tables (now (genome .entry)) (now (transcript .entry)) (now (letters .entry))) ⌝ }
+{
+    match crate::judging::judge(strand, cds, start, end, count, s) {
+        Tally::Sums(to) => {
+            let forward = strand == 1;
+            write_tables(forward, count, s, to, genome, transcript, letters);
+            Built::Transcript(head_of(strand, cds, start, end, s, to))
+        }
+        Tally::Refused(k) => Built::Refused(k),
+    }
+}
+
+// The transcript that records make: its head, with its tables in the lent memory, or the number of a refusal, which leaves them as they are.
+pub fn build(
+    strand: i32,
+    cds: u32,
+    start: i32,
+    end: i32,
+    count: usize,
+    records: &[u8],
+    genome: &mut [u32; MOST_STARTS],
+    transcript: &mut [u32; MOST_STARTS],
+    letters: &mut [u8; MOST_SEGMENTS],
+) -> Built
+    ensures { λ r. ⌜ r ≡ answerOf (judge strand cds start end count (now (records .entry))) ⌝ }
+    ensures { λ _. ⌜ now (genome .exit) ≡ genomeAfter (judge strand cds start end count (now (records .entry))) (now (genome .entry)) ⌝ }
+    ensures { λ _. ⌜ now (transcript .exit) ≡ transcriptAfter (judge strand cds start end count (now (records .entry))) (now (transcript .entry)) ⌝ }
+    ensures { λ _. ⌜ now (letters .exit) ≡ lettersAfter (judge strand cds start end count (now (records .entry))) (now (letters .entry)) ⌝ }
+{
+    build_into(
+        strand,
+        cds,
+        start,
+        end,
+        count,
+        records,
+        genome,
+        transcript,
+        letters,
+    )
 }

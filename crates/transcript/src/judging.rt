@@ -5,9 +5,11 @@ ghost use Prim.Native.Nat.{_≤_, _<_};
 ghost use lib.IntN.{pos};
 ghost use Rattle.refusals.specs.Numbers.{mostBases};
 ghost use Rattle.records.specs.Records.{exactly, recordsFrom};
-ghost use Rattle.transcript.specs.Judging.{boundOf, startOf, endOf, halfFault, rangeFault, cdsFault, lastFault, judgeOn, judgeRecords, judge};
+ghost use Rattle.transcript.specs.Judging.{bothBits, boundOf, startOf, endOf, halfFault, rangeFault, cdsFault, lastFault, judgeOn, judgeRecords, judge};
+ghost use Rattle.transcript.specs.Outcome.{numberOf, withCds};
 ghost use Rattle.transcript.specs.Tallies.{Bounded, BoundedTally, toldOf};
 use crate::Bound;
+use crate::Head;
 use crate::holding::BOTH_GIVEN;
 use crate::reading::Sums;
 use crate::reading::Tally;
@@ -126,6 +128,30 @@ fn last_fault(start: Bound, end: Bound, first: u32, sums: Sums) -> u8
         return TOO_LONG;
     }
     cds_fault(start, end, length)
+}
+
+// The number of a bound, 0 where it is not given.
+fn number_of(bound: Bound) -> i32
+    ensures { λ r. ⌜ r ≡ numberOf bound ⌝ }
+{
+    match bound {
+        Bound::Given(n) => n,
+        Bound::Absent => 0,
+    }
+}
+
+// A head with a CDS that passed.
+pub fn with_cds(mut head: Head, bits: u32, start: i32, end: i32) -> Head
+    requires { ⌜ bits ≤ bothBits ⌝ }
+    ensures { λ r. ⌜ r ≡ withCds head bits start end ⌝ }
+{
+    let given = bits as i32;
+    let from = number_of(start_of(bits, start));
+    let to = number_of(end_of(bits, end));
+    head.bits = given;
+    head.start = from;
+    head.end = to;
+    head
 }
 
 // The records on a strand.

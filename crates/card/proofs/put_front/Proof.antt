@@ -1,0 +1,52 @@
+-- `card::put_front` meets its contract: each byte is stored once, in order.
+-- Assumes nothing.
+use mathlib.Core.Path.{_≡_, ap, _∙_}
+use mathlib.Core.List.{List, [], _∷_, _++_}
+use Prim.Native.Nat.{ℕ}
+use lib.ListN.{length, set}
+use lib.Seq.{sets, length-sets}
+use Rattle.fields.specs.Fields.{bytes16}
+use Rattle.card.specs.Layout.{mark, version, versionAt, strandAt, cdsAt}
+use borrow.Author.Needs.{needs}
+use Rattle.card.proofs.put_front.Statement.{statement}
+use Rattle.card.proofs.put_front.Tie as tie
+
+put-mark-requires : tie.Need-put-mark-requires
+put-mark-requires c κs = search needs
+
+put-u16-requires : tie.Need-put-u16-requires
+put-u16-requires c κs = search needs
+
+slice-write-buffer : tie.Need-slice-write-buffer
+slice-write-buffer c = search needs
+
+slice-write-buffer-2 : tie.Need-slice-write-buffer-2
+slice-write-buffer-2 c = search needs
+
+module _ (c : tie.After-slice-known3) where
+  abbrev start : tie.Start
+  start = c .before .before .before .before .before .before .before .before .before
+
+  stored : set (set (c .before .before .put-u16 .last .0) strandAt (start .args .strand)) cdsAt (start .args .cds)
+      ≡ sets (start .args .buffer .now) 0 (mark ++ bytes16 version ++ start .args .strand ∷ start .args .cds ∷ [])
+  stored =
+      ap (λ (b : List ℕ). set (set b strandAt (start .args .strand)) cdsAt (start .args .cds))
+      (c .before .before .put-u16 .ensures ∙ ap (λ (b : List ℕ). sets b versionAt (bytes16 version)) (c .before .before .before .before .before .before .put-mark .ensures))
+
+same-length : tie.Need-same-length
+same-length c =
+    ap length (stored c) ∙ length-sets (start c .args .buffer .now) 0 (mark ++ bytes16 version ++ start c .args .strand ∷ start c .args .cds ∷ [])
+
+returns : tie.Need-returns
+returns c = stored c
+
+pub put-front-spec : {M : Type 1} → statement M
+put-front-spec =
+    tie.close
+    (tie.spec
+    put-mark-requires
+    put-u16-requires
+    slice-write-buffer
+    slice-write-buffer-2
+    same-length
+    returns)

@@ -1,0 +1,130 @@
+-- `card::write_taken` meets its contract: the card's size is known first, so that a refusal stores nothing; then the header is stored, and the records behind it.
+-- Assumes nothing.
+use mathlib.Core.Path.{_≡_, refl, sym, ap, _∙_}
+use mathlib.Core.List.{List}
+use Prim.Native.Nat.{ℕ, _+_, _≤_, _<_}
+use native.Mathlib.Omega.{arith}
+use borrow.Author.Tests.{lt-ltb, le-ltb}
+use lib.IntN.{ℤ}
+use lib.ListN.{length}
+use lib.Seq.{sets}
+use Rattle.refusals.specs.Numbers.{mostCard}
+use Rattle.whole.specs.Whole.{read}
+use Rattle.fields.specs.RoundTrips.{Bytes}
+use Rattle.cigar.specs.Lent.{sets-front}
+use Rattle.cigar.specs.Stores.{sets-append}
+use Rattle.cigar.specs.declared.write.Written.the-variants as answer
+use Rattle.transcript.specs.Judging.{startOf, endOf}
+use Rattle.transcript.specs.declared.Bound.{Bound}
+use Rattle.card.specs.Layout.{recordsAt}
+use Rattle.card.specs.Card.{headerText, cardText, inputOf}
+use Rattle.card.specs.Taken.{text-is, text-length}
+use borrow.Author.Needs.{needs}
+use Rattle.card.proofs.write_taken.Statement.{statement}
+use Rattle.card.proofs.write_taken.Tie as tie
+
+add-size : tie.Need-add-size
+add-size c = search needs
+
+-- the card, and its size
+module _ (c : tie.After-shared-slice-known) where
+  abbrev entry : tie.Start
+  entry = c .before
+
+  abbrev text : List ℕ
+  text =
+      cardText (inputOf (entry .args .strand) (entry .args .cds) (entry .args .start) (entry .args .end) (entry .args .count) (entry .args .records .now))
+
+  bytes : Bytes (entry .args .records .now)
+  bytes = record { below = λ i. c .shared-slice-known .given i .fits }
+
+  size-is : length text ≡ recordsAt + length (entry .args .records .now)
+  size-is =
+      text-length (entry .args .strand) (entry .args .cds) (entry .args .start) (entry .args .end) (entry .args .count) (entry .args .records .now) bytes (entry .pre .1)
+
+returns : tie.Need-returns
+returns c =
+    let e = c .before .before in
+    let large : mostCard < length (text e) = omega (arith, size-is e) in
+    rw (lt-ltb _ _ large) (refl, refl)
+
+returns-2 : tie.Need-returns-2
+returns-2 c =
+    let e = c .before .before .before in
+    let small : length (text e) ≤ mostCard = omega (arith, size-is e) in
+    let long : length (entry e .args .buffer .now) < length (text e) = omega (arith, size-is e) in
+    rw (le-ltb _ _ small, lt-ltb _ _ long) (refl, refl)
+
+start-of-requires : tie.Need-start-of-requires
+start-of-requires c κs = search needs
+
+end-of-requires : tie.Need-end-of-requires
+end-of-requires c κs = search needs
+
+cast-put-header : tie.Need-cast-put-header
+cast-put-header c = search needs
+
+put-header-requires : tie.Need-put-header-requires
+put-header-requires c κs = search needs
+
+put-bytes-requires : tie.Need-put-bytes-requires
+put-bytes-requires c κs = search needs
+
+same-length : tie.Need-same-length
+same-length c = search needs
+
+same-header : (n : ℕ) {z w : ℤ} {a b x y : Bound} → z ≡ w → a ≡ b → x ≡ y → headerText z a x n ≡ headerText w b y n
+same-header n e f g = rw (e, f, g)
+
+-- what is stored in the end
+module _ (c : tie.After-slice-known3) where
+  abbrev known : tie.After-shared-slice-known
+  known = c .before .before .before .before .before .before .before .before .before .before .before .before .before
+
+  abbrev header : List ℕ
+  header =
+      headerText (entry known .args .strand) (startOf (entry known .args .cds) (entry known .args .start)) (endOf (entry known .args .cds) (entry known .args .end))
+      (entry known .args .count)
+
+  header-stored : c .before .before .before .before .before .before .put-header .last .0 ≡ sets (entry known .args .buffer .now) 0 header
+  header-stored =
+      let f = entry known .fits in
+      c .before .before .before .before .before .before .put-header .ensures
+      ∙ ap (sets (entry known .args .buffer .now) 0)
+      (same-header (entry known .args .count) (read (f .strand))
+      (c .before .before .before .before .before .before .before .before .before .start-of .ensures ∙ ap (startOf (entry known .args .cds)) (read (f .start)))
+      (c .before .before .before .before .before .before .before .before .end-of .ensures ∙ ap (endOf (entry known .args .cds)) (read (f .end))))
+
+  stored : c .before .before .put-bytes .last .0 ≡ sets (entry known .args .buffer .now) 0 (text known)
+  unfolding headerText
+  stored =
+      c .before .before .put-bytes .ensures
+      ∙ ap (λ (b : List ℕ). sets b recordsAt (entry known .args .records .now)) header-stored
+      ∙ sym
+      (ap (sets (entry known .args .buffer .now) 0)
+      (text-is (entry known .args .strand) (entry known .args .cds) (entry known .args .start) (entry known .args .end) (entry known .args .count) (entry known .args .records .now) (bytes known)
+      (entry known .pre .1))
+      ∙ sets-append header (entry known .args .records .now) (entry known .args .buffer .now) 0)
+
+returns-3 : tie.Need-returns-3
+returns-3 c =
+    let e = known c in
+    let small : length (text e) ≤ mostCard = omega (arith, size-is e) in
+    let room : length (text e) ≤ length (entry e .args .buffer .now) = omega (arith, size-is e) in
+    rw (le-ltb _ _ small, le-ltb _ _ room)
+    (ap answer.Text (sym (size-is e)), stored c ∙ sets-front (text e) (entry e .args .buffer .now) room)
+
+pub write-taken-spec : {M : Type 1} → statement M
+write-taken-spec =
+    tie.close
+    (tie.spec
+    add-size
+    returns
+    returns-2
+    start-of-requires
+    end-of-requires
+    cast-put-header
+    put-header-requires
+    put-bytes-requires
+    same-length
+    returns-3)

@@ -1,0 +1,126 @@
+-- A card: what building's input is written as, and what bytes read as. Assumes nothing.
+use Prim.Native.Nat.{ℕ, _+_, _*_}
+use mathlib.Core.Bool.{Bool, _&&_, not}
+use mathlib.Core.List.{List, [], _∷_, _++_}
+use lib.Dec.{eqb, ltb, leb}
+use lib.IntN.{ℤ, pos, negsuc}
+use lib.ListN.{length, getD, drop}
+use Rattle.refusals.specs.Numbers.{tooMuch, noCard, badVersion, mostCard}
+use Rattle.whole.specs.Whole.{if_then_else_, eqZ}
+use Rattle.fields.specs.Fields.{le16, bytes16, bytes32, bits32}
+use Rattle.records.specs.Records.{Record, fieldAt, laid, exactly, recordsFrom}
+use Rattle.transcript.specs.Judging.{bothBits, startOf, endOf}
+use Rattle.transcript.specs.declared.Bound.{Bound}
+use Rattle.transcript.specs.declared.Bound.the-variants.{Given, Absent}
+use Rattle.card.specs.Layout.{mark, version, versionAt, strandAt, cdsAt, startAt, endAt, countAt, recordsAt}
+use Rattle.card.specs.declared.Numbers.{Numbers}
+use Rattle.card.specs.declared.ReadCard.{ReadCard}
+use Rattle.card.specs.declared.ReadCard.the-variants as read
+
+-- building's input: the strand, the CDS bounds, each given or not, and the records
+pub record Input : Type 0 where
+  pub strand : ℤ
+  pub start : Bound
+  pub end : Bound
+  pub records : List Record
+
+-- ---- writing
+
+-- 0 plus, 1 minus
+abbrev pub strandByte : ℤ → ℕ
+strandByte z = if eqZ z (pos 1) then 0 else 1
+
+-- bit 0 start given, bit 1 end given
+abbrev pub givenBit : Bound → ℕ
+givenBit (Given z) = 1
+givenBit Absent = 0
+
+abbrev pub cdsByte : Bound → Bound → ℕ
+cdsByte start end = givenBit start + 2 * givenBit end
+
+-- 0 if not given
+abbrev pub boundNumber : Bound → ℤ
+boundNumber (Given z) = z
+boundNumber Absent = pos 0
+
+-- records, one after the other
+unfoldable pub recordsText : List Record → List ℕ
+recordsText [] = []
+recordsText (r ∷ rs) = laid r ++ recordsText rs
+
+-- what stands before n records
+unfoldable pub headerText : ℤ → Bound → Bound → ℕ → List ℕ
+headerText strand start end n =
+    mark
+    ++ bytes16 version
+    ++ strandByte strand ∷ cdsByte start end ∷ []
+    ++ bytes32 (bits32 (boundNumber start))
+    ++ bytes32 (bits32 (boundNumber end))
+    ++ bytes16 n
+
+unfoldable pub cardText : Input → List ℕ
+cardText i = headerText (i .strand) (i .start) (i .end) (length (i .records)) ++ recordsText (i .records)
+
+-- ---- reading
+
+-- there is a version, and the mark is right
+unfoldable pub isMarked : List ℕ → Bool
+isMarked s =
+    leb strandAt (length s)
+    && (eqb (getD s 0 0) (getD mark 0 0) && (eqb (getD s 1 0) (getD mark 1 0) && eqb (getD s 2 0) (getD mark 2 0)))
+
+abbrev pub strandOf : ℕ → ℤ
+strandOf b = if eqb b 0 then pos 1 else negsuc 0
+
+-- the numbers before the records
+unfoldable pub numbersIn : List ℕ → Numbers
+numbersIn s = record {
+  strand = strandOf (getD s strandAt 0);
+  cds = getD s cdsAt 0;
+  start = fieldAt s startAt;
+  end = fieldAt s endAt;
+  count = le16 s countAt;
+}
+
+-- the number of a bound that is not given is 0
+unfoldable pub arePlain : ℕ → ℤ → ℤ → Bool
+arePlain cds start end = eqZ (boundNumber (startOf cds start)) start && eqZ (boundNumber (endOf cds end)) end
+
+-- all else: the strand and CDS bytes are of those above, so are the bounds' numbers, the records are just as many as the count says, and nothing follows
+unfoldable pub isCard : List ℕ → Bool
+isCard s =
+    leb recordsAt (length s)
+    && (leb (getD s strandAt 0) 1
+    && (leb (getD s cdsAt 0) bothBits
+    && (arePlain (getD s cdsAt 0) (fieldAt s startAt) (fieldAt s endAt)
+    && exactly (le16 s countAt) (drop recordsAt s) 0)))
+
+-- document 01's order: 3 (size), 21 (under 5 bytes or wrong mark), 22, 21 (all else)
+unfoldable pub readCard : List ℕ → ReadCard
+readCard s =
+    if ltb mostCard (length s) then read.Refused tooMuch
+    else if not (isMarked s) then read.Refused noCard
+    else if not (eqb (le16 s versionAt) version) then read.Refused badVersion
+    else if not (isCard s) then read.Refused noCard
+    else read.Card (numbersIn s)
+
+-- ---- the input that numbers and records stand for
+
+abbrev pub inputOf : ℤ → ℕ → ℤ → ℤ → ℕ → List ℕ → Input
+inputOf strand cds start end n s = record { strand = strand; start = startOf cds start; end = endOf cds end; records = recordsFrom n s 0 }
+
+-- the same of a card's own
+abbrev pub inputIn : List ℕ → Numbers → Input
+inputIn s m = inputOf (m .strand) (m .cds) (m .start) (m .end) (m .count) (drop recordsAt s)
+
+-- what a card says: an input, or the number of a refusal
+pub data Said : Type 0 where
+  input : Input → Said
+  refused : ℕ → Said
+
+abbrev pub said : List ℕ → ReadCard → Said
+said s (read.Card m) = input (inputIn s m)
+said s (read.Refused k) = refused k
+
+abbrev pub cardSays : List ℕ → Said
+cardSays s = said s (readCard s)

@@ -1,0 +1,62 @@
+-- `lines::put_listing` meets its contract: the header, and then the lines.
+-- Assumes nothing.
+use native.Mathlib.Omega.{arith}
+use Rattle.segments.specs.Tables.{read}
+use Rattle.lines.specs.Listing.{listingText}
+use Rattle.lines.specs.Tables.{listing-is}
+use Rattle.card.specs.Putting.{Put, then-put, put-length}
+use borrow.Author.Needs.{needs}
+use Rattle.lines.proofs.put_listing.Statement.{statement}
+use Rattle.lines.proofs.put_listing.Tie as tie
+
+cast-put-header : tie.Need-cast-put-header
+cast-put-header c = search needs
+
+mul-put-header : tie.Need-mul-put-header
+mul-put-header c = search needs
+
+element-copy-out-put-header : tie.Need-element-copy-out-put-header
+element-copy-out-put-header c = search needs
+
+mul-put-header-2 : tie.Need-mul-put-header-2
+mul-put-header-2 c = search needs
+
+element-copy-out-put-header-2 : tie.Need-element-copy-out-put-header-2
+element-copy-out-put-header-2 c = search needs
+
+put-header-requires : tie.Need-put-header-requires
+put-header-requires c κs = search needs
+
+put-lines-requires : tie.Need-put-lines-requires
+put-lines-requires c κs = search needs
+
+-- after the lines
+module _ (c : tie.After-slice-known3) where
+  abbrev start : tie.Start
+  start = c .before .before .before .before .before .before .before .before .before .before .before
+
+  whole : Put (start .args .buffer .now) (c .before .before .put-lines .last .0) 0 (c .before .before .put-lines .result)
+      (listingText (start .args .forward) (read (start .args .genome .now) (start .args .transcript .now) (start .args .letters .now) (start .args .count)))
+  whole =
+      rw (listing-is (start .args .genome .now) (start .args .transcript .now) (start .args .letters .now) (start .args .count) (start .pre .1) (start .args .forward)) at
+      (then-put (c .before .before .before .before .before .before .put-header .ensures .0) (c .before .before .put-lines .ensures .0))
+
+same-length : tie.Need-same-length
+same-length c = put-length (whole c)
+
+returns : tie.Need-returns
+returns c = (whole c, omega arith)
+
+pub put-listing-spec : {M : Type 1} → statement M
+put-listing-spec =
+    tie.close
+    (tie.spec
+    cast-put-header
+    mul-put-header
+    element-copy-out-put-header
+    mul-put-header-2
+    element-copy-out-put-header-2
+    put-header-requires
+    put-lines-requires
+    same-length
+    returns)
