@@ -2,13 +2,14 @@
 --     marked-long, card-long   bytes that passed are long enough for what is read next
 --     card-is                  the tests of `isCard` on the numbers that were read
 -- Assumes nothing.
-use mathlib.Core.Path.{_≡_, refl}
-use mathlib.Core.Bool.{Bool, true, false, _&&_, false≢true}
+use mathlib.Core.Path.{_≡_}
+use mathlib.Core.Bool.{true, _&&_}
 use mathlib.Core.List.{List}
 use Prim.Native.Nat.{ℕ, _≤_}
 use borrow.Author.Tests.{le-leb, leb-true}
 use lib.Dec.{leb}
 use lib.ListN.{length, getD, drop}
+use Rattle.segments.specs.Meaning.{both}
 use Rattle.records.specs.Records.{exactly}
 use Rattle.transcript.specs.Judging.{bothBits}
 use Rattle.card.specs.Layout.{strandAt, recordsAt}
@@ -20,14 +21,10 @@ pub card-is : (s : List ℕ) {m : Numbers} → m ≡ numbersIn s → recordsAt �
 unfolding isCard numbersIn
 card-is s {m} e long strand = rw (e, le-leb recordsAt (length s) long, le-leb (getD s strandAt 0) 1 strand)
 
-first : (p q : Bool) → p && q ≡ true → p ≡ true
-first true q e = refl
-first false q e = absurd (false≢true e)
-
 pub marked-long : (s : List ℕ) → isMarked s ≡ true → strandAt ≤ length s
 unfolding isMarked
-marked-long s e = leb-true strandAt (length s) (first _ _ e)
+marked-long s e = leb-true strandAt (length s) (both _ _ e .0)
 
 pub card-long : (s : List ℕ) → isCard s ≡ true → recordsAt ≤ length s
 unfolding isCard
-card-long s e = leb-true recordsAt (length s) (first _ _ e)
+card-long s e = leb-true recordsAt (length s) (both _ _ e .0)

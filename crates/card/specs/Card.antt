@@ -3,13 +3,14 @@ use Prim.Native.Nat.{ℕ, _+_, _*_}
 use mathlib.Core.Bool.{Bool, _&&_, not}
 use mathlib.Core.List.{List, [], _∷_, _++_}
 use lib.Dec.{eqb, ltb, leb}
-use lib.IntN.{ℤ, pos, negsuc}
+use lib.IntN.{ℤ, pos}
 use lib.ListN.{length, getD, drop}
 use Rattle.refusals.specs.Numbers.{tooMuch, noCard, badVersion, mostCard}
 use Rattle.whole.specs.Whole.{if_then_else_, eqZ}
 use Rattle.fields.specs.Fields.{le16, bytes16, bytes32, bits32}
 use Rattle.records.specs.Records.{Record, fieldAt, laid, exactly, recordsFrom}
 use Rattle.transcript.specs.Judging.{bothBits, startOf, endOf}
+use Rattle.transcript.specs.Outcome.{strandOf, numberOf}
 use Rattle.transcript.specs.declared.Bound.{Bound}
 use Rattle.transcript.specs.declared.Bound.the-variants.{Given, Absent}
 use Rattle.card.specs.Layout.{mark, version, versionAt, strandAt, cdsAt, startAt, endAt, countAt, recordsAt}
@@ -38,11 +39,6 @@ givenBit Absent = 0
 abbrev pub cdsByte : Bound → Bound → ℕ
 cdsByte start end = givenBit start + 2 * givenBit end
 
--- 0 if not given
-abbrev pub boundNumber : Bound → ℤ
-boundNumber (Given z) = z
-boundNumber Absent = pos 0
-
 -- records, one after the other
 unfoldable pub recordsText : List Record → List ℕ
 recordsText [] = []
@@ -54,8 +50,8 @@ headerText strand start end n =
     mark
     ++ bytes16 version
     ++ strandByte strand ∷ cdsByte start end ∷ []
-    ++ bytes32 (bits32 (boundNumber start))
-    ++ bytes32 (bits32 (boundNumber end))
+    ++ bytes32 (bits32 (numberOf start))
+    ++ bytes32 (bits32 (numberOf end))
     ++ bytes16 n
 
 unfoldable pub cardText : Input → List ℕ
@@ -69,13 +65,10 @@ isMarked s =
     leb strandAt (length s)
     && (eqb (getD s 0 0) (getD mark 0 0) && (eqb (getD s 1 0) (getD mark 1 0) && eqb (getD s 2 0) (getD mark 2 0)))
 
-abbrev pub strandOf : ℕ → ℤ
-strandOf b = if eqb b 0 then pos 1 else negsuc 0
-
 -- the numbers before the records
 unfoldable pub numbersIn : List ℕ → Numbers
 numbersIn s = record {
-  strand = strandOf (getD s strandAt 0);
+  strand = strandOf (eqb (getD s strandAt 0) 0);
   cds = getD s cdsAt 0;
   start = fieldAt s startAt;
   end = fieldAt s endAt;
@@ -84,7 +77,7 @@ numbersIn s = record {
 
 -- the number of a bound that is not given is 0
 unfoldable pub arePlain : ℕ → ℤ → ℤ → Bool
-arePlain cds start end = eqZ (boundNumber (startOf cds start)) start && eqZ (boundNumber (endOf cds end)) end
+arePlain cds start end = eqZ (numberOf (startOf cds start)) start && eqZ (numberOf (endOf cds end)) end
 
 -- all else: the strand and CDS bytes are of those above, so are the bounds' numbers, the records are just as many as the count says, and nothing follows
 unfoldable pub isCard : List ℕ → Bool

@@ -5,7 +5,7 @@
 --     is-canonical   every card that is read is the card that its input is written as
 -- Assumes nothing.
 use mathlib.Core.Path.{_≡_, refl, sym, ap, ap₂, _∙_}
-use mathlib.Core.Bool.{Bool, true, false, _&&_, not, false≢true}
+use mathlib.Core.Bool.{Bool, true, false}
 use mathlib.Core.Logic.{_⊎_, ⊎-elim}
 use mathlib.Core.List.{List, [], _∷_, _++_}
 use Prim.Native.Nat.{ℕ, zero, suc, _+_, _-_, _*_, _%_, _<_, _≤_}
@@ -21,12 +21,14 @@ use Rattle.refusals.specs.Numbers.{mostCard}
 use Rattle.whole.specs.Whole.{if_then_else_, eqZ, by-test, order, eq-by, eq-yes-by, eq-yes-says}
 use Rattle.fields.specs.Fields.{little, bytes, le16, le32, bytes16, bytes32, signed32, bits32}
 use Rattle.fields.specs.RoundTrips.{Bytes, little-bytes, bytes16-le}
+use Rattle.segments.specs.Meaning.{both}
 use Rattle.records.specs.Records.{Record, fieldAt, exactly, recordsFrom}
 use Rattle.transcript.specs.Judging.{bothBits, boundOf, startOf, endOf}
+use Rattle.transcript.specs.Outcome.{strandOf, numberOf}
 use Rattle.transcript.specs.declared.Bound.{Bound}
 use Rattle.transcript.specs.declared.Bound.the-variants.{Given, Absent}
 use Rattle.card.specs.Layout.{mark, version, versionAt, strandAt, cdsAt, startAt, endAt, countAt, recordsAt}
-use Rattle.card.specs.Card.{Input, strandByte, cdsByte, boundNumber, recordsText, headerText, cardText, isMarked, strandOf, numbersIn, arePlain, isCard, readCard, inputOf, inputIn, Said, input, refused, said, cardSays}
+use Rattle.card.specs.Card.{Input, strandByte, cdsByte, recordsText, headerText, cardText, isMarked, numbersIn, arePlain, isCard, readCard, inputOf, inputIn, Said, input, refused, said, cardSays}
 use Rattle.card.specs.Records.{AllFit, signed-back, from-laid, exactly-laid, from-length, field-laid, beside, laid-from}
 use Rattle.card.specs.declared.Numbers.{Numbers}
 use Rattle.card.specs.declared.ReadCard.{ReadCard}
@@ -34,23 +36,23 @@ use Rattle.card.specs.declared.ReadCard.the-variants as read
 
 pub record InputFits (i : Input) : Type 0 where
   pub strand-is : (i .strand ≡ pos 1) ⊎ (i .strand ≡ negsuc 0)
-  pub start-fits : SFits w32 (boundNumber (i .start))
-  pub end-fits : SFits w32 (boundNumber (i .end))
+  pub start-fits : SFits w32 (numberOf (i .start))
+  pub end-fits : SFits w32 (numberOf (i .end))
   pub few : length (i .records) < 65536
   pub records-fit : AllFit (i .records)
 
 -- ---- what was written
 
-strand-back : {z : ℤ} → (z ≡ pos 1) ⊎ (z ≡ negsuc 0) → strandOf (strandByte z) ≡ z
+strand-back : {z : ℤ} → (z ≡ pos 1) ⊎ (z ≡ negsuc 0) → strandOf (eqb (strandByte z) 0) ≡ z
 strand-back = ⊎-elim (λ e. rw e) (λ e. rw e)
 
-start-back : (start end : Bound) → startOf (cdsByte start end) (boundNumber start) ≡ start
+start-back : (start end : Bound) → startOf (cdsByte start end) (numberOf start) ≡ start
 start-back (Given z) (Given w) = refl
 start-back (Given z) Absent = refl
 start-back Absent (Given w) = refl
 start-back Absent Absent = refl
 
-end-back : (start end : Bound) → endOf (cdsByte start end) (boundNumber end) ≡ end
+end-back : (start end : Bound) → endOf (cdsByte start end) (numberOf end) ≡ end
 end-back (Given z) (Given w) = refl
 end-back (Given z) Absent = refl
 end-back Absent (Given w) = refl
@@ -69,13 +71,13 @@ same-yes : (z : ℤ) → eqZ z z ≡ true
 same-yes z = eq-yes-by z z refl
 
 module _ (i : Input) (f : InputFits i) where
-  start-written : fieldAt (cardText i) startAt ≡ boundNumber (i .start)
+  start-written : fieldAt (cardText i) startAt ≡ numberOf (i .start)
   unfolding cardText headerText le32
-  start-written = signed-back (boundNumber (i .start)) (f .start-fits)
+  start-written = signed-back (numberOf (i .start)) (f .start-fits)
 
-  end-written : fieldAt (cardText i) endAt ≡ boundNumber (i .end)
+  end-written : fieldAt (cardText i) endAt ≡ numberOf (i .end)
   unfolding cardText headerText le32
-  end-written = signed-back (boundNumber (i .end)) (f .end-fits)
+  end-written = signed-back (numberOf (i .end)) (f .end-fits)
 
   count-written : le16 (cardText i) countAt ≡ length (i .records)
   unfolding cardText headerText le16
@@ -104,7 +106,7 @@ module _ (i : Input) (f : InputFits i) where
 
   pub input-written : inputIn (cardText i) (numbersIn (cardText i)) ≡ i
   unfolding numbersIn
-  input-written = same-input (ap strandOf strand-written ∙ strand-back (f .strand-is)) start-is end-is records-are
+  input-written = same-input (ap (λ (b : ℕ). strandOf (eqb b 0)) strand-written ∙ strand-back (f .strand-is)) start-is end-is records-are
     where
       same-input : {z : ℤ} {a b : Bound} {rs : List Record} → z ≡ i .strand → a ≡ i .start → b ≡ i .end → rs ≡ i .records
           → _≡_ {A = Input} (record { strand = z; start = a; end = b; records = rs }) i
@@ -125,10 +127,10 @@ module _ (i : Input) (f : InputFits i) where
   exactly-written : exactly (le16 (cardText i) countAt) (drop recordsAt (cardText i)) 0 ≡ true
   exactly-written = rw (count-written, records-written) (exactly-laid (recordsText (i .records)) 0 (f .records-fit) (omega arith) refl)
 
-  plain-written : arePlain (cdsByte (i .start) (i .end)) (boundNumber (i .start)) (boundNumber (i .end)) ≡ true
+  plain-written : arePlain (cdsByte (i .start) (i .end)) (numberOf (i .start)) (numberOf (i .end)) ≡ true
   unfolding arePlain
   plain-written =
-      rw (start-back (i .start) (i .end), same-yes (boundNumber (i .start)), end-back (i .start) (i .end), same-yes (boundNumber (i .end)))
+      rw (start-back (i .start) (i .end), same-yes (numberOf (i .start)), end-back (i .start) (i .end), same-yes (numberOf (i .end)))
 
   card-written : isCard (cardText i) ≡ true
   unfolding isCard
@@ -171,15 +173,11 @@ pub record IsCard (s : List ℕ) : Type 0 where
   pub long : recordsAt ≤ length s
   pub strand-low : getD s strandAt 0 ≤ 1
   pub cds-low : getD s cdsAt 0 ≤ bothBits
-  pub start-plain : boundNumber (startOf (getD s cdsAt 0) (fieldAt s startAt)) ≡ fieldAt s startAt
-  pub end-plain : boundNumber (endOf (getD s cdsAt 0) (fieldAt s endAt)) ≡ fieldAt s endAt
+  pub start-plain : numberOf (startOf (getD s cdsAt 0) (fieldAt s startAt)) ≡ fieldAt s startAt
+  pub end-plain : numberOf (endOf (getD s cdsAt 0) (fieldAt s endAt)) ≡ fieldAt s endAt
   pub exact : exactly (le16 s countAt) (drop recordsAt s) 0 ≡ true
 
-both : (p q : Bool) → p && q ≡ true → (p ≡ true) × (q ≡ true)
-both true q e = (refl, e)
-both false q e = absurd (false≢true e)
-
-pub same-means : (a b : ℤ) → eqZ a b ≡ true → a ≡ b
+same-means : (a b : ℤ) → eqZ a b ≡ true → a ≡ b
 same-means a b e = eq-by a b (eq-yes-says a b e)
 
 three : (s : List ℕ) → 3 ≤ length s → take 3 s ≡ getD s 0 0 ∷ getD s 1 0 ∷ getD s 2 0 ∷ []
@@ -197,11 +195,11 @@ marked-means s e =
     three s (omega (arith, leb-true strandAt (length s) (l .0)))
     ∙ rw (eqb-true (getD s 0 0) 84 (a .0), eqb-true (getD s 1 0) 88 (b .0), eqb-true (getD s 2 0) 67 (b .1))
 
-plain-means : (b : ℕ) (z w : ℤ) → arePlain b z w ≡ true → (boundNumber (startOf b z) ≡ z) × (boundNumber (endOf b w) ≡ w)
+plain-means : (b : ℕ) (z w : ℤ) → arePlain b z w ≡ true → (numberOf (startOf b z) ≡ z) × (numberOf (endOf b w) ≡ w)
 unfolding arePlain
 plain-means b z w e =
     let a = both _ _ e in
-    (same-means (boundNumber (startOf b z)) z (a .0), same-means (boundNumber (endOf b w)) w (a .1))
+    (same-means (numberOf (startOf b z)) z (a .0), same-means (numberOf (endOf b w)) w (a .1))
 
 card-means : (s : List ℕ) → length s ≤ mostCard → isMarked s ≡ true → le16 s versionAt ≡ version → isCard s ≡ true → IsCard s
 unfolding isCard
@@ -242,7 +240,7 @@ read-means s m e =
     same : read.Card (numbersIn s) ≡ read.Card m → m ≡ numbersIn s
     same q = cc
 
-strand-kept : (b : ℕ) → b ≤ 1 → strandByte (strandOf b) ≡ b
+strand-kept : (b : ℕ) → b ≤ 1 → strandByte (strandOf (eqb b 0)) ≡ b
 strand-kept b h = by-test (eqb b 0) (λ t. rw t (sym (eqb-true b 0 t))) (λ t. rw t (omega (arith, eqb-false b 0 t)))
 
 pub cds-kept : (b : ℕ) (z w : ℤ) → b ≤ bothBits → cdsByte (startOf b z) (endOf b w) ≡ b
@@ -265,14 +263,14 @@ module _ (s : List ℕ) (bs : Bytes s) (c : IsCard s) where
   abbrev its : Input
   its = inputIn s (numbersIn s)
 
-  bytes-kept : strandByte (strandOf (getD s strandAt 0)) ∷ cdsByte (its .start) (its .end) ∷ [] ≡ take 2 (drop strandAt s)
+  bytes-kept : strandByte (strandOf (eqb (getD s strandAt 0) 0)) ∷ cdsByte (its .start) (its .end) ∷ [] ≡ take 2 (drop strandAt s)
   unfolding numbersIn
   bytes-kept =
       rw (strand-kept (getD s strandAt 0) (c .strand-low), cds-kept (getD s cdsAt 0) (fieldAt s startAt) (fieldAt s endAt) (c .cds-low))
       (sym (two s (omega (arith, c .long))))
 
   -- a bound's number, which is 0 if it is not given
-  bound-kept : (at : ℕ) (b : Bound) → at + 4 ≤ recordsAt → boundNumber b ≡ fieldAt s at → bytes32 (bits32 (boundNumber b)) ≡ take 4 (drop at s)
+  bound-kept : (at : ℕ) (b : Bound) → at + 4 ≤ recordsAt → numberOf b ≡ fieldAt s at → bytes32 (bits32 (numberOf b)) ≡ take 4 (drop at s)
   bound-kept at b h e = ap (λ (z : ℤ). bytes32 (bits32 z)) e ∙ field-laid s at bs (omega (arith, c .long))
 
   count-kept : bytes16 (length (its .records)) ≡ take 2 (drop countAt s)

@@ -3,23 +3,29 @@ ghost use mathlib.Core.Path.{_≡_};
 ghost use Prim.Native.Nat.{_+_, _≤_};
 ghost use mathlib.Core.Bool.{true};
 ghost use mathlib.Core.List.{[], _∷_, _++_};
+ghost use lib.Dec.{eqb};
 ghost use lib.ListN.{length};
 ghost use lib.Seq.{sets};
 ghost use Rattle.refusals.specs.Numbers.{mostRecords};
 ghost use Rattle.cigar.specs.Write.{answerOf, bufferAfter};
 ghost use Rattle.records.specs.Records.{exactly};
+ghost use Rattle.transcript.specs.Outcome.{strandOf, answerOf as builtOf, genomeAfter, transcriptAfter, lettersAfter};
 ghost use Rattle.card.specs.Layout.{mark, version, startAt, recordsAt};
 ghost use Rattle.whole.specs.Whole.{eqZ};
 ghost use Rattle.fields.specs.Fields.{bytes16};
-ghost use Rattle.card.specs.Card.{strandByte, givenBit, cdsByte, boundNumber, headerText, cardText, isMarked, strandOf, numbersIn, arePlain, isCard, readCard, inputOf};
-ghost use Rattle.card.specs.Writing.{fitted, cardWriting};
+ghost use Rattle.card.specs.Card.{strandByte, givenBit, cdsByte, headerText, cardText, isMarked, numbersIn, arePlain, isCard, readCard, inputOf};
+ghost use Rattle.card.specs.Writing.{judgeCard, fitted, cardWriting};
 use cigar::write::Written;
 use refusals::BAD_VERSION;
 use refusals::MOST_CARD;
+use refusals::MOST_SEGMENTS;
+use refusals::MOST_STARTS;
 use refusals::NO_CARD;
 use refusals::NO_ROOM;
 use refusals::TOO_MUCH;
 use transcript::Bound;
+use transcript::Built;
+use transcript::building;
 use transcript::judging;
 use transcript::judging::BOTH_BITS;
 use transcript::reading::Tally;
@@ -85,7 +91,7 @@ fn is_marked(card: &[u8]) -> bool
 
 // The strand of a strand byte.
 fn strand_of(b: u8) -> i32
-    ensures { λ r. ⌜ r ≡ strandOf b ⌝ }
+    ensures { λ r. ⌜ r ≡ strandOf (eqb b 0) ⌝ }
 {
     if b == 0 {
         return 1;
@@ -112,16 +118,6 @@ fn read_numbers(card: &[u8]) -> Numbers
     }
 }
 
-// The number of a bound: 0 if it is not given.
-fn number_of(bound: Bound) -> i32
-    ensures { λ r. ⌜ r ≡ boundNumber bound ⌝ }
-{
-    match bound {
-        Bound::Given(number) => number,
-        Bound::Absent => 0,
-    }
-}
-
 // Whether two numbers are the same.
 fn is_same(a: i64, b: i64) -> bool
     ensures { λ r. ⌜ r ≡ eqZ a b ⌝ }
@@ -136,8 +132,8 @@ fn is_same(a: i64, b: i64) -> bool
 fn are_plain(cds: u32, start: i32, end: i32) -> bool
     ensures { λ r. ⌜ r ≡ arePlain cds start end ⌝ }
 {
-    let from = number_of(judging::start_of(cds, start));
-    let to = number_of(judging::end_of(cds, end));
+    let from = judging::number_of(judging::start_of(cds, start));
+    let to = judging::number_of(judging::end_of(cds, end));
     if is_same(from as i64, start as i64) {
         return is_same(to as i64, end as i64);
     }
@@ -181,6 +177,34 @@ pub fn read_card(card: &[u8]) -> ReadCard
         return ReadCard::Refused(BAD_VERSION);
     }
     ReadCard::Refused(NO_CARD)
+}
+
+// The transcript that a card's input makes, or a refusal, which leaves the tables as they are.
+pub fn build_card(
+    card: &[u8],
+    genome: &mut [u32; MOST_STARTS],
+    transcript: &mut [u32; MOST_STARTS],
+    letters: &mut [u8; MOST_SEGMENTS],
+) -> Built
+    ensures { λ r. ⌜ r ≡ builtOf (judgeCard (now (card .entry))) ⌝ }
+    ensures { λ _. ⌜ now (genome .exit) ≡ genomeAfter (judgeCard (now (card .entry))) (now (genome .entry)) ⌝ }
+    ensures { λ _. ⌜ now (transcript .exit) ≡ transcriptAfter (judgeCard (now (card .entry))) (now (transcript .entry)) ⌝ }
+    ensures { λ _. ⌜ now (letters .exit) ≡ lettersAfter (judgeCard (now (card .entry))) (now (letters .entry)) ⌝ }
+{
+    match read_card(card) {
+        ReadCard::Card(n) => building::build(
+            n.strand,
+            n.cds,
+            n.start,
+            n.end,
+            n.count,
+            &card[RECORDS_AT..],
+            genome,
+            transcript,
+            letters,
+        ),
+        ReadCard::Refused(k) => Built::Refused(k),
+    }
 }
 
 // Writes bytes from a place on.
@@ -239,8 +263,8 @@ fn put_header(buffer: &mut [u8], strand: i32, start: Bound, end: Bound, count: u
     ensures { λ _. ⌜ now (buffer .exit) ≡ sets (now (buffer .entry)) 0 (headerText strand start end count) ⌝ }
 {
     put_front(buffer, strand_byte(strand as i64), cds_byte(start, end));
-    fields::put_i32(buffer, START_AT, number_of(start));
-    fields::put_i32(buffer, END_AT, number_of(end));
+    fields::put_i32(buffer, START_AT, judging::number_of(start));
+    fields::put_i32(buffer, END_AT, judging::number_of(end));
     fields::put_u16(buffer, COUNT_AT, count);
 }
 

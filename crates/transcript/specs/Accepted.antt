@@ -28,7 +28,7 @@ use Rattle.transcript.specs.Transcript.Cds.{noCds, cds}
 use Rattle.transcript.specs.Building.{Exon, partsOf, gap, elementsAfter, elementsOf, firstStart}
 use Rattle.transcript.specs.Reading.{startOf as genomeStart, endOf as genomeEnd, exonOf, Exons, exons, denied, beforeAll, andThen, readFirst, readNext, exonsAfter, exonsOf}
 use Rattle.transcript.specs.Judging.{Judged, refused, accepted, unless, Made, Measured, bothBits, startOf, endOf, halfFault, rangeFault, cdsFault, cdsOf, lastFault, judgeExons, judgeOn, judgeRecords, judge, lengthFault, judgeLength}
-use Rattle.transcript.specs.Outcome.{numberOf, bitsOf, startIn, endIn, strandOf, elementsIn}
+use Rattle.transcript.specs.Outcome.{numberOf, bitsOf, startIn, endIn, strandOf, elementsMade}
 use Rattle.transcript.specs.declared.Bound.{Bound}
 use Rattle.transcript.specs.declared.Bound.the-variants.{Given, Absent}
 
@@ -54,7 +54,7 @@ pub record On (start end : Bound) (rs : List Record) (m : Made) : Type 0 where
   pub sound : faults (m .forward) rs ≡ 0
   pub both-or-none : halfFault start end ≡ 0
   pub were-read : exonsOf rs ≡ exons (m .exon-list)
-  pub last : lastFault start end (length (elementsIn m)) (firstStart (m .exon-list)) (total genome (elementsIn m)) (total transcript (elementsIn m)) ≡ 0
+  pub last : lastFault start end (length (elementsMade m)) (firstStart (m .exon-list)) (total genome (elementsMade m)) (total transcript (elementsMade m)) ≡ 0
   pub coding-is : m .coding ≡ cdsOf start end
 
 module _ (forward : Bool) (start end : Bound) (rs : List Record) (m : Made) where
@@ -333,17 +333,17 @@ all-in-order forward (r ∷ rs) xs f h =
 -- ---- what records make
 
 pub record Sane (m : Made) : Type 0 where
-  pub some : 0 < length (elementsIn m)
-  pub few : length (elementsIn m) ≤ mostSegments
-  pub letters : Lettered (elementsIn m)
-  pub transcript-small : total transcript (elementsIn m) ≤ mostBases
-  pub genome-small : firstStart (m .exon-list) + total genome (elementsIn m) ≤ mostBases
-  pub inside : CdsInside (m .coding) (total transcript (elementsIn m))
+  pub some : 0 < length (elementsMade m)
+  pub few : length (elementsMade m) ≤ mostSegments
+  pub letters : Lettered (elementsMade m)
+  pub transcript-small : total transcript (elementsMade m) ≤ mostBases
+  pub genome-small : firstStart (m .exon-list) + total genome (elementsMade m) ≤ mostBases
+  pub inside : CdsInside (m .coding) (total transcript (elementsMade m))
   pub in-order : InOrder 0 (m .exon-list)
 
 pub sane : (start end : Bound) (rs : List Record) (m : Made) → On start end rs m → Sane m
 sane start end rs m o =
-    let es = elementsIn m in
+    let es = elementsMade m in
     let last = last-pass start end (length es) (firstStart (m .exon-list)) (total genome es) (total transcript es) (o .last) in
     let fine = all-fine (m .forward) rs (m .exon-list) (o .were-read) in
     record {

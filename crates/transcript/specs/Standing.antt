@@ -19,7 +19,7 @@ use Rattle.transcript.specs.Building.{build}
 use Rattle.transcript.specs.Holding.{isForward, isBackward, holds, cdsOf, sourceOf}
 use Rattle.transcript.specs.Held.{CdsRight, Together, held-where}
 use Rattle.transcript.specs.Judging.{Made, Measured}
-use Rattle.transcript.specs.Outcome.{bitsOf, startIn, endIn, strandOf, elementsIn, headOf, lengthHead}
+use Rattle.transcript.specs.Outcome.{bitsOf, startIn, endIn, strandOf, elementsMade, headOf, lengthHead}
 use Rattle.transcript.specs.Accepted.{CdsInside, Sane}
 use Rattle.transcript.specs.declared.Head.{Head}
 
@@ -47,7 +47,7 @@ forward-is false h e = rw e
 
 module _ (m : Made) (s : Sane m) where
   abbrev es : List Element
-  es = elementsIn m
+  es = elementsMade m
 
   abbrev g : List ℕ
   g = startTable genome es

@@ -53,7 +53,7 @@ pub fn end_of(bits: u32, number: i32) -> Bound
 }
 
 // 11, where one bound is given and the other is not.
-pub fn half_fault(start: Bound, end: Bound) -> u8
+pub(crate) fn half_fault(start: Bound, end: Bound) -> u8
     ensures { λ r. ⌜ r ≡ halfFault start end ⌝ }
 {
     match start {
@@ -93,7 +93,7 @@ fn signed(n: u64) -> i64
 }
 
 // 12, where both bounds are given.
-pub fn cds_fault(start: Bound, end: Bound, last: u64) -> u8
+pub(crate) fn cds_fault(start: Bound, end: Bound, last: u64) -> u8
     requires { ⌜ last ≤ mostBases ⌝ }
     ensures { λ r. ⌜ r ≡ cdsFault start end last ⌝ }
 {
@@ -131,7 +131,7 @@ fn last_fault(start: Bound, end: Bound, first: u32, sums: Sums) -> u8
 }
 
 // The number of a bound, 0 where it is not given.
-fn number_of(bound: Bound) -> i32
+pub fn number_of(bound: Bound) -> i32
     ensures { λ r. ⌜ r ≡ numberOf bound ⌝ }
 {
     match bound {
@@ -141,7 +141,7 @@ fn number_of(bound: Bound) -> i32
 }
 
 // A head with a CDS that passed.
-pub fn with_cds(mut head: Head, bits: u32, start: i32, end: i32) -> Head
+pub(crate) fn with_cds(mut head: Head, bits: u32, start: i32, end: i32) -> Head
     requires { ⌜ bits ≤ bothBits ⌝ }
     ensures { λ r. ⌜ r ≡ withCds head bits start end ⌝ }
 {

@@ -7,7 +7,8 @@ use mir.Syntax.{w32, w64}
 use mir.Val.{SFits, toZ, ofZ}
 use Rattle.whole.specs.Whole.{whole, eqZ, read, widened}
 use Rattle.transcript.specs.Judging.{startOf, endOf}
-use Rattle.card.specs.Card.{boundNumber, arePlain}
+use Rattle.transcript.specs.Outcome.{numberOf}
+use Rattle.card.specs.Card.{arePlain}
 use borrow.Author.Needs.{needs}
 use Rattle.card.proofs.are_plain.Statement.{statement}
 use Rattle.card.proofs.are_plain.Tie as tie
@@ -51,19 +52,19 @@ module _ (c : tie.After-is-same) where
   abbrev start-entry : tie.Start
   start-entry = c .before .before .before .before .before
 
-  start-same : eqZ (boundNumber (startOf (start-entry .args .cds) (start-entry .args .start))) (start-entry .args .start) ≡ c .is-same .result
+  start-same : eqZ (numberOf (startOf (start-entry .args .cds) (start-entry .args .start))) (start-entry .args .start) ≡ c .is-same .result
   start-same =
       narrow-test (record { sfits = c .before .before .before .number-of .ok }) (start-entry .fits .start) (c .is-same .ensures)
-      (c .before .before .before .number-of .ensures ∙ ap boundNumber (c .before .before .before .before .start-of .ensures ∙ ap (startOf (start-entry .args .cds)) (read (start-entry .fits .start))))
+      (c .before .before .before .number-of .ensures ∙ ap numberOf (c .before .before .before .before .start-of .ensures ∙ ap (startOf (start-entry .args .cds)) (read (start-entry .fits .start))))
 
 module _ (c : tie.After-is-same2) where
   abbrev end-entry : tie.Start
   end-entry = c .before .before .before .before .before .before .before
 
-  end-same : eqZ (boundNumber (endOf (end-entry .args .cds) (end-entry .args .end))) (end-entry .args .end) ≡ c .is-same2 .result
+  end-same : eqZ (numberOf (endOf (end-entry .args .cds) (end-entry .args .end))) (end-entry .args .end) ≡ c .is-same2 .result
   end-same =
       narrow-test (record { sfits = c .before .before .before .number-of2 .ok }) (end-entry .fits .end) (c .is-same2 .ensures)
-      (c .before .before .before .number-of2 .ensures ∙ ap boundNumber (c .before .before .before .before .end-of .ensures ∙ ap (endOf (end-entry .args .cds)) (read (end-entry .fits .end))))
+      (c .before .before .before .number-of2 .ensures ∙ ap numberOf (c .before .before .before .before .end-of .ensures ∙ ap (endOf (end-entry .args .cds)) (read (end-entry .fits .end))))
 
 returns : tie.Need-returns
 unfolding arePlain

@@ -8,8 +8,9 @@ use lib.Seq.{sets}
 use mir.Syntax.{w32}
 use Rattle.whole.specs.Whole.{whole, told, widened}
 use Rattle.fields.specs.Fields.{bytes16, bytes32, bits32}
+use Rattle.transcript.specs.Outcome.{numberOf}
 use Rattle.card.specs.Layout.{mark, version, startAt, endAt, countAt}
-use Rattle.card.specs.Card.{strandByte, cdsByte, boundNumber, headerText}
+use Rattle.card.specs.Card.{strandByte, cdsByte, headerText}
 use borrow.Author.Needs.{needs}
 use Rattle.card.proofs.put_header.Statement.{statement}
 use Rattle.card.proofs.put_header.Tie as tie
@@ -56,12 +57,12 @@ module _ (c : tie.After-slice-known5) where
       c .before .before .before .before .before .before .before .before .before .before .before .before .before .before .before .before .put-front .ensures
       ∙ ap₂ (λ (s d : ℕ). sets (entry .args .buffer .now) 0 (mark ++ bytes16 version ++ s ∷ d ∷ [])) strand-is (c .before .before .before .before .before .before .before .before .before .before .before .before .before .before .before .before .before .cds-byte .ensures)
 
-  start-stored : c .before .before .before .before .before .before .before .before .before .before .before .put-i32 .last .0 ≡ sets (c .before .before .before .before .before .before .before .before .before .before .before .before .before .before .before .before .put-front .last .0) startAt (bytes32 (bits32 (boundNumber (entry .args .start))))
+  start-stored : c .before .before .before .before .before .before .before .before .before .before .before .put-i32 .last .0 ≡ sets (c .before .before .before .before .before .before .before .before .before .before .before .before .before .before .before .before .put-front .last .0) startAt (bytes32 (bits32 (numberOf (entry .args .start))))
   start-stored =
       let n = c .before .before .before .before .before .before .before .before .before .before .before .before .number-of in
       c .before .before .before .before .before .before .before .before .before .before .before .put-i32 .ensures ∙ ap (λ (z : ℤ). sets (c .before .before .before .before .before .before .before .before .before .before .before .before .before .before .before .before .put-front .last .0) startAt (bytes32 (bits32 z))) (told w32 (n .result) (n .ok) ∙ n .ensures)
 
-  end-stored : c .before .before .before .before .before .before .put-i322 .last .0 ≡ sets (c .before .before .before .before .before .before .before .before .before .before .before .put-i32 .last .0) endAt (bytes32 (bits32 (boundNumber (entry .args .end))))
+  end-stored : c .before .before .before .before .before .before .put-i322 .last .0 ≡ sets (c .before .before .before .before .before .before .before .before .before .before .before .put-i32 .last .0) endAt (bytes32 (bits32 (numberOf (entry .args .end))))
   end-stored =
       let n = c .before .before .before .before .before .before .before .number-of2 in
       c .before .before .before .before .before .before .put-i322 .ensures ∙ ap (λ (z : ℤ). sets (c .before .before .before .before .before .before .before .before .before .before .before .put-i32 .last .0) endAt (bytes32 (bits32 z))) (told w32 (n .result) (n .ok) ∙ n .ensures)
@@ -72,8 +73,8 @@ returns c =
     c .before .before .put-u16 .ensures
     ∙ ap (λ (b : List ℕ). sets b countAt (bytes16 (entry c .args .count)))
     (end-stored c
-    ∙ ap (λ (b : List ℕ). sets b endAt (bytes32 (bits32 (boundNumber (entry c .args .end)))))
-    (start-stored c ∙ ap (λ (b : List ℕ). sets b startAt (bytes32 (bits32 (boundNumber (entry c .args .start))))) (front-stored c)))
+    ∙ ap (λ (b : List ℕ). sets b endAt (bytes32 (bits32 (numberOf (entry c .args .end)))))
+    (start-stored c ∙ ap (λ (b : List ℕ). sets b startAt (bytes32 (bits32 (numberOf (entry c .args .start))))) (front-stored c)))
 
 pub put-header-spec : {M : Type 1} → statement M
 put-header-spec =
