@@ -16,7 +16,7 @@ use Rattle.whole.specs.Whole.{eqZ, by-test, order, eq-by, eq-says, eq-yes-says,
 use Rattle.transcript.specs.Transcript.{Source, genomeLength, transcriptLength, lengthOf, codingOf}
 use Rattle.transcript.specs.Transcript.Source.{aligned, lengthOnly}
 use Rattle.transcript.specs.Holding.{ofRecords, bothGiven, segmentsIn, holds, cdsOf, transcriptOf, sourceOf}
-use Rattle.transcript.specs.Held.{headHolds, head-where, CdsBounds, cds-bounds, together, length-right, source-of-records, source-of-length, some, few, held-segments, genome-length, transcript-length}
+use Rattle.transcript.specs.Held.{headHolds, held-head, CdsBounds, cds-bounds, together, length-right, source-of-records, source-of-length, some, few, held-segments, genome-length, transcript-length}
 use Rattle.transcript.specs.declared.Head.{Head}
 use Rattle.mapper.specs.Answers.{NInterval, andThen}
 use Rattle.mapper.specs.Answers.Answer.{refused}
@@ -49,7 +49,7 @@ cast-asks (negsuc n) f e = absurd (omega order)
 module _ (h : Head) (g t l : List ℕ) (held : holds h g t l ≡ true) where
   module _ (r : ofRecords h ≡ true) where
     pub head-right : headHolds h ≡ true
-    head-right = head-where h (together h g t l held r .head)
+    head-right = held-head h g t l (together h g t l held r)
 
     pub sound : Sound (alignmentOf h) g t l
     sound =
