@@ -6,9 +6,9 @@
 --     many-written, .., text-written    what is written, by the tests in their order
 -- Assumes nothing.
 use mathlib.Core.Path.{_≡_, refl, sym, ap, _∙_}
-use mathlib.Core.Bool.{true, false}
+use mathlib.Core.Bool.{false}
 use mathlib.Core.List.{List, [], _∷_}
-use Prim.Native.Nat.{ℕ, zero, suc, _+_, _-_, _≤_, _<_}
+use Prim.Native.Nat.{ℕ, suc, _+_, _-_, _≤_, _<_}
 use native.Mathlib.Nat.{add-zero}
 use native.Mathlib.Omega.{arith}
 use lib.IntN.{ℤ, pos, natAbs}
@@ -20,7 +20,7 @@ use Rattle.refusals.specs.Numbers.{tooMuch, noRoom, mostSegments, mostText}
 use Rattle.cigar.specs.Elements.{Element, isLetter}
 use Rattle.cigar.specs.Text.{Reading, elements, refused, before, element, elementsIn, Answered}
 use Rattle.cigar.specs.Steps.{answered-before}
-use Rattle.cigar.specs.Write.{elementText, elementsText, judged, given, givenFrom, Writing, written, denied, fitted, textOf, writing, sizeOf, elementSize}
+use Rattle.cigar.specs.Write.{elementText, elementsText, judged, given, givenFrom, written, denied, fitted, textOf, writing, sizeOf}
 use Rattle.cigar.specs.declared.write.Written.{Written}
 use Rattle.cigar.specs.declared.write.Written.the-variants as answer
 
@@ -71,18 +71,23 @@ clash e = let z : _≡_ {A = ℕ} 0 1 = cc in omega arith
 size-is : {k m : ℕ} → answer.Text k ≡ answer.Text m → k ≡ m
 size-is e = cc
 
+-- the text of one element
+pub alone-long : (n letter : ℕ) → length (elementsText (element n letter ∷ [])) ≡ length (elementText n letter)
+unfolding elementsText
+alone-long n letter = length-append (elementText n letter) [] ∙ add-zero (length (elementText n letter))
+
 module _ (n : ℕ) (z : ℤ) (letter : ℕ) (r : Reading) where
-  pub size-more : {m : ℕ} → elementSize z letter ≡ answer.Text m → sizeFrom n (judged z letter r) ≡ sizeFrom (n + m) r
+  pub size-more : {m : ℕ} → sizeOf (judged z letter (elements [])) ≡ answer.Text m → sizeFrom n (judged z letter r) ≡ sizeFrom (n + m) r
   size-more {m} e =
       by-test (isLetter letter)
       (λ l.
       by-test (ltZ z (pos 0)) (λ b. absurd (clash (rw (l, b) at e)))
       (λ b.
-      let same : length (elementText (natAbs z) letter) ≡ m = size-is (rw (l, b) at e) in
+      let same : length (elementText (natAbs z) letter) ≡ m = sym (alone-long (natAbs z) letter) ∙ size-is (rw (l, b) at e) in
       rw (l, b) (size-before n (element (natAbs z) letter) r ∙ ap (λ (k : ℕ). sizeFrom (n + k) r) same)))
       (λ l. absurd (clash (rw l at e)))
 
-  pub size-refused : {k : ℕ} → elementSize z letter ≡ answer.Refused k → sizeFrom n (judged z letter r) ≡ answer.Refused k
+  pub size-refused : {k : ℕ} → sizeOf (judged z letter (elements [])) ≡ answer.Refused k → sizeFrom n (judged z letter r) ≡ answer.Refused k
   size-refused {k} e =
       by-test (isLetter letter)
       (λ l. by-test (ltZ z (pos 0)) (λ b. rw (l, b) (rw (l, b) at e)) (λ b. absurd (clash (sym (rw (l, b) at e)))))

@@ -3,7 +3,7 @@
 --     read-write    what was read into tables is written, into any buffer that has room for it
 --     write-read    what was written from any two tables reads as what they gave
 -- Assumes nothing.
-use mathlib.Core.Path.{_≡_, refl, sym, ap, subst, _∙_}
+use mathlib.Core.Path.{_≡_, refl, ap, _∙_}
 use mathlib.Core.Bool.{true, false, true≢false}
 use mathlib.Core.List.{List, [], _∷_, _++_}
 use Prim.Native.Nat.{ℕ, zero, suc, _+_, _≤_}
@@ -17,13 +17,13 @@ use mir.Syntax.{w32}
 use mir.Val.{SFits}
 use borrow.Author.Tests.{le-ltb, ltb-false}
 use Rattle.whole.specs.Whole.{by-test}
-use Rattle.refusals.specs.Numbers.{tooMuch, mostCount, mostSegments, mostText}
+use Rattle.refusals.specs.Numbers.{mostCount, mostSegments, mostText}
 use Rattle.cigar.specs.Elements.{Element, isLetter}
 use Rattle.cigar.specs.Text.{Reading, elements, refused, before, element, readAll}
 use Rattle.cigar.specs.Sound.{Sound, AllSound, read-sound, read-room}
 use Rattle.cigar.specs.Lent.{atFront}
 use Rattle.cigar.specs.Read.{readText, countsOf, lettersOf}
-use Rattle.cigar.specs.Write.{elementsText, judged, givenFrom, given, Writing, written, denied, fitted, textOf, writing}
+use Rattle.cigar.specs.Write.{elementsText, givenFrom, given, written, denied, textOf, writing}
 use Rattle.cigar.specs.RoundTrip.{read-back, shorter}
 
 -- elements that stand after some others in both tables

@@ -2,7 +2,7 @@
 --     read-sound, read-room    of a text that is read
 --     step-sound               of the element that a step finds
 -- Assumes nothing.
-use mathlib.Core.Path.{_≡_, refl, subst}
+use mathlib.Core.Path.{_≡_, subst}
 use mathlib.Core.Bool.{Bool, true, false}
 use mathlib.Core.List.{List, [], _∷_}
 use Prim.Native.Nat.{ℕ, _+_, _-_, _*_, _≤_}
@@ -15,7 +15,7 @@ use Rattle.refusals.specs.Numbers.{mostCount}
 use Rattle.cigar.specs.declared.Step.{Step}
 use Rattle.cigar.specs.declared.Step.the-variants as step
 use Rattle.cigar.specs.Elements.{Element, isLetter}
-use Rattle.cigar.specs.Text.{isDigit, countOf, finished, elementFrom, stepOf, stepAt, Reading, elements, refused, before, element, taken, readFrom, readAll}
+use Rattle.cigar.specs.Text.{isDigit, countOf, elementFrom, stepOf, stepAt, Reading, elements, refused, before, element, taken, readFrom, readAll}
 
 pub record Sound (x : Element) : Type 0 where
   pub small : x .count ≤ mostCount

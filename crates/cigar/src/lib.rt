@@ -1,4 +1,5 @@
-// CIGAR text, read by a byte cursor.
+// CIGAR text, read by a byte cursor: the element at a place, the whole text counted or read into two lent tables. And how far an
+// element goes along the genome and the transcript.
 ghost use mathlib.Core.Path.{_≡_};
 ghost use mathlib.Core.Bool.{true};
 ghost use Prim.Native.Nat.{_+_, _*_, _-_, _≤_, min};
@@ -32,6 +33,7 @@ pub enum Counted {
     Refused(u8),
 }
 
+// Whether a byte is a decimal digit.
 fn is_digit(b: u8) -> bool
     ensures { λ r. ⌜ r ≡ isDigit b ⌝ }
 {
@@ -41,6 +43,7 @@ fn is_digit(b: u8) -> bool
     b <= b'9'
 }
 
+// Whether a byte is one of the six letters.
 fn is_letter(b: u8) -> bool
     ensures { λ r. ⌜ r ≡ isLetter b ⌝ }
 {
@@ -63,7 +66,7 @@ fn more(n: u64, digit: u8) -> u64
     if m <= OVER { m } else { OVER }
 }
 
-// An element whose letter was read.
+// The element of a letter that was read. No digits mean 1, and a count above the largest is 8.
 fn finish(given: bool, n: u64, letter: u8, next: usize) -> Step
     ensures { λ r. ⌜ r ≡ finished (countOf given n) letter next ⌝ }
 {
@@ -77,7 +80,7 @@ fn finish(given: bool, n: u64, letter: u8, next: usize) -> Step
     Step::Element(1, letter, next)
 }
 
-// The element that begins at `at`.
+// The element that begins at `at`, its 7 or 8, or the end of the text.
 pub fn step_at(text: &[u8], at: usize) -> Step
     ensures { λ r. ⌜ r ≡ stepAt (now (text .entry)) at ⌝ }
 {
@@ -103,7 +106,7 @@ pub fn step_at(text: &[u8], at: usize) -> Step
     Step::Refused(NO_ELEMENT)
 }
 
-// How many elements a text has.
+// How many elements a text has, or the first refusal: each element's 7, 8, and 3 where there is no room for it.
 pub fn count_elements(text: &[u8]) -> Counted
     ensures { λ r. ⌜ r ≡ countedOf (readAll mostSegments (now (text .entry))) ⌝ }
 {

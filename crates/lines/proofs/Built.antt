@@ -14,7 +14,7 @@ use Rattle.cigar.specs.Elements.{genome, transcript}
 use Rattle.segments.specs.Tables.{Holds, read, startTable, letterTable}
 use Rattle.segments.specs.Made.{made-hold, made-read}
 use Rattle.transcript.specs.Judging.{Judged, Made, refused, accepted}
-use Rattle.transcript.specs.Outcome.{strandOf, elementsIn, headOf, answerOf}
+use Rattle.transcript.specs.Outcome.{strandOf, elementsMade, headOf, answerOf}
 use Rattle.transcript.specs.Accepted.{Sane}
 use Rattle.transcript.specs.declared.Head.{Head}
 use Rattle.transcript.specs.declared.Built.the-variants as answer
@@ -45,10 +45,10 @@ plus-is false = refl
 
 -- the tables of what was made
 module _ (m : Made) {g t l : List ℕ} {n : ℕ}
-    (genome-is : g ≡ startTable genome (elementsIn m)) (transcript-is : t ≡ startTable transcript (elementsIn m)) (letters-are : l ≡ letterTable (elementsIn m))
-    (count-is : n ≡ length (elementsIn m)) where
+    (genome-is : g ≡ startTable genome (elementsMade m)) (transcript-is : t ≡ startTable transcript (elementsMade m)) (letters-are : l ≡ letterTable (elementsMade m))
+    (count-is : n ≡ length (elementsMade m)) where
   pub made-holds : Sane m → Holds g t l n
-  made-holds s = rw (genome-is, transcript-is, letters-are, count-is) (made-hold (elementsIn m) (s .letters))
+  made-holds s = rw (genome-is, transcript-is, letters-are, count-is) (made-hold (elementsMade m) (s .letters))
 
   pub made-listed : {forward : Bool} → forward ≡ m .forward → listingText forward (read g t l n) ≡ judgmentText (accepted m)
-  made-listed e = rw (genome-is, transcript-is, letters-are, count-is, e, made-read (elementsIn m))
+  made-listed e = rw (genome-is, transcript-is, letters-are, count-is, e, made-read (elementsMade m))

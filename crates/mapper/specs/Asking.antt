@@ -1,16 +1,20 @@
--- Questions to a transcript of either kind: 18 and 19 before the mapping, and the questions in-bounds and coding. Assumes nothing.
+-- Questions to a transcript of either kind: 18 and 19 before the mapping, and the questions in-bounds and coding; then the same of a transcript that a host lends, which is checked first. Assumes nothing.
 use Prim.Native.Nat.{ℕ}
 use mathlib.Core.Bool.{Bool, true, false, _&&_}
+use mathlib.Core.List.{List}
 use lib.IntN.{ℤ, pos}
 use lib.Signed.{leZ}
-use Rattle.refusals.specs.Numbers.{noGenome, missingEnd}
+use Rattle.whole.specs.Whole.{if_then_else_}
+use Rattle.refusals.specs.Numbers.{noGenome, missingEnd, notTogether}
 use Rattle.transcript.specs.Transcript.{Transcript, Source, Cds, genomeLength, lengthOf, codingOf}
 use Rattle.transcript.specs.Transcript.Source.{aligned, lengthOnly}
 use Rattle.transcript.specs.Transcript.Cds.{noCds, cds}
+use Rattle.transcript.specs.Holding.{holds, sourceOf}
+use Rattle.transcript.specs.declared.Head.{Head}
 use Rattle.mapper.specs.Answers.{GInterval, NInterval, CInterval, Answer, Plain, thenAsk}
 use Rattle.mapper.specs.Answers.Answer.{refused}
 use Rattle.mapper.specs.Answers.Plain.{told, denied}
-use Rattle.mapper.specs.Mapping.{placeOfG, gToN, nToG, nToC, cToN, gToC, cToG}
+use Rattle.mapper.specs.Mapping.{placeOfG, gToN, nToG, nToC, cToN, gToC}
 
 -- the start or the end of a g. interval as it is asked: a number, or none
 pub data Bound : Type 0 where
@@ -70,3 +74,29 @@ bounded t missing b = denied missingEnd
 unfoldable pub askInBounds : Source → GAsked → Plain Bool
 askInBounds (aligned t) q = bounded t (q .from) (q .to)
 askInBounds (lengthOnly n c) q = denied noGenome
+
+-- ---- of a head and the three tables that a host lends: 23 where they do not hold together, before anything else and once a question, also in chains
+
+unfoldable pub answerGToN : Bool → Head → List ℕ → List ℕ → List ℕ → GAsked → Answer NInterval
+answerGToN strict h g t l q = if holds h g t l then askGToN strict (sourceOf h g t l) q else refused notTogether
+
+unfoldable pub answerNToG : Bool → Head → List ℕ → List ℕ → List ℕ → NInterval → Answer GInterval
+answerNToG strict h g t l i = if holds h g t l then askNToG strict (sourceOf h g t l) i else refused notTogether
+
+unfoldable pub answerNToC : Bool → Head → List ℕ → List ℕ → List ℕ → NInterval → Plain CInterval
+answerNToC strict h g t l i = if holds h g t l then askNToC strict (sourceOf h g t l) i else denied notTogether
+
+unfoldable pub answerCToN : Bool → Head → List ℕ → List ℕ → List ℕ → CInterval → Plain NInterval
+answerCToN strict h g t l i = if holds h g t l then askCToN strict (sourceOf h g t l) i else denied notTogether
+
+unfoldable pub answerGToC : Bool → Head → List ℕ → List ℕ → List ℕ → GAsked → Answer CInterval
+answerGToC strict h g t l q = if holds h g t l then askGToC strict (sourceOf h g t l) q else refused notTogether
+
+unfoldable pub answerCToG : Bool → Head → List ℕ → List ℕ → List ℕ → CInterval → Answer GInterval
+answerCToG strict h g t l i = if holds h g t l then askCToG strict (sourceOf h g t l) i else refused notTogether
+
+unfoldable pub answerCoding : Head → List ℕ → List ℕ → List ℕ → Plain Bool
+answerCoding h g t l = if holds h g t l then askCoding (sourceOf h g t l) else denied notTogether
+
+unfoldable pub answerInBounds : Head → List ℕ → List ℕ → List ℕ → GAsked → Plain Bool
+answerInBounds h g t l q = if holds h g t l then askInBounds (sourceOf h g t l) q else denied notTogether

@@ -34,6 +34,16 @@ earlier forward a b = cond forward a b
 abbrev pub later : {A : Type 0} → Bool → A → A → A
 later forward a b = cond forward b a
 
+-- the interval of two ends
+abbrev pub gInterval : ℤ → ℤ → GInterval
+gInterval a b = record { from = a; to = b }
+
+abbrev pub nInterval : NPosition → NPosition → NInterval
+nInterval a b = record { from = a; to = b }
+
+abbrev pub cInterval : CPosition → CPosition → CInterval
+cInterval a b = record { from = a; to = b }
+
 -- ---- g. and n.
 
 unfoldable pub placeOfG : Transcript → ℤ → ℤ
@@ -103,9 +113,6 @@ nPosition strict len s e a =
     let n = nOfC (pos s) (pos e) (a .base) in
     if refuses16 strict len n then denied cOutside
     else plainFitting nFits (told (record { base = n; offset = a .offset }))
-
-abbrev pub nInterval : NPosition → NPosition → NInterval
-nInterval a b = record { from = a; to = b }
 
 unfoldable pub cToN : Bool → ℕ → Cds → CInterval → Plain NInterval
 cToN strict len noCds i = denied notCoding

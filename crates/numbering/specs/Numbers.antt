@@ -1,6 +1,6 @@
 -- The three units and the crossings between them, as the document has them. All numbers are whole numbers, ℤ.
 use mathlib.Core.Bool.{true, false}
-use lib.IntN.{ℤ, pos, negsuc, _+ℤ_, _-ℤ_}
+use lib.IntN.{ℤ, pos, _+ℤ_, _-ℤ_}
 use lib.Signed.{leZ, ltZ}
 use Rattle.whole.specs.Whole.{if_then_else_}
 use Rattle.numbering.specs.declared.CNumber.{CNumber}

@@ -1,4 +1,4 @@
-// Three units that must not be mixed, and the routines that own the crossings between them.
+// Three units that must not be mixed, and the routines that own the crossings between them: only here is the 1 of the missing zero added or taken off.
 // Every number is a whole number held as an i64; each routine asks that what it is handed is below 2^40 in size, so that no sum wraps.
 // Each sum has a name, so that its need in the proof has that name and not a temporary's number.
 ghost use mathlib.Core.Path.{_≡_};
@@ -14,7 +14,7 @@ pub struct NNumber(pub i64);
 // A c. number: its base, and whether it bears a star and counts from the CDS's end.
 pub struct CNumber(pub i64, pub bool);
 
-// At 0 or above add 1, below 0 keep.
+// A place as an n. number (`zbc_to_hgvs`): at 0 or above add 1, below 0 keep.
 pub fn place_to_n(p: Place) -> NNumber
     requires { ⌜ Within 40 (p .0) ⌝ }
     ensures { λ r. ⌜ r .0 ≡ nOfPlace (p .0) ⌝ }
@@ -28,7 +28,7 @@ pub fn place_to_n(p: Place) -> NNumber
     }
 }
 
-// At 1 or above take 1 off, otherwise keep.
+// An n. number as a place (`hgvs_to_zbc`): at 1 or above take 1 off, otherwise keep.
 pub fn n_to_place(n: NNumber) -> Place
     requires { ⌜ Within 40 (n .0) ⌝ }
     ensures { λ r. ⌜ r .0 ≡ placeOfN (n .0) ⌝ }
@@ -42,7 +42,7 @@ pub fn n_to_place(n: NNumber) -> Place
     }
 }
 
-// An n. number as a c. number, with the CDS's start s and end e.
+// An n. number as a c. number (`pos_n_to_c`), with the CDS's start s and end e.
 pub fn n_to_c(n: NNumber, s: i64, e: i64) -> CNumber
     requires { ⌜ Within 40 (n .0) ⌝ }
     requires { ⌜ Within 40 s ⌝ }
@@ -80,7 +80,7 @@ fn skip_zero(r: i64) -> NNumber
     }
 }
 
-// A c. number as an n. number.
+// A c. number as an n. number (`pos_c_to_n`), with the same two.
 pub fn c_to_n(c: CNumber, s: i64, e: i64) -> NNumber
     requires { ⌜ Within 40 (c .0) ⌝ }
     requires { ⌜ Within 40 s ⌝ }

@@ -1,6 +1,6 @@
 -- The chain of refusals, link by link. Assumes nothing.
 use mathlib.Core.Path.{_≡_, refl, sym, ap, _∙_}
-use mathlib.Core.Bool.{Bool, true, false}
+use mathlib.Core.Bool.{Bool, true}
 use mathlib.Core.List.{List}
 use Prim.Native.Nat.{ℕ, _-_, _≤_, _<_}
 use native.Mathlib.Omega.{arith}
@@ -14,7 +14,7 @@ use Rattle.records.specs.Faults.{faults}
 use Rattle.records.specs.Walk.{records-one}
 use Rattle.transcript.specs.Building.{Exon, elementsOf, firstStart}
 use Rattle.transcript.specs.Reading.{Exons, exons, denied, beforeAll, andThen, startOf, exonOf, readFirst, exonsAfter, exonsOf}
-use Rattle.transcript.specs.Judging.{Judged, Made, refused, accepted, unless, halfFault, lastFault, judgeExons, judgeOn}
+use Rattle.transcript.specs.Judging.{Judged, refused, unless, halfFault, lastFault, judgeExons, judgeOn}
 use Rattle.transcript.specs.Tallies.{sumsOf, talliedAll, toldOf}
 use Rattle.transcript.specs.declared.Bound.{Bound}
 use Rattle.transcript.specs.declared.reading.Sums.{Sums}

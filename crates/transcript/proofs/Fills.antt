@@ -4,9 +4,9 @@ use mathlib.Core.Bool.{Bool, true, false}
 use mathlib.Core.List.{List, [], _∷_, _++_, reverse, reverse-cons}
 use Prim.Native.Nat.{ℕ, _+_, _-_, _≤_, _<_}
 use native.Mathlib.Omega.{arith}
-use lib.ListN.{length, set, length-reverse, length-set}
+use lib.ListN.{length, length-reverse, length-set}
 use lib.Seq.{set-comm}
-use Rattle.cigar.specs.Elements.{Element, genome, transcript, total}
+use Rattle.cigar.specs.Elements.{Element, genome, transcript}
 use Rattle.transcript.specs.Totals.{total-reverse}
 use Rattle.transcript.specs.Tallies.{oneOn, sumsOn}
 use Rattle.transcript.specs.Filling.{Tables, tables, Long, put, fill, ordered, turnedOn}

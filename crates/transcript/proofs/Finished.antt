@@ -10,7 +10,7 @@ use Rattle.refusals.specs.Numbers.{mostSegments, mostStarts}
 use Rattle.cigar.specs.Elements.{Element, Side, genome, transcript, total}
 use Rattle.segments.specs.Tables.{startsFrom, lettersOf, startTable, letterTable}
 use Rattle.transcript.specs.Tallies.{nothing, sumsOf, oneOn}
-use Rattle.transcript.specs.Filling.{Tables, tables, Long, put, fill, finished, tablesOf}
+use Rattle.transcript.specs.Filling.{Tables, Long, put, fill, finished, tablesOf}
 use Rattle.transcript.specs.declared.reading.Sums.{Sums}
 use Rattle.transcript.proofs.Fills.{tables-eq}
 use Rattle.transcript.proofs.Runs.{sets-append, sets-whole}

@@ -1,7 +1,7 @@
 -- Tests of a head's numbers, as the machine makes them: `==` compares the bits of two numbers, and a cast keeps a number that is not negative. Assumes nothing.
 use Prim.Native.Nat.{ℕ}
 use native.Mathlib.Omega.{arith}
-use mathlib.Core.Bool.{Bool, true, false, false≢true}
+use mathlib.Core.Bool.{true, false, false≢true}
 use mathlib.Core.Path.{_≡_, refl, sym, ap, _∙_}
 use lib.Dec.{T, eqb, leb}
 use lib.IntN.{ℤ, pos, negsuc, natAbs}

@@ -11,6 +11,7 @@
 --     Runs       runs of stores
 --     Finished   tables that were filled and finished
 --     Passed     what was judged and is no refusal
+--     Lengths    the judgment of a length, link by link
 pub mod Heads
 pub mod Gaps
 pub mod Sizes
@@ -23,3 +24,4 @@ pub mod Past
 pub mod Runs
 pub mod Finished
 pub mod Passed
+pub mod Lengths

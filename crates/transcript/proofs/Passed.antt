@@ -2,7 +2,7 @@
 use mathlib.Core.Path.{_≡_, refl, sym, ap, subst, _∙_}
 use mathlib.Core.Bool.{Bool, true, false}
 use mathlib.Core.List.{List}
-use Prim.Native.Nat.{ℕ, _≤_, _<_}
+use Prim.Native.Nat.{ℕ, _≤_}
 use native.Mathlib.Omega.{arith}
 use lib.IntN.{ℤ, pos, negsuc, natAbs}
 use lib.ListN.{length}
@@ -12,13 +12,13 @@ use Rattle.records.specs.Layout.{altStart}
 use Rattle.records.specs.Records.{fieldAt, recordAt, recordsFrom}
 use Rattle.records.specs.Walk.{Ready, ready, records-length}
 use Rattle.cigar.specs.Elements.{total, transcript}
-use Rattle.transcript.specs.Building.{firstStart, elementsOf}
+use Rattle.transcript.specs.Building.{firstStart}
 use Rattle.transcript.specs.Reading.{exonsOf}
-use Rattle.transcript.specs.Judging.{Judged, Made, Measured, refused, accepted, startOf, endOf, judge, judgeLength}
+use Rattle.transcript.specs.Judging.{Judged, Made, Measured, refused, accepted, bothBits, startOf, endOf, judge}
 use Rattle.transcript.specs.Tallies.{sumsOf, talliedAll, toldOf}
 use Rattle.transcript.specs.Filling.{Tables, elementsAll, Small}
-use Rattle.transcript.specs.Outcome.{numberOf, withCds, bareHead, strandOf, elementsIn, headOf, lengthHead, bitsOf, startIn, endIn, tablesAfter, genomeAfter, transcriptAfter, lettersAfter}
-use Rattle.transcript.specs.Accepted.{Accepted, accepted-means, Sane, judged-sane, CdsPass, cds-pass, bits-are, LastPass, last-pass, Measures}
+use Rattle.transcript.specs.Outcome.{withCds, bareHead, strandOf, elementsMade, headOf, lengthHead, bitsOf, startIn, endIn, tablesAfter, genomeAfter, transcriptAfter, lettersAfter}
+use Rattle.transcript.specs.Accepted.{Accepted, accepted-means, judged-sane, cds-pass, bits-are, last-pass, Measures}
 use Rattle.transcript.specs.declared.Head.{Head}
 use Rattle.transcript.specs.declared.reading.Sums.{Sums}
 use Rattle.transcript.specs.declared.reading.Tally.the-variants as tally
@@ -44,7 +44,7 @@ module _ (strand : ℤ) (bits : ℕ) (start end : ℤ) (n : ℕ) (s : List ℕ) 
   pub record Passed (to : Sums) : Type 0 where
     pub made : Made
     pub judged : judge strand bits start end n s ≡ accepted made
-    pub sums-are : to ≡ sumsOf (elementsIn made)
+    pub sums-are : to ≡ sumsOf (elementsMade made)
 
   pub passed : (to : Sums) → tally.Sums to ≡ toldOf (judge strand bits start end n s) → Passed to
   passed to e = go (judge strand bits start end n s) refl e
@@ -68,7 +68,7 @@ module _ (strand : ℤ) (bits : ℕ) (start end : ℤ) (n : ℕ) (s : List ℕ) 
     means : Accepted strand bits start end n s made
     means = accepted-means strand bits start end n s made (p .judged)
 
-    pub known : bits ≤ 3
+    pub known : bits ≤ bothBits
     known = means .known
 
     pub is-ready : Ready n s
@@ -85,7 +85,7 @@ module _ (strand : ℤ) (bits : ℕ) (start end : ℤ) (n : ℕ) (s : List ℕ) 
     pub forward-is : eqZ strand (pos 1) ≡ made .forward
     forward-is = ap (λ (z : ℤ). eqZ z (pos 1)) (means .pass .strand-is) ∙ one-strand (made .forward)
 
-    pub elements-are : elementsAll (made .forward) (exonsOf (recordsFrom n s 0)) ≡ elementsIn made
+    pub elements-are : elementsAll (made .forward) (exonsOf (recordsFrom n s 0)) ≡ elementsMade made
     elements-are = rw (means .pass .on .were-read)
 
     first-field : fieldAt s altStart ≡ pos (firstStart (made .exon-list))
@@ -97,7 +97,7 @@ module _ (strand : ℤ) (bits : ℕ) (start end : ℤ) (n : ℕ) (s : List ℕ) 
     pub head-is : withCds (bareHead strand (fieldAt s altStart) (to .count)) bits start end ≡ headOf made
     head-is =
         let on = means .pass .on in
-        let es = elementsIn made in
+        let es = elementsMade made in
         let last = last-pass (startOf bits start) (endOf bits end) (length es) (firstStart (made .exon-list)) _ (total transcript es) (on .last) in
         let cds = cds-pass (startOf bits start) (endOf bits end) (total transcript es) (on .both-or-none) (last .cds-fits) in
         head-eq refl (means .pass .strand-is) first-field (ap (λ (t : Sums). pos (t .count)) (p .sums-are))

@@ -4,9 +4,9 @@ use mathlib.Core.List.{List, [], _∷_}
 use Prim.Native.Nat.{ℕ, _+_, _-_, _≤_, _<_}
 use native.Mathlib.Omega.{arith}
 use lib.Dec.{eqb, ltb}
-use lib.ListN.{length, take, drop}
+use lib.ListN.{take, drop}
 use borrow.Author.Tests.{ltb-true, ltb-false, eqb-true, eqb-false, ne-eqb}
-use Rattle.refusals.specs.Numbers.{tooMuch, mostText, mostSegments}
+use Rattle.refusals.specs.Numbers.{mostText, mostSegments}
 use Rattle.whole.specs.Whole.{by-test}
 use Rattle.cigar.specs.declared.Step.the-variants as step
 use Rattle.cigar.specs.Elements.{Element}

@@ -11,7 +11,7 @@ use Rattle.records.specs.Records.{Record, nextAt, recordAt, recordsFrom}
 use Rattle.records.specs.Walk.{records-one, records-none}
 use Rattle.transcript.specs.Totals.{total-append, total-reverse}
 use Rattle.transcript.specs.Building.{Exon, partsOf, gap, elementsAfter, elementsOf}
-use Rattle.transcript.specs.Reading.{Exons, exons, denied, beforeAll, andThen, startOf, endOf, between, exonOf, readFirst, readNext, exonsAfter, exonsOf}
+use Rattle.transcript.specs.Reading.{Exons, exons, denied, beforeAll, andThen, endOf, between, exonOf, readFirst, readNext, exonsAfter, exonsOf}
 use Rattle.transcript.specs.Tallies.{nothing, sumsOf, oneOn, sumsOn, tallied, talliedAfter, talliedAll}
 use Rattle.transcript.specs.declared.reading.Sums.{Sums}
 use Rattle.transcript.specs.declared.reading.Tally.{Tally}

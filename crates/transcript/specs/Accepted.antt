@@ -5,30 +5,30 @@
 -- Assumes nothing.
 use Prim.Native.Nat.{ℕ, zero, suc, _+_, _-_, _%_, _≤_, _<_}
 use native.Mathlib.Omega.{arith}
-use mathlib.Core.Bool.{Bool, true, false, cond, not}
-use mathlib.Core.List.{List, [], _∷_, _++_}
-use mathlib.Core.Path.{_≡_, refl, sym, ap, subst, _∙_}
+use mathlib.Core.Bool.{Bool, true, false}
+use mathlib.Core.List.{List, [], _∷_}
+use mathlib.Core.Path.{_≡_, refl, sym, ap}
 use lib.Dec.{eqb, ltb, leb}
 use lib.IntN.{ℤ, pos, negsuc, natAbs}
 use lib.ListN.{length, length-append, length-reverse}
 use lib.Signed.{ltZ}
 use borrow.Author.Tests.{eqb-true, eqb-false, ltb-true, ltb-false, leb-true, leb-false}
 use Rattle.refusals.specs.Numbers.{mostRecords, mostSegments, mostText, mostBases}
-use Rattle.whole.specs.Whole.{if_then_else_, by-test, order, eqZ, eq-by, eq-yes-says}
+use Rattle.whole.specs.Whole.{by-test, order, eqZ, eq-by, eq-yes-says}
 use Rattle.cigar.specs.Elements.{Element, isLetter, genome, transcript, total}
 use Rattle.cigar.specs.Text.{Reading, elements, refused as unread, readAll}
 use Rattle.cigar.specs.Sound.{AllSound, read-sound, read-room}
 use Rattle.segments.specs.Made.{Lettered, lettered-append, lettered-reverse}
 use Rattle.records.specs.Records.{Record, exactly, recordsFrom}
-use Rattle.records.specs.Faults.{_orElse_, faults, faultsAfter, ownFault}
+use Rattle.records.specs.Faults.{faults, faultsAfter, ownFault}
 use Rattle.records.specs.Chain.{clear}
-use Rattle.records.specs.Walk.{Beside, beside-order, Ordered, ordered}
+use Rattle.records.specs.Walk.{beside-order, Ordered, ordered}
 use Rattle.transcript.specs.Transcript.{Cds}
 use Rattle.transcript.specs.Transcript.Cds.{noCds, cds}
-use Rattle.transcript.specs.Building.{Exon, partsOf, gap, elementsAfter, elementsOf, firstStart}
-use Rattle.transcript.specs.Reading.{startOf as genomeStart, endOf as genomeEnd, exonOf, Exons, exons, denied, beforeAll, andThen, readFirst, readNext, exonsAfter, exonsOf}
-use Rattle.transcript.specs.Judging.{Judged, refused, accepted, unless, Made, Measured, bothBits, startOf, endOf, halfFault, rangeFault, cdsFault, cdsOf, lastFault, judgeExons, judgeOn, judgeRecords, judge, judgeLength}
-use Rattle.transcript.specs.Outcome.{numberOf, bitsOf, startIn, endIn, strandOf, elementsIn}
+use Rattle.transcript.specs.Building.{Exon, partsOf, elementsAfter, elementsOf, firstStart}
+use Rattle.transcript.specs.Reading.{endOf as genomeEnd, exonOf, Exons, exons, denied, beforeAll, andThen, readFirst, readNext, exonsAfter, exonsOf}
+use Rattle.transcript.specs.Judging.{Judged, refused, accepted, unless, Made, Measured, bothBits, startOf, endOf, halfFault, rangeFault, cdsFault, cdsOf, lastFault, judgeExons, judgeOn, judgeRecords, judge, lengthFault, judgeLength}
+use Rattle.transcript.specs.Outcome.{numberOf, bitsOf, startIn, endIn, strandOf, elementsMade}
 use Rattle.transcript.specs.declared.Bound.{Bound}
 use Rattle.transcript.specs.declared.Bound.the-variants.{Given, Absent}
 
@@ -54,7 +54,7 @@ pub record On (start end : Bound) (rs : List Record) (m : Made) : Type 0 where
   pub sound : faults (m .forward) rs ≡ 0
   pub both-or-none : halfFault start end ≡ 0
   pub were-read : exonsOf rs ≡ exons (m .exon-list)
-  pub last : lastFault start end (length (elementsIn m)) (firstStart (m .exon-list)) (total genome (elementsIn m)) (total transcript (elementsIn m)) ≡ 0
+  pub last : lastFault start end (length (elementsMade m)) (firstStart (m .exon-list)) (total genome (elementsMade m)) (total transcript (elementsMade m)) ≡ 0
   pub coding-is : m .coding ≡ cdsOf start end
 
 module _ (forward : Bool) (start end : Bound) (rs : List Record) (m : Made) where
@@ -333,17 +333,17 @@ all-in-order forward (r ∷ rs) xs f h =
 -- ---- what records make
 
 pub record Sane (m : Made) : Type 0 where
-  pub some : 0 < length (elementsIn m)
-  pub few : length (elementsIn m) ≤ mostSegments
-  pub letters : Lettered (elementsIn m)
-  pub transcript-small : total transcript (elementsIn m) ≤ mostBases
-  pub genome-small : firstStart (m .exon-list) + total genome (elementsIn m) ≤ mostBases
-  pub inside : CdsInside (m .coding) (total transcript (elementsIn m))
+  pub some : 0 < length (elementsMade m)
+  pub few : length (elementsMade m) ≤ mostSegments
+  pub letters : Lettered (elementsMade m)
+  pub transcript-small : total transcript (elementsMade m) ≤ mostBases
+  pub genome-small : firstStart (m .exon-list) + total genome (elementsMade m) ≤ mostBases
+  pub inside : CdsInside (m .coding) (total transcript (elementsMade m))
   pub in-order : InOrder 0 (m .exon-list)
 
 pub sane : (start end : Bound) (rs : List Record) (m : Made) → On start end rs m → Sane m
 sane start end rs m o =
-    let es = elementsIn m in
+    let es = elementsMade m in
     let last = last-pass start end (length es) (firstStart (m .exon-list)) (total genome es) (total transcript es) (o .last) in
     let fine = all-fine (m .forward) rs (m .exon-list) (o .were-read) in
     record {
@@ -370,23 +370,27 @@ pub record Measures (len : ℤ) (bits : ℕ) (start end : ℤ) (m : Measured) : 
   pub cds-fits : cdsFault (startOf bits start) (endOf bits end) (m .bases) ≡ 0
   pub coding-is : m .coding ≡ cdsOf (startOf bits start) (endOf bits end)
 
+pub length-pass : (len : ℤ) → lengthFault len ≡ 0 → (len ≡ pos (natAbs len)) × (natAbs len ≤ mostBases)
+unfolding lengthFault
+length-pass len =
+    by-test (ltZ len (pos 0))
+    (λ t. rw t (λ h. absurd (omega arith)))
+    (λ t.
+    by-test (ltZ (pos mostBases) len)
+    (λ u. rw (t, u) (λ h. absurd (omega arith)))
+    (λ u h. let is = whole len t in (is, omega (order, is))))
+
 pub measured-means : (len : ℤ) (bits : ℕ) (start end : ℤ) (m : Measured) → judgeLength len bits start end ≡ accepted m → Measures len bits start end m
 unfolding judgeLength
 measured-means len bits start end m =
     by-test (ltb bothBits bits)
     (λ t. rw t (λ h. absurd (clash h)))
-    (λ t.
-    by-test (ltZ len (pos 0))
-    (λ u. rw (t, u) (λ h. absurd (clash h)))
-    (λ u.
-    by-test (ltZ (pos mostBases) len)
-    (λ v. rw (t, u, v) (λ h. absurd (clash h)))
-    (λ v. rw (t, u, v) (λ h.
-    let (half, h₁) = passed (halfFault (startOf bits start) (endOf bits end)) _ m h in
-    let (fits, h₂) = passed (cdsFault (startOf bits start) (endOf bits end) (natAbs len)) _ m h₁ in
-    let made = same h₂ in
-    let is = whole len u in
-    rw (← made) (record { known = ltb-false bothBits bits t; length-is = is; small = omega (order, is); both-or-none = half; cds-fits = fits; coding-is = refl })))))
+    (λ t. rw t (λ h.
+    let (long, h₁) = passed (lengthFault len) _ m h in
+    let (half, h₂) = passed (halfFault (startOf bits start) (endOf bits end)) _ m h₁ in
+    let (fits, h₃) = passed (cdsFault (startOf bits start) (endOf bits end) (natAbs len)) _ m h₂ in
+    let (is, small) = length-pass len long in
+    rw (← same h₃) (record { known = ltb-false bothBits bits t; length-is = is; small = small; both-or-none = half; cds-fits = fits; coding-is = refl })))
 
 pub measured-inside : (len : ℤ) (bits : ℕ) (start end : ℤ) (m : Measured) → Measures len bits start end m → CdsInside (m .coding) (m .bases)
 measured-inside len bits start end m a =

@@ -1,10 +1,10 @@
 -- What it means that a transcript holds together, as facts: `holds` is true exactly where they hold. And what a question about a transcript goes by. Assumes nothing.
-use Prim.Native.Nat.{ℕ, suc, _+_, _≤_}
+use Prim.Native.Nat.{ℕ, _+_, _≤_}
 use native.Mathlib.Omega.{arith}
 use mathlib.Core.Bool.{Bool, true, false, _&&_, _||_, false≢true}
 use mathlib.Core.List.{List}
 use mathlib.Core.Logic.{_⊎_, inl, inr, ⊎-elim}
-use mathlib.Core.Path.{_≡_, refl, sym, ap, _∙_}
+use mathlib.Core.Path.{_≡_, refl, sym, _∙_}
 use lib.Dec.{leb}
 use lib.IntN.{ℤ, pos, negsuc, natAbs}
 use lib.ListN.{getD}
@@ -265,6 +265,9 @@ module _ (h : Head) (len : ℕ) (right : CdsRight h len) (both-given : bothGiven
   end-small = natural-36 (h .end) (cds-bounds .end-natural) (omega (arith, cds-bounds .within))
 
 module _ (h : Head) (g t l : List ℕ) (w : Together h g t l) where
+  pub held-head : headHolds h ≡ true
+  held-head = head-where h (w .head)
+
   pub some : 1 ≤ segmentsIn h
   some = w .head .count .above
 

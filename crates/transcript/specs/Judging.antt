@@ -124,12 +124,18 @@ pub record Measured : Type 0 where
   pub bases : ℕ
   pub coding : Cds
 
+-- 4 and 9
+unfoldable pub lengthFault : ℤ → ℕ
+lengthFault len =
+    if ltZ len (pos 0) then badBound
+    else if ltZ (pos mostBases) len then tooLong
+    else 0
+
 -- CDS bits above 3 are 23; then 4, 9, 11 and 12
 unfoldable pub judgeLength : ℤ → ℕ → ℤ → ℤ → Judged Measured
 judgeLength len bits start end =
     if ltb bothBits bits then refused notTogether
-    else if ltZ len (pos 0) then refused badBound
-    else if ltZ (pos mostBases) len then refused tooLong
-    else unless (halfFault (startOf bits start) (endOf bits end))
+    else unless (lengthFault len)
+    (unless (halfFault (startOf bits start) (endOf bits end))
     (unless (cdsFault (startOf bits start) (endOf bits end) (natAbs len))
-    (accepted (record { bases = natAbs len; coding = cdsOf (startOf bits start) (endOf bits end) })))
+    (accepted (record { bases = natAbs len; coding = cdsOf (startOf bits start) (endOf bits end) }))))

@@ -60,8 +60,8 @@ strandOf true = pos 1
 strandOf false = negsuc 0
 
 -- the elements of what records make, in genomic order
-abbrev pub elementsIn : Made → List Element
-elementsIn m = elementsOf (m .forward) (m .exon-list)
+abbrev pub elementsMade : Made → List Element
+elementsMade m = elementsOf (m .forward) (m .exon-list)
 
 -- the head of what records make
 abbrev pub headOf : Made → Head
@@ -69,7 +69,7 @@ headOf m = record {
   kind = pos 0;
   strand = strandOf (m .forward);
   first = pos (firstStart (m .exon-list));
-  count = pos (length (elementsIn m));
+  count = pos (length (elementsMade m));
   bits = bitsOf (m .coding);
   start = startIn (m .coding);
   end = endIn (m .coding);
@@ -103,16 +103,16 @@ lengthAnswer (accepted m) = answer.Transcript (lengthHead m)
 
 abbrev pub genomeAfter : Judged Made → List ℕ → List ℕ
 genomeAfter (refused k) was = was
-genomeAfter (accepted m) was = startTable genome (elementsIn m)
+genomeAfter (accepted m) was = startTable genome (elementsMade m)
 
 abbrev pub transcriptAfter : Judged Made → List ℕ → List ℕ
 transcriptAfter (refused k) was = was
-transcriptAfter (accepted m) was = startTable transcript (elementsIn m)
+transcriptAfter (accepted m) was = startTable transcript (elementsMade m)
 
 abbrev pub lettersAfter : Judged Made → List ℕ → List ℕ
 lettersAfter (refused k) was = was
-lettersAfter (accepted m) was = letterTable (elementsIn m)
+lettersAfter (accepted m) was = letterTable (elementsMade m)
 
 abbrev pub tablesAfter : Judged Made → Tables → Tables
 tablesAfter (refused k) was = was
-tablesAfter (accepted m) was = tablesOf (elementsIn m)
+tablesAfter (accepted m) was = tablesOf (elementsMade m)

@@ -1,6 +1,7 @@
 -- What building makes holds together, and stands for what was made.
 --     built-holds, built-stands          of what records make, with the tables that building wrote
 --     measured-holds, measured-stands    of what a length makes, beside any tables
+--     answered, answered-length          the same of what building answers, with the tables as it leaves them
 -- Assumes nothing.
 use Prim.Native.Nat.{ℕ, _≤_}
 use native.Mathlib.Omega.{arith}
@@ -8,6 +9,7 @@ use mathlib.Core.Bool.{Bool, true, false}
 use mathlib.Core.List.{List}
 use mathlib.Core.Logic.{_⊎_, inl, inr}
 use mathlib.Core.Path.{_≡_, refl, ap}
+use lib.IntN.{ℤ}
 use Rattle.refusals.specs.Numbers.{mostBases}
 use Rattle.cigar.specs.Elements.{Element, genome, transcript, total}
 use Rattle.segments.specs.Tables.{startTable, letterTable}
@@ -18,10 +20,11 @@ use Rattle.transcript.specs.Transcript.Source.{aligned, lengthOnly}
 use Rattle.transcript.specs.Building.{build}
 use Rattle.transcript.specs.Holding.{isForward, isBackward, holds, cdsOf, sourceOf}
 use Rattle.transcript.specs.Held.{CdsRight, Together, held-where}
-use Rattle.transcript.specs.Judging.{Made, Measured}
-use Rattle.transcript.specs.Outcome.{bitsOf, startIn, endIn, strandOf, elementsIn, headOf, lengthHead}
-use Rattle.transcript.specs.Accepted.{CdsInside, Sane}
+use Rattle.transcript.specs.Judging.{Judged, refused, accepted, Made, Measured, judge, judgeLength}
+use Rattle.transcript.specs.Outcome.{bitsOf, startIn, endIn, strandOf, elementsMade, headOf, lengthHead, answerOf, lengthAnswer, genomeAfter, transcriptAfter, lettersAfter}
+use Rattle.transcript.specs.Accepted.{CdsInside, Sane, judged-sane, measured-means, measured-inside}
 use Rattle.transcript.specs.declared.Head.{Head}
+use Rattle.transcript.specs.declared.Built.the-variants as answer
 
 -- ---- the CDS
 
@@ -47,7 +50,7 @@ forward-is false h e = rw e
 
 module _ (m : Made) (s : Sane m) where
   abbrev es : List Element
-  es = elementsIn m
+  es = elementsMade m
 
   abbrev g : List ℕ
   g = startTable genome es
@@ -89,3 +92,46 @@ module _ (m : Measured) (g t l : List ℕ) where
   pub measured-stands : sourceOf (lengthHead m) g t l ≡ lengthOnly (m .bases) (m .coding)
   unfolding sourceOf
   measured-stands = ap (lengthOnly (m .bases)) (cds-is (lengthHead m) (m .coding) refl refl refl)
+
+-- ---- what building answers, with the tables as it leaves them
+
+-- the head h that building answered: what was made, and that h holds together with the tables and stands for it
+pub record Answered (j : Judged Made) (h : Head) (g t l : List ℕ) : Type 0 where
+  pub made : Made
+  pub judged : j ≡ accepted made
+  pub together : holds h (genomeAfter j g) (transcriptAfter j t) (lettersAfter j l) ≡ true
+  pub stands : sourceOf h (genomeAfter j g) (transcriptAfter j t) (lettersAfter j l) ≡ aligned (build (made .forward) (made .exon-list) (made .coding))
+
+module _ (strand : ℤ) (bits : ℕ) (start end : ℤ) (n : ℕ) (s : List ℕ) (h : Head) (g t l : List ℕ) where
+  pub answered : answerOf (judge strand bits start end n s) ≡ answer.Transcript h → Answered (judge strand bits start end n s) h g t l
+  answered e = go (judge strand bits start end n s) refl e
+    where
+      go : (j : Judged Made) → judge strand bits start end n s ≡ j → answerOf j ≡ answer.Transcript h → Answered j h g t l
+      go (refused k) is e = let z : _≡_ {A = ℕ} 0 1 = cc in absurd (omega arith)
+      go (accepted m) is e =
+          let head : headOf m ≡ h = cc in
+          let sane = judged-sane strand bits start end n s m is in
+          record { made = m; judged = refl; together = rw (← head) (built-holds m sane); stands = rw (← head) (built-stands m sane) }
+
+-- the same of a length, beside any tables
+pub record AnsweredLength (j : Judged Measured) (h : Head) (g t l : List ℕ) : Type 0 where
+  pub made : Measured
+  pub judged : j ≡ accepted made
+  pub together : holds h g t l ≡ true
+  pub stands : sourceOf h g t l ≡ lengthOnly (made .bases) (made .coding)
+
+module _ (len : ℤ) (bits : ℕ) (start end : ℤ) (h : Head) (g t l : List ℕ) where
+  pub answered-length : lengthAnswer (judgeLength len bits start end) ≡ answer.Transcript h → AnsweredLength (judgeLength len bits start end) h g t l
+  answered-length e = go (judgeLength len bits start end) refl e
+    where
+      go : (j : Judged Measured) → judgeLength len bits start end ≡ j → lengthAnswer j ≡ answer.Transcript h → AnsweredLength j h g t l
+      go (refused k) is e = let z : _≡_ {A = ℕ} 0 1 = cc in absurd (omega arith)
+      go (accepted m) is e =
+          let head : lengthHead m ≡ h = cc in
+          let measures = measured-means len bits start end m is in
+          record {
+            made = m;
+            judged = refl;
+            together = rw (← head) (measured-holds m g t l (measures .small) (measured-inside len bits start end m measures));
+            stands = rw (← head) (measured-stands m g t l);
+          }

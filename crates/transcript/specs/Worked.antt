@@ -15,7 +15,7 @@ use Rattle.transcript.specs.Transcript.{Cds}
 use Rattle.transcript.specs.Transcript.Cds.{noCds, cds}
 use Rattle.transcript.specs.Building.{Exon, elementsOf, elementsAfter, partsOf, firstStart}
 use Rattle.transcript.specs.Reading.{exonsOf, exonsAfter, readFirst, readNext}
-use Rattle.transcript.specs.Judging.{Judged, Made, Measured, refused, accepted, judge, judgeRecords, judgeOn, judgeLength, lastFault, rangeFault}
+use Rattle.transcript.specs.Judging.{Judged, Made, refused, accepted, judge, judgeRecords, judgeOn, judgeLength, lengthFault, lastFault, rangeFault}
 
 -- ---- what is judged
 
@@ -125,6 +125,17 @@ denied : judge (pos 1) 4 (pos 0) (pos 0) 0 (0 ∷ [])
 unfolding judge judgeRecords judgeOn lastFault rangeFault exactly recordsFrom recordAt laid le16 le32 faults faultsAfter ownFault pairFault followFault spanFault startFault riseFault joinFault exonsOf exonsAfter readFirst readNext readFrom isLetter elementsOf elementsAfter partsOf firstStart total genome transcript kindOf
 denied = refl
 
+-- the elements of `2M1D` and, touching it, `3=`: on strand -1 each record's are reversed, and the N of length 0 stands on both
+abbrev touching : List Exon
+touching = record { alt-start = 10; alt-end = 12; parts = element 2 77 ∷ element 1 68 ∷ [] } ∷ record { alt-start = 12; alt-end = 15; parts = element 3 61 ∷ [] } ∷ []
+
+in-order : elementsOf true touching ∷ elementsOf false touching ∷ []
+    ≡ (element 2 77 ∷ element 1 68 ∷ element 0 78 ∷ element 3 61 ∷ [])
+    ∷ (element 1 68 ∷ element 2 77 ∷ element 0 78 ∷ element 3 61 ∷ [])
+    ∷ []
+unfolding elementsOf elementsAfter partsOf
+in-order = refl
+
 -- ---- from a length
 
 -- a length of 18 with the CDS 3..15; then CDS bits above 3; a length below 0; one above the largest; one CDS bit; a CDS end above the length
@@ -142,5 +153,5 @@ measured : judgeLength (pos 18) 3 (pos 3) (pos 15)
     ∷ refused halfCds
     ∷ refused badCds
     ∷ []
-unfolding judgeLength rangeFault
+unfolding judgeLength lengthFault rangeFault
 measured = refl

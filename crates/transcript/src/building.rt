@@ -17,6 +17,8 @@ ghost use Rattle.transcript.specs.Outcome.{withCds, bareHead, answerOf, 
 use crate::Built;
 use crate::Head;
 use crate::holding::OF_RECORDS;
+use crate::judging;
+use crate::reading;
 use crate::reading::Sums;
 use crate::reading::Tally;
 use cigar::Step;
@@ -95,7 +97,7 @@ fn fill_text(
     loop {
         match cigar::step_at(text, at) {
             Step::Element(count, letter, next) => {
-                let after = crate::reading::one_on(sums, letter, count);
+                let after = reading::one_on(sums, letter, count);
                 let begin = turned(forward, from, to, sums, after);
                 let place = begin.count;
                 let on_genome = narrow(begin.genome);
@@ -154,8 +156,8 @@ fn fill_next(
     requires { ⌜ Bounded from × Small to ⌝ }
     ensures { λ _. ⌜ tables (now (genome .exit)) (now (transcript .exit)) (now (letters .exit)) ≡ fill (tables (now (genome .entry)) (now (transcript .entry)) (now (letters .entry))) from (nextElements forward (from .count) (recordAt (now (s .entry)) previous) (recordAt (now (s .entry)) at)) ⌝ }
 {
-    let gap = crate::reading::gap_at(s, previous, at);
-    let after = crate::reading::one_on(from, b'N', gap);
+    let gap = reading::gap_at(s, previous, at);
+    let after = reading::one_on(from, b'N', gap);
     let place = from.count;
     let on_genome = narrow(from.genome);
     let on_transcript = narrow(from.transcript);
@@ -190,7 +192,7 @@ fn fill_rest(
     let mut a = at;
     let mut sums = from;
     while k > 0 {
-        match crate::reading::tally_next(s, p, a, sums) {
+        match reading::tally_next(s, p, a, sums) {
             Tally::Sums(to) => {
                 fill_next(forward, s, p, a, sums, to, genome, transcript, letters);
                 sums = to;
@@ -217,7 +219,7 @@ fn fill_all(
     requires { ⌜ SmallTally (talliedAll (exonsOf (recordsFrom count (now s) 0))) ⌝ }
     ensures { λ _. ⌜ tables (now (genome .exit)) (now (transcript .exit)) (now (letters .exit)) ≡ fill (tables (now (genome .entry)) (now (transcript .entry)) (now (letters .entry))) nothing (elementsAll forward (exonsOf (recordsFrom count (now (s .entry)) 0))) ⌝ }
 {
-    match crate::reading::tally_first(s) {
+    match reading::tally_first(s) {
         Tally::Sums(first) => {
             fill_first(forward, s, first, genome, transcript, letters);
             let at = records::next_at(s, 0);
@@ -280,7 +282,7 @@ fn head_of(strand: i32, bits: u32, start: i32, end: i32, s: &[u8], to: Sums) -> 
         end: 0,
         length: 0,
     };
-    crate::judging::with_cds(bare, bits, start, end)
+    judging::with_cds(bare, bits, start, end)
 }
 
 // The transcript that records make, in tables of the right lengths.
@@ -299,7 +301,7 @@ fn build_into(
     ensures { λ r. ⌜ r ≡ answerOf (judge strand cds start end count (now (s .entry))) ⌝ }
     ensures { λ _. ⌜ tables (now (genome .exit)) (now (transcript .exit)) (now (letters .exit)) ≡ tablesAfter (judge strand cds start end count (now (s .entry))) (tables (now (genome .entry)) (now (transcript .entry)) (now (letters .entry))) ⌝ }
 {
-    match crate::judging::judge(strand, cds, start, end, count, s) {
+    match judging::judge(strand, cds, start, end, count, s) {
         Tally::Sums(to) => {
             let forward = strand == 1;
             write_tables(forward, count, s, to, genome, transcript, letters);

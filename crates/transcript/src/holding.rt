@@ -13,13 +13,13 @@ use refusals::MOST_BASES;
 use refusals::MOST_SEGMENTS;
 use refusals::MOST_STARTS;
 
-// A head's kind: built from records, or from a length.
+// The kind of a head built from records.
 pub const OF_RECORDS: i32 = 0;
-
+// The kind of a head built from a length.
 pub const OF_LENGTH: i32 = 1;
-// A head's CDS bits: neither bound is given, or both are.
+// The CDS bits where neither bound is given.
 pub const NONE_GIVEN: i32 = 0;
-
+// The CDS bits where both bounds are given.
 pub const BOTH_GIVEN: i32 = 3;
 
 // A number that is not negative.

@@ -11,8 +11,10 @@ ghost use Rattle.transcript.specs.Tallies.{Bounded, BoundedTally, toldOf
 use crate::Bound;
 use crate::Head;
 use crate::holding::BOTH_GIVEN;
+use crate::reading;
 use crate::reading::Sums;
 use crate::reading::Tally;
+use records::ALT_START;
 use refusals::BAD_CDS;
 use refusals::HALF_CDS;
 use refusals::MOST_BASES;
@@ -53,7 +55,7 @@ pub fn end_of(bits: u32, number: i32) -> Bound
 }
 
 // 11, where one bound is given and the other is not.
-pub fn half_fault(start: Bound, end: Bound) -> u8
+pub(crate) fn half_fault(start: Bound, end: Bound) -> u8
     ensures { λ r. ⌜ r ≡ halfFault start end ⌝ }
 {
     match start {
@@ -93,7 +95,7 @@ fn signed(n: u64) -> i64
 }
 
 // 12, where both bounds are given.
-pub fn cds_fault(start: Bound, end: Bound, last: u64) -> u8
+pub(crate) fn cds_fault(start: Bound, end: Bound, last: u64) -> u8
     requires { ⌜ last ≤ mostBases ⌝ }
     ensures { λ r. ⌜ r ≡ cdsFault start end last ⌝ }
 {
@@ -141,7 +143,7 @@ pub fn number_of(bound: Bound) -> i32
 }
 
 // A head with a CDS that passed.
-pub fn with_cds(mut head: Head, bits: u32, start: i32, end: i32) -> Head
+pub(crate) fn with_cds(mut head: Head, bits: u32, start: i32, end: i32) -> Head
     requires { ⌜ bits ≤ bothBits ⌝ }
     ensures { λ r. ⌜ r ≡ withCds head bits start end ⌝ }
 {
@@ -170,9 +172,9 @@ fn judge_on(forward: bool, start: Bound, end: Bound, count: usize, s: &[u8]) -> 
     if half != 0 {
         return Tally::Refused(half);
     }
-    match crate::reading::tally_all(count, s) {
+    match reading::tally_all(count, s) {
         Tally::Sums(sums) => {
-            let first = crate::reading::bound(s, 0);
+            let first = reading::bound(s, ALT_START);
             let last = last_fault(start, end, first, sums);
             if last != 0 {
                 return Tally::Refused(last);

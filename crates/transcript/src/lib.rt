@@ -2,6 +2,7 @@
 pub mod building;
 pub mod holding;
 pub mod judging;
+pub mod length_only;
 pub mod reading;
 
 // A transcript beside its three tables: kind (0 built from records, 1 from a length), strand, first start, segment count, CDS bits

@@ -35,7 +35,7 @@ pub enum Tally {
 }
 
 // The sums with one element more.
-pub fn one_on(from: Sums, letter: u8, count: u32) -> Sums
+pub(crate) fn one_on(from: Sums, letter: u8, count: u32) -> Sums
     requires { ⌜ Bounded from × (from .count < mostSegments) ⌝ }
     ensures { λ r. ⌜ (r ≡ oneOn from (element count letter)) × Bounded r ⌝ }
 {
@@ -50,7 +50,7 @@ pub fn one_on(from: Sums, letter: u8, count: u32) -> Sums
 }
 
 // The sums with the elements of one text.
-pub fn tally_text(text: &[u8], from: Sums) -> Tally
+fn tally_text(text: &[u8], from: Sums) -> Tally
     requires { ⌜ Bounded from ⌝ }
     ensures { λ r. ⌜ (r ≡ tallied from (readAll (mostSegments - from .count) (now (text .entry)))) × BoundedTally r ⌝ }
 {
@@ -72,7 +72,7 @@ pub fn tally_text(text: &[u8], from: Sums) -> Tally
 }
 
 // A bound that is not negative.
-pub fn bound(s: &[u8], at: usize) -> u32
+pub(crate) fn bound(s: &[u8], at: usize) -> u32
     requires { ⌜ at + 4 ≤ length (now s) ⌝ }
     requires { ⌜ ltZ (fieldAt (now s) at) (pos 0) ≡ false ⌝ }
     ensures { λ r. ⌜ r ≡ natAbs (fieldAt (now (s .entry)) at) ⌝ }
@@ -81,7 +81,7 @@ pub fn bound(s: &[u8], at: usize) -> u32
 }
 
 // The length of the gap between two records.
-pub fn gap_at(s: &[u8], previous: usize, at: usize) -> u32
+pub(crate) fn gap_at(s: &[u8], previous: usize, at: usize) -> u32
     requires { ⌜ (previous + cigarText ≤ length (now s)) × (at + cigarText ≤ length (now s)) ⌝ }
     requires { ⌜ Beside (recordAt (now s) previous) (recordAt (now s) at) ⌝ }
     ensures { λ r. ⌜ r ≡ gapOf (recordAt (now (s .entry)) previous) (recordAt (now (s .entry)) at) ⌝ }
@@ -92,7 +92,7 @@ pub fn gap_at(s: &[u8], previous: usize, at: usize) -> u32
 }
 
 // The sums of the first record's elements.
-pub fn tally_first(s: &[u8]) -> Tally
+pub(crate) fn tally_first(s: &[u8]) -> Tally
     requires { ⌜ Stands (now s) 0 ⌝ }
     ensures { λ r. ⌜ (r ≡ tallied nothing (readFirst (recordAt (now (s .entry)) 0))) × BoundedTally r ⌝ }
 {
@@ -109,7 +109,7 @@ pub fn tally_first(s: &[u8]) -> Tally
 }
 
 // The sums with the gap before the record at `at` and its elements.
-pub fn tally_next(s: &[u8], previous: usize, at: usize, from: Sums) -> Tally
+pub(crate) fn tally_next(s: &[u8], previous: usize, at: usize, from: Sums) -> Tally
     requires { ⌜ (previous + cigarText ≤ length (now s)) × Stands (now s) at ⌝ }
     requires { ⌜ Beside (recordAt (now s) previous) (recordAt (now s) at) ⌝ }
     requires { ⌜ Bounded from ⌝ }
@@ -152,7 +152,7 @@ fn tally_rest(s: &[u8], previous: usize, left: usize, at: usize, from: Sums) -> 
 }
 
 // The sums of all records' elements.
-pub fn tally_all(count: usize, s: &[u8]) -> Tally
+pub(crate) fn tally_all(count: usize, s: &[u8]) -> Tally
     requires { ⌜ Ready count (now s) ⌝ }
     ensures { λ r. ⌜ (r ≡ talliedAll (exonsOf (recordsFrom count (now (s .entry)) 0))) × BoundedTally r ⌝ }
 {

@@ -15,7 +15,7 @@ use Rattle.cigar.specs.Lent.{atFront, sets-front}
 use Rattle.cigar.specs.Elements.{genome, transcript}
 use Rattle.segments.specs.Tables.{startTable, letterTable}
 use Rattle.transcript.specs.Judging.{Judged, Made}
-use Rattle.transcript.specs.Outcome.{strandOf, elementsIn, genomeAfter, transcriptAfter, lettersAfter}
+use Rattle.transcript.specs.Outcome.{strandOf, elementsMade, genomeAfter, transcriptAfter, lettersAfter}
 use Rattle.transcript.specs.Accepted.{Sane}
 use Rattle.transcript.specs.declared.Head.{Head}
 use Rattle.card.specs.Putting.{Put, put-length, put-as}
@@ -63,19 +63,19 @@ module _ (c : tie.After-head) where
   strand-small : SFits w32 (head .strand)
   strand-small = rw strand-is (strand-fits (thing .forward))
 
-  count-is : head .count ≡ pos (length (elementsIn thing))
+  count-is : head .count ≡ pos (length (elementsMade thing))
   count-is = ap (λ (h : Head). h .count) (makes-head .head-is)
 
   count-small : SFits w32 (head .count)
   count-small = rw count-is (record { sfits = omega (arith, sane .few) })
 
-  genome-is : call .build-card .last .1 .0 ≡ startTable genome (elementsIn thing)
+  genome-is : call .build-card .last .1 .0 ≡ startTable genome (elementsMade thing)
   genome-is = call .build-card .ensures .1 .0 ∙ ap (λ (j : Judged Made). genomeAfter j (entry call .args .genome .now)) (makes-head .is)
 
-  transcript-is : call .build-card .last .1 .1 .0 ≡ startTable transcript (elementsIn thing)
+  transcript-is : call .build-card .last .1 .1 .0 ≡ startTable transcript (elementsMade thing)
   transcript-is = call .build-card .ensures .1 .1 .0 ∙ ap (λ (j : Judged Made). transcriptAfter j (entry call .args .transcript .now)) (makes-head .is)
 
-  letters-are : call .build-card .last .1 .1 .1 .0 ≡ letterTable (elementsIn thing)
+  letters-are : call .build-card .last .1 .1 .1 .0 ≡ letterTable (elementsMade thing)
   letters-are = call .build-card .ensures .1 .1 .1 ∙ ap (λ (j : Judged Made). lettersAfter j (entry call .args .letters .now)) (makes-head .is)
 
 cast-is-plus : tie.Need-cast-is-plus
@@ -87,7 +87,7 @@ is-plus-requires c κs = search needs
 count-in-requires : tie.Need-count-in-requires
 count-in-requires c κs =
     let h = c .before .before .before .before .before in
-    rw (read (count-small h), count-is h) (le-leb 0 (length (elementsIn (thing h))) (omega arith))
+    rw (read (count-small h), count-is h) (le-leb 0 (length (elementsMade (thing h))) (omega arith))
 
 -- the strand and the count, as they are handed on
 module _ (c : tie.After-count-in) where
@@ -100,7 +100,7 @@ module _ (c : tie.After-count-in) where
       ∙ ap (λ (z : ℤ). eqZ z (pos 1)) (widened (strand-small known) ∙ strand-is known)
       ∙ plus-is (thing known .forward)
 
-  number-is : c .count-in .result ≡ length (elementsIn (thing known))
+  number-is : c .count-in .result ≡ length (elementsMade (thing known))
   number-is = c .count-in .ensures ∙ ap natAbs (read (count-small known) ∙ count-is known)
 
 put-listing-requires : tie.Need-put-listing-requires

@@ -1,9 +1,9 @@
 -- `records::are_records` meets its contract. The loop keeps that the whole is right just where the rest is. Assumes nothing.
 use mathlib.Core.Path.{_≡_, refl, sym, _∙_}
-use Prim.Native.Nat.{_+_, _≤_, _<_}
+use Prim.Native.Nat.{_≤_}
 use native.Mathlib.Omega.{arith}
 use lib.ListN.{length}
-use Rattle.records.specs.Records.{nextAt, exactly}
+use Rattle.records.specs.Records.{exactly}
 use Rattle.records.specs.Walk.{no-numbers, no-text, one-more, all-walked}
 use borrow.Author.Needs.{needs}
 use Rattle.records.proofs.are_records.Statement.{statement}

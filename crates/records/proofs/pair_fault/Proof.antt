@@ -5,7 +5,7 @@ use mir.Syntax.{w64}
 use Rattle.whole.specs.Whole.{told}
 use Rattle.records.specs.Layout.{altStart, altEnd}
 use Rattle.records.specs.Records.{recordAt, fieldAt}
-use Rattle.records.specs.Faults.{startFault, followFault, pairFault}
+use Rattle.records.specs.Faults.{startFault, pairFault}
 use Rattle.records.specs.Chain.{refuses, passes}
 use borrow.Author.Needs.{needs}
 use Rattle.records.proofs.pair_fault.Statement.{statement}

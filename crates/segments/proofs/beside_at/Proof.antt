@@ -1,5 +1,5 @@
 -- `segments::beside_at` meets its contract, one arm for each end. Assumes nothing.
-use mathlib.Core.Path.{refl, ap}
+use mathlib.Core.Path.{refl}
 use native.Mathlib.Omega.{arith}
 use borrow.Author.Needs.{needs}
 use Rattle.whole.specs.Whole.{read, fits-38}

@@ -1,46 +1,57 @@
--- `sequences::changed` meets its contract: the test picks the case of `changedOf`, and the callees' contracts put together are what that case says (`cc`).
+-- `sequences::changed` meets its contract: the bounds that `changed_part` gives lie inside their allele, and what stands between them is what changed.
 -- Assumes nothing.
-use borrow.Author.Tests.{le-leb, lt-leb}
-use Rattle.sequences.specs.Trim.{changedOf}
+use mathlib.Core.Path.{_≡_}
+use native.Mathlib.Omega.{arith}
+use Rattle.sequences.specs.Alleles.{changedOf}
+use Rattle.sequences.specs.Changed.{Inside, partOf, part-inside, part-changed}
 use borrow.Author.Needs.{needs}
 use Rattle.sequences.proofs.changed.Statement.{statement}
 use Rattle.sequences.proofs.changed.Tie as tie
 
-common-prefix-requires : tie.Need-common-prefix-requires
-common-prefix-requires c κs = search needs
+changed-part-requires : tie.Need-changed-part-requires
+changed-part-requires c κs = search needs
 
-rest-requires : tie.Need-rest-requires
-rest-requires c κs = search needs
+-- the part is inside its allele, and is what changed
+inside : (c : tie.After-changed-part) → Inside (c .changed-part .result) (c .before .before .before .args .reference .now) (c .before .before .before .args .alternative .now)
+inside c = rw (c .changed-part .ensures) (part-inside _ _)
 
-rest-requires-2 : tie.Need-rest-requires-2
-rest-requires-2 c κs = search needs
+is-changed : (c : tie.After-changed-part) → partOf (c .changed-part .result) (c .before .before .before .args .reference .now) (c .before .before .before .args .alternative .now) ≡ changedOf (c .before .before .before .args .reference .now) (c .before .before .before .args .alternative .now)
+is-changed c = rw (c .changed-part .ensures) (part-changed _ _)
 
-common-suffix-requires : tie.Need-common-suffix-requires
-common-suffix-requires c κs = search needs
+sub-result : tie.Need-sub-result
+sub-result c = omega (arith, inside (c .before))
 
-front-requires : tie.Need-front-requires
-front-requires c κs = search needs
+part-result-start : tie.Need-part-result-start
+part-result-start c = omega (arith, inside (c .before))
 
-front-requires-2 : tie.Need-front-requires-2
-front-requires-2 c κs = search needs
+part-result-end : tie.Need-part-result-end
+part-result-end c = omega (arith, inside (c .before), rw (c .if1 .taken) at (inside (c .before) .ends))
+
+sub-result-2 : tie.Need-sub-result-2
+sub-result-2 c = omega (arith, inside (c .before))
+
+part-result-start-2 : tie.Need-part-result-start-2
+part-result-start-2 c = omega (arith, inside (c .before))
+
+part-result-end-2 : tie.Need-part-result-end-2
+part-result-end-2 c = omega (arith, inside (c .before), rw (c .if1 .left) at (inside (c .before) .ends))
 
 returns : tie.Need-returns
-unfolding changedOf
-returns c = rw (le-leb _ _ (c .before .if1 .taken)) (cc)
+returns c = rw (c .before .if1 .taken) at (is-changed (c .before .before))
 
 returns-2 : tie.Need-returns-2
-unfolding changedOf
-returns-2 c = rw (lt-leb _ _ (c .before .if1 .left)) (cc)
+returns-2 c = rw (c .before .if1 .left) at (is-changed (c .before .before))
 
 pub changed-spec : {M : Type 1} → statement M
 changed-spec =
     tie.close
     (tie.spec
-    common-prefix-requires
-    rest-requires
-    rest-requires-2
-    common-suffix-requires
-    front-requires
-    front-requires-2
+    changed-part-requires
+    sub-result
+    part-result-start
+    part-result-end
+    sub-result-2
+    part-result-start-2
+    part-result-end-2
     returns
     returns-2)

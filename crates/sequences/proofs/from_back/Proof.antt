@@ -1,7 +1,7 @@
--- `sequences::from_back` meets its contract.
+-- `sequences::from_back` meets its contract: counting from the back is counting along the list turned round.
 -- Assumes nothing.
 use mathlib.Core.Path.{sym}
-use Rattle.sequences.proofs.Laws.{getD-reverse}
+use Rattle.sequences.proofs.Agreeing.{getD-reverse}
 use borrow.Author.Needs.{needs}
 use Rattle.sequences.proofs.from_back.Statement.{statement}
 use Rattle.sequences.proofs.from_back.Tie as tie

@@ -1,4 +1,4 @@
--- `cigar::write::element_size` meets its contract: the tests that led to each `return` say which case of `elementSize` holds. Assumes nothing.
+-- `cigar::write::element_size` meets its contract: the tests that led to each `return` say which case of `judged` holds. Assumes nothing.
 use mathlib.Core.Path.{_≡_, refl, sym, ap, _∙_}
 use mathlib.Core.Bool.{true, false}
 use Prim.Native.Nat.{ℕ}
@@ -9,6 +9,7 @@ use Rattle.whole.specs.Whole.{read}
 use Rattle.cigar.specs.Elements.{isLetter}
 use Rattle.cigar.specs.Write.{elementText}
 use Rattle.cigar.specs.declared.write.Written.the-variants as answer
+use Rattle.cigar.proofs.Writing.{alone-long}
 use borrow.Author.Needs.{needs}
 use Rattle.cigar.proofs.write.element_size.Statement.{statement}
 use Rattle.cigar.proofs.write.element_size.Tie as tie
@@ -37,7 +38,7 @@ returns-2 c =
     let kept = read (s .fits .count) in
     let b : ltZ (s .args .count) (pos 0) ≡ false = rw kept at (t .if2 .left) in
     let size = c .element-len .ensures .0 ∙ ap (λ (n : ℕ). length (elementText n (s .args .letter))) (c .before .unsigned .ensures ∙ ap natAbs kept) in
-    rw (l, b) (ap answer.Text size, c .element-len .ensures .1)
+    rw (l, b) (ap answer.Text (size ∙ sym (alone-long (natAbs (s .args .count)) (s .args .letter))), c .element-len .ensures .1)
 
 returns-3 : tie.Need-returns-3
 returns-3 c =

@@ -2,14 +2,12 @@
 use mathlib.Core.Path.{_≡_, refl, sym, ap, _∙_}
 use native.Mathlib.Omega.{arith}
 use lib.IntN.{pos}
-use lib.Dec.{eqb}
 use mir.Syntax.{w32}
-use mir.Val.{SFits, ofZ}
+use mir.Val.{SFits}
 use Rattle.whole.specs.Whole.{read}
 use Rattle.transcript.specs.Tallies.{toldOf}
 use Rattle.transcript.specs.Judging.{judge}
 use Rattle.transcript.specs.Filling.{tablesOf}
-use Rattle.transcript.specs.Outcome.{answerOf, tablesAfter}
 use Rattle.transcript.specs.declared.Built.the-variants as answer
 use Rattle.transcript.specs.declared.reading.Sums.{Sums}
 use Rattle.transcript.specs.declared.reading.Tally.the-variants as tally

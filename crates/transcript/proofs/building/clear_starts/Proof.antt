@@ -1,8 +1,8 @@
 -- `building::clear_starts` meets its contract. What is left to clear is the same before and after a turn. Assumes nothing.
-use Prim.Native.Nat.{_+_, _-_, _≤_}
+use Prim.Native.Nat.{_-_, _≤_}
 use mathlib.Core.Path.{_≡_, refl, sym, _∙_}
 use native.Mathlib.Omega.{arith}
-use lib.ListN.{length, set, replicate, length-set}
+use lib.ListN.{length, replicate, length-set}
 use lib.Seq.{sets}
 use Rattle.transcript.proofs.Runs.{zeros-more, zeros-none}
 use borrow.Author.Needs.{needs}

@@ -1,6 +1,6 @@
 -- `building::fill_text` meets its contract. What is left to put in is the same before and after a turn. Assumes nothing.
 use Prim.Native.Nat.{ℕ, _+_, _-_, _≤_, _<_}
-use mathlib.Core.Path.{_≡_, refl, sym, ap, subst, _∙_}
+use mathlib.Core.Path.{_≡_, sym, ap, subst, _∙_}
 use mathlib.Core.List.{List}
 use native.Mathlib.Omega.{arith}
 use lib.ListN.{length, drop}
@@ -9,7 +9,7 @@ use Rattle.cigar.specs.Text.{stepAt, element, readAll}
 use Rattle.cigar.specs.Steps.{Moves, moves}
 use Rattle.cigar.specs.declared.Step.the-variants.{Element}
 use Rattle.transcript.specs.Tallies.{oneOn, sumsOn, tallied, Bounded}
-use Rattle.transcript.specs.Filling.{tables, Long, put, fill, ordered, turnedOn, elementsIn, UpTo, Before}
+use Rattle.transcript.specs.Filling.{tables, Long, fill, ordered, turnedOn, elementsIn, UpTo, Before}
 use Rattle.transcript.specs.declared.reading.Sums.{Sums}
 use Rattle.transcript.specs.declared.reading.Tally.the-variants as tally
 use Rattle.transcript.proofs.Fills.{leftFrom, fill-turn, fill-none, left-all, long-put}

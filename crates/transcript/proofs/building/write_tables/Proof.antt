@@ -1,5 +1,5 @@
 -- `building::write_tables` meets its contract. The elements are put in, and then the tables are finished. Assumes nothing.
-use mathlib.Core.Path.{_≡_, sym, ap, ap₂, subst, _∙_}
+use mathlib.Core.Path.{sym, ap, ap₂, subst, _∙_}
 use Prim.Native.Nat.{_≤_}
 use native.Mathlib.Omega.{arith}
 use lib.ListN.{length}
@@ -7,7 +7,7 @@ use Rattle.refusals.specs.Numbers.{mostSegments}
 use Rattle.records.specs.Records.{recordsFrom}
 use Rattle.transcript.specs.Reading.{exonsOf}
 use Rattle.transcript.specs.Tallies.{nothing}
-use Rattle.transcript.specs.Filling.{tables, fill, finished, elementsAll, SmallTally}
+use Rattle.transcript.specs.Filling.{tables, finished, elementsAll, SmallTally}
 use Rattle.transcript.specs.declared.reading.Sums.{Sums}
 use Rattle.transcript.proofs.Fills.{long-after}
 use Rattle.transcript.proofs.Past.{all-end}

@@ -1,12 +1,10 @@
 -- `transcript::holding::cds_holds` meets its contract: each return rewrites with the tests of the bits that led there. Assumes nothing.
-use mathlib.Core.Bool.{false, true}
-use mathlib.Core.Path.{_≡_}
 use native.Mathlib.Omega.{arith}
 use borrow.Author.Needs.{needs}
 use lib.IntN.{pos}
 use mir.Syntax.{w32}
 use mir.Val.{SFits}
-use Rattle.whole.specs.Whole.{eqZ, read, fits-wider}
+use Rattle.whole.specs.Whole.{read, fits-wider}
 use Rattle.segments.specs.Entries.{entry}
 use Rattle.transcript.specs.Holding.{cdsHolds}
 use Rattle.transcript.proofs.Heads.{same-32, other-32}

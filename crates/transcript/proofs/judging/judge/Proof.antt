@@ -1,5 +1,5 @@
 -- `judging::judge` meets its contract. The tests go the way of the definition. Assumes nothing.
-use mathlib.Core.Path.{_≡_, refl, sym, _∙_}
+use mathlib.Core.Path.{sym, _∙_}
 use borrow.Author.Tests.{lt-ltb, le-ltb}
 use Rattle.whole.specs.Whole.{read}
 use Rattle.transcript.specs.Judging.{bothBits, judge}

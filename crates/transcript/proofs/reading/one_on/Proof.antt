@@ -1,5 +1,5 @@
 -- `reading::one_on` meets its contract. Assumes nothing.
-use mathlib.Core.Path.{_≡_, refl}
+use mathlib.Core.Path.{refl}
 use native.Mathlib.Omega.{arith}
 use Rattle.cigar.specs.Elements.{genome, transcript}
 use Rattle.transcript.proofs.Texts.{sums-eq}

@@ -1,0 +1,35 @@
+-- `entry::ask::txc_c_to_g` meets its contract: what the mapper answers is laid out.
+use Rattle.whole.specs.Whole.{read}
+use borrow.Author.Needs.{needs}
+use Rattle.entry.proofs.ask.txc_c_to_g.Statement.{statement}
+use Rattle.entry.proofs.ask.txc_c_to_g.Tie as tie
+
+c-asked-requires : tie.Need-c-asked-requires
+c-asked-requires c κs = search needs
+
+head-of-requires : tie.Need-head-of-requires
+head-of-requires c κs = search needs
+
+c-to-g-requires : tie.Need-c-to-g-requires
+c-to-g-requires c κs = search needs
+
+lay-g-requires : tie.Need-lay-g-requires
+lay-g-requires c κs = search needs
+
+returns : tie.Need-returns
+returns c =
+    let a = c .before .before .before .before in
+    simp (
+      c .lay-g .ensures,
+      c .before .c-to-g .ensures,
+      c .before .before .head-of .ensures,
+      c .before .before .before .c-asked .ensures,
+      read (a .fits .start),
+      read (a .fits .start-offset),
+      read (a .fits .end),
+      read (a .fits .end-offset),
+    )
+
+pub txc-c-to-g-spec : {M : Type 1} → statement M
+txc-c-to-g-spec =
+    tie.close (tie.spec c-asked-requires head-of-requires c-to-g-requires lay-g-requires returns)

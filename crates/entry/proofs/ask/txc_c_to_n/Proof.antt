@@ -1,0 +1,36 @@
+-- `entry::ask::txc_c_to_n` meets its contract: what the mapper answers is laid out.
+use Rattle.whole.specs.Whole.{read}
+use borrow.Author.Needs.{needs}
+use Rattle.entry.proofs.ask.txc_c_to_n.Statement.{statement}
+use Rattle.entry.proofs.ask.txc_c_to_n.Tie as tie
+
+c-asked-requires : tie.Need-c-asked-requires
+c-asked-requires c κs = search needs
+
+head-of-requires : tie.Need-head-of-requires
+head-of-requires c κs = search needs
+
+c-to-n-requires : tie.Need-c-to-n-requires
+c-to-n-requires c κs = search needs
+
+lay-n-plain-requires : tie.Need-lay-n-plain-requires
+lay-n-plain-requires c κs = search needs
+
+returns : tie.Need-returns
+returns c =
+    let a = c .before .before .before .before in
+    simp (
+      c .lay-n-plain .ensures,
+      c .before .c-to-n .ensures,
+      c .before .before .head-of .ensures,
+      c .before .before .before .c-asked .ensures,
+      read (a .fits .start),
+      read (a .fits .start-offset),
+      read (a .fits .end),
+      read (a .fits .end-offset),
+    )
+
+pub txc-c-to-n-spec : {M : Type 1} → statement M
+txc-c-to-n-spec =
+    tie.close
+    (tie.spec c-asked-requires head-of-requires c-to-n-requires lay-n-plain-requires returns)

@@ -1,0 +1,36 @@
+-- `entry::ask::txc_n_to_c` meets its contract: what the mapper answers is laid out.
+use Rattle.whole.specs.Whole.{read}
+use borrow.Author.Needs.{needs}
+use Rattle.entry.proofs.ask.txc_n_to_c.Statement.{statement}
+use Rattle.entry.proofs.ask.txc_n_to_c.Tie as tie
+
+n-asked-requires : tie.Need-n-asked-requires
+n-asked-requires c κs = search needs
+
+head-of-requires : tie.Need-head-of-requires
+head-of-requires c κs = search needs
+
+n-to-c-requires : tie.Need-n-to-c-requires
+n-to-c-requires c κs = search needs
+
+lay-c-plain-requires : tie.Need-lay-c-plain-requires
+lay-c-plain-requires c κs = search needs
+
+returns : tie.Need-returns
+returns c =
+    let a = c .before .before .before .before in
+    simp (
+      c .lay-c-plain .ensures,
+      c .before .n-to-c .ensures,
+      c .before .before .head-of .ensures,
+      c .before .before .before .n-asked .ensures,
+      read (a .fits .start),
+      read (a .fits .start-offset),
+      read (a .fits .end),
+      read (a .fits .end-offset),
+    )
+
+pub txc-n-to-c-spec : {M : Type 1} → statement M
+txc-n-to-c-spec =
+    tie.close
+    (tie.spec n-asked-requires head-of-requires n-to-c-requires lay-c-plain-requires returns)

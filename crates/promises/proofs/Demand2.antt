@@ -1,0 +1,254 @@
+-- Demand 2: in strict mode each base of a matched column, and each base of an intron between matched columns, maps to n. and c. and back to itself, on either strand; an intron base counts from the nearest exon base, halfway from the upstream one. Assumes nothing.
+use Prim.Native.Nat.{ℕ, _+_, _-_, _≤_, _<_}
+use native.Mathlib.Omega.{arith}
+use mathlib.Core.Bool.{Bool, true, false}
+use mathlib.Core.List.{List, [], _∷_, _++_, append-assoc}
+use mathlib.Core.Path.{_≡_, refl, sym, ap, _∙_}
+use lib.IntN.{ℤ, pos, negℤ, negℤ-negℤ, _+ℤ_, _-ℤ_}
+use borrow.Author.Tests.{leb-true, leb-false}
+use Rattle.whole.specs.Whole.{if_then_else_, by-test, order, sum, dif, neg}
+use Rattle.cigar.specs.Elements.{Element, kindOf, kind, genome, transcript, total}
+use Rattle.cigar.specs.Elements.Kind.{matches, skips}
+use Rattle.segments.specs.Places.{segmentFrom, End, leftNearer, nearer, spotIn, mapPlace}
+use Rattle.transcript.specs.Transcript.{Transcript, genomeLength, transcriptLength}
+use Rattle.mapper.specs.Mapping.{signed}
+use Rattle.promises.specs.Bases.{Lies, Matched, upstreamIn, upstreamOf, exonName, InIntron, placeBefore, placeAfter, apart, upstreamNearer, intronName}
+use Rattle.promises.specs.Demands.{ours, Named, FromNearest, BasesNamed}
+use Rattle.promises.proofs.Sound.{Sound}
+use Rattle.transcript.specs.Totals.{total-append}
+use Rattle.promises.proofs.Spots.{slid, amid-place}
+use Rattle.promises.proofs.Turns.{across}
+use Rattle.promises.proofs.Columns.{Column, match-kind, match-genome, match-transcript, skip-genome, skip-transcript, column-maps, column-within, across-column, total-one}
+use Rattle.promises.proofs.Edges.{edge-before, edge-after}
+use Rattle.promises.proofs.Naming.{Reaches, has-name}
+
+-- ---- a matched column
+
+unsigned : (forward : Bool) → signed forward (pos 0) ≡ pos 0
+unsigned true = refl
+unsigned false = refl
+
+module _ {t : Transcript} {p : ℕ} (b : Matched t p) where
+  abbrev own : Lies (t .elements) p
+  own = b .lies
+
+  kind-is : kind (own .element) ≡ matches
+  kind-is = match-kind (own .element) (b .match)
+
+  -- its place on the transcript, along the genome
+  abbrev other : ℕ
+  other = total transcript (own .before) + own .at
+
+  at-in : own .at < own .element .count
+  at-in = omega (arith, own .within, match-genome (own .element) kind-is)
+
+  column : Column genome transcript (t .elements) p other
+  column = record {
+    before = own .before;
+    element = own .element;
+    after = own .after;
+    at = own .at;
+    stands = own .stands;
+    match = kind-is;
+    within = at-in;
+    on-from = own .place;
+    on-to = refl;
+  }
+
+  -- turned, it is the bases upstream
+  counted : across (t .forward) (transcriptLength t) other ≡ upstreamOf b
+  unfolding total
+  counted = go (t .forward)
+    where
+      length-is : transcriptLength t ≡ total transcript (own .before) + (own .element .count + total transcript (own .after))
+      length-is = ap (total transcript) (own .stands) ∙ omega (arith, total-append transcript (own .before) (own .element ∷ own .after), match-transcript (own .element) kind-is)
+
+      go : (forward : Bool) → across forward (transcriptLength t) other ≡ upstreamIn forward own
+      go true = refl
+      go false = omega (arith, length-is, at-in)
+
+  reaches-column : Reaches t p other p (pos 0)
+  reaches-column = record {
+    there = λ e. column-maps genome transcript match-genome column e (t .forward);
+    here = λ e. column-maps transcript genome match-transcript (across-column column) e true;
+    sums = omega (order, sum (pos p) (pos 0));
+    p-in = omega (arith, column-within genome transcript match-genome column);
+    q-in = column-within transcript genome match-transcript (across-column column);
+    o-in = omega arith;
+  }
+
+  exon-named : Sound t → Named ours t p (exonName b)
+  exon-named sound = rw (unsigned (t .forward), counted) at (has-name t sound p other p (pos 0) reaches-column)
+
+-- ---- an intron
+
+-- what the test of the two distances says
+nearer-yes : (p u d : ℕ) → upstreamNearer p u d ≡ true → apart p u ≤ apart p d
+unfolding upstreamNearer
+nearer-yes p u d h = omega (arith, leb-true)
+
+nearer-no : (p u d : ℕ) → upstreamNearer p u d ≡ false → apart p d < apart p u
+unfolding upstreamNearer
+nearer-no p u d h = omega (arith, leb-false)
+
+module _ {t : Transcript} {p : ℕ} (b : InIntron t p) where
+  abbrev xs : List Element
+  xs = b .lies .before
+
+  abbrev x : Element
+  x = b .lies .element
+
+  abbrev ys : List Element
+  ys = b .lies .after
+
+  abbrev k : ℕ
+  k = b .lies .at
+
+  skip-is : kind x ≡ skips
+  unfolding kindOf
+  skip-is = rw (b .skip)
+
+  k-in : k < x .count
+  k-in = omega (arith, b .lies .within, skip-genome x skip-is)
+
+  -- the exon base before the intron, the last of the element that ends there
+  unfoldable left : Matched t (placeBefore b)
+  unfolding total
+  left =
+      let (e, n) = edge-before xs (b .matched-before) in
+      let m = match-kind (e .element) (e .match) in
+      record {
+        lies = record {
+          before = e .left;
+          element = e .element;
+          after = e .right ++ x ∷ ys;
+          stands = b .lies .stands ∙ ap (λ (l : List Element). l ++ x ∷ ys) (e .stands) ∙ append-assoc (e .left) (e .element ∷ e .right) (x ∷ ys);
+          at = e .element .count - 1;
+          within = omega (arith, e .some, match-genome (e .element) m);
+          place = omega (arith, ap (total genome) (e .stands), total-append genome (e .left) (e .element ∷ e .right), n .on-genome, match-genome (e .element) m, e .some);
+        };
+        match = e .match;
+      }
+
+  before-is : (total genome xs ≡ placeBefore b + 1) × (total transcript xs ≡ other left + 1)
+  unfolding total left
+  before-is =
+      let (e, n) = edge-before xs (b .matched-before) in
+      let m = match-kind (e .element) (e .match) in (
+        omega (arith, ap (total genome) (e .stands), total-append genome (e .left) (e .element ∷ e .right), match-genome (e .element) m, e .some),
+        omega (arith, ap (total transcript) (e .stands), total-append transcript (e .left) (e .element ∷ e .right), n .on-transcript, match-transcript (e .element) m, e .some),
+      )
+
+  -- the one after it, the first of the element that begins there
+  unfoldable right : Matched t (placeAfter b)
+  unfolding total
+  right =
+      let (e, n) = edge-after ys (b .matched-after) in
+      let m = match-kind (e .element) (e .match) in
+      record {
+        lies = record {
+          before = xs ++ x ∷ e .left;
+          element = e .element;
+          after = e .right;
+          stands = b .lies .stands ∙ ap (λ (l : List Element). xs ++ x ∷ l) (e .stands) ∙ sym (append-assoc xs (x ∷ e .left) (e .element ∷ e .right));
+          at = 0;
+          within = omega (arith, e .some, match-genome (e .element) m);
+          place = omega (arith, total-append genome xs (x ∷ e .left), n .on-genome, skip-genome x skip-is);
+        };
+        match = e .match;
+      }
+
+  after-is : other right ≡ total transcript xs
+  unfolding total right
+  after-is =
+      let (e, n) = edge-after ys (b .matched-after) in
+      omega (arith, total-append transcript xs (x ∷ e .left), n .on-transcript, skip-transcript x skip-is)
+
+  -- the base at k of the intron, as the finder and the rule have it
+  alone : (e : End) (forward : Bool) → mapPlace genome transcript (x ∷ []) (pos k) e forward ≡ nearer forward 0 (pos (k + 1)) (pos (x .count - k))
+  unfolding mapPlace segmentFrom spotIn
+  alone e forward =
+      let l : pos k -ℤ pos 0 +ℤ pos 1 ≡ pos (k + 1) = omega (order, dif (pos k) (pos 0), sum (pos k -ℤ pos 0) (pos 1)) in
+      let r : pos (0 + genome x) -ℤ pos k ≡ pos (x .count - k) = omega (order, dif (pos (0 + genome x)) (pos k), skip-genome x skip-is, k-in) in
+      rw (skip-is, l, r)
+
+  skip-maps : (e : End) (forward : Bool) → mapPlace genome transcript (t .elements) (pos p) e forward ≡ slid (total transcript xs) (nearer forward 0 (pos (k + 1)) (pos (x .count - k)))
+  skip-maps e forward =
+      ap (λ (l : List Element). mapPlace genome transcript l (pos p) e forward) (b .lies .stands)
+      ∙ ap (λ (q : ℕ). mapPlace genome transcript (xs ++ x ∷ ys) (pos q) e forward) (b .lies .place)
+      ∙ (amid-place genome transcript xs (x ∷ []) ys k e forward (omega (arith, total-one genome x, b .lies .within))
+      ∙ ap (slid (total transcript xs)) (alone e forward))
+
+  -- it is an inner place
+  inner : total genome xs + x .count < genomeLength t
+  inner = column-within genome transcript match-genome (column right)
+
+  from-left : leftNearer (t .forward) (pos (k + 1)) (pos (x .count - k)) ≡ true → Reaches t p (other left) (placeBefore b) (pos (k + 1))
+  unfolding nearer
+  from-left near =
+      let one : pos (total transcript xs) +ℤ (pos 0 -ℤ pos 1) ≡ pos (other left) = omega (order, sum (pos (total transcript xs)) (pos 0 -ℤ pos 1), before-is .1) in
+      record {
+        there = λ e. skip-maps e (t .forward) ∙ (rw (near, one));
+        here = λ e. column-maps transcript genome match-transcript (across-column (column left)) e true;
+        sums = omega (order, before-is .0, b .lies .place);
+        p-in = omega (arith, inner, k-in, b .lies .place);
+        q-in = column-within transcript genome match-transcript (across-column (column left));
+        o-in = record { high = omega (arith, inner, k-in); low = omega arith };
+      }
+
+  from-right : leftNearer (t .forward) (pos (k + 1)) (pos (x .count - k)) ≡ false → Reaches t p (other right) (placeAfter b) (negℤ (pos (x .count - k)))
+  unfolding nearer
+  from-right far =
+      let none : total transcript xs + 0 ≡ other right = omega (arith, after-is) in
+      record {
+        there = λ e. skip-maps e (t .forward) ∙ (rw (far, none));
+        here = λ e. column-maps transcript genome match-transcript (across-column (column right)) e true;
+        sums = omega (order, sum (pos (placeAfter b)) (negℤ (pos (x .count - k))), neg (pos (x .count - k)), k-in, b .lies .place);
+        p-in = omega (arith, inner, k-in, b .lies .place);
+        q-in = column-within transcript genome match-transcript (across-column (column right));
+        o-in = record { high = omega (arith, neg (pos (x .count - k))); low = omega (arith, neg (pos (x .count - k)), inner) };
+      }
+
+  -- the two distances
+  left-apart : apart p (placeBefore b) ≡ k + 1
+  left-apart = omega (arith, before-is .0, b .lies .place)
+
+  right-apart : apart p (placeAfter b) ≡ x .count - k
+  right-apart = omega (arith, k-in, b .lies .place)
+
+  module _ (sound : Sound t) (forward : Bool) (is : t .forward ≡ forward) where
+    -- named from the exon base e at a, whose offset along the genome is o
+    from-edge : {a : ℕ} (e : Matched t a) (o o′ : ℤ) → Reaches t p (other e) a o → signed forward o ≡ o′ → Named ours t p (record { upstream = upstreamOf e; offset = o′ })
+    from-edge {a} e o o′ r o-is = rw (counted e, ap (λ (f : Bool). signed f o) is ∙ o-is) at (has-name t sound p (other e) a o r)
+
+    as-nearer : {v : Bool} → leftNearer forward (pos (k + 1)) (pos (x .count - k)) ≡ v → leftNearer (t .forward) (pos (k + 1)) (pos (x .count - k)) ≡ v
+    as-nearer h = ap (λ (f : Bool). leftNearer f (pos (k + 1)) (pos (x .count - k))) is ∙ h
+
+    left-named : leftNearer forward (pos (k + 1)) (pos (x .count - k)) ≡ true → (o : ℤ) → signed forward (pos (k + 1)) ≡ o → Named ours t p (record { upstream = upstreamOf left; offset = o })
+    left-named near o = from-edge left (pos (k + 1)) o (from-left (as-nearer near))
+
+    right-named : leftNearer forward (pos (k + 1)) (pos (x .count - k)) ≡ false → (o : ℤ) → signed forward (negℤ (pos (x .count - k))) ≡ o → Named ours t p (record { upstream = upstreamOf right; offset = o })
+    right-named far o = from-edge right (negℤ (pos (x .count - k))) o (from-right (as-nearer far))
+
+  nearest : Sound t → (forward : Bool) → t .forward ≡ forward → FromNearest ours t p (if forward then placeBefore b else placeAfter b) (if forward then placeAfter b else placeBefore b)
+  unfolding intronName
+  nearest sound true e = record {
+    up = left;
+    down = right;
+    named = by-test (upstreamNearer p (placeBefore b) (placeAfter b))
+        (λ h. rw (h, left-apart) (left-named sound true e (omega (order, left-apart, right-apart, nearer-yes)) (pos (k + 1)) refl))
+        (λ h. rw (h, right-apart) (right-named sound true e (omega (order, left-apart, right-apart, nearer-no)) (negℤ (pos (x .count - k))) refl));
+  }
+  nearest sound false e = record {
+    up = right;
+    down = left;
+    named = by-test (upstreamNearer p (placeAfter b) (placeBefore b))
+        (λ h. rw (h, right-apart) (right-named sound false e (omega (order, left-apart, right-apart, nearer-yes)) (pos (x .count - k)) (negℤ-negℤ (pos (x .count - k)))))
+        (λ h. rw (h, left-apart) (left-named sound false e (omega (order, left-apart, right-apart, nearer-no)) (negℤ (pos (k + 1))) refl));
+  }
+
+pub bases-named : (t : Transcript) → Sound t → BasesNamed ours t
+bases-named t sound = record {
+  exon-base = λ p b. exon-named b sound;
+  intron-base = λ p b. nearest b sound (t .forward) refl;
+}

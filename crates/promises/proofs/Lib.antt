@@ -1,0 +1,34 @@
+-- The promises' proofs, from the bottom up. The promises are `demand-2` and `demand-3` of Promises and `table-of-places` of Table; specs/ says what they state.
+--     Finding, Spots                a place in the middle part ys of xs ++ (ys ++ zs) is found in ys, and its spot is ys's own, slid along (`amid-place`): over any two sides
+--     Turns, Fits, Bounds, Sound    the turn of strand -1; 17; a spot lies in -1 to the length; what the proofs ask of a transcript
+--     Columns, Edges                matched columns, and the one next to an intron
+--     Naming, Demand2               demand 2 of a sound transcript
+--     Shifts, Lengthening           what stays when bases are added upstream, over elements
+--     Records, Demand3              demand 3 over records whose CIGARs were read
+--     Rooms, Built                  what is known of an input that builds
+--     Promises, Table               the promises
+--     Reach                         what the code answers of a lent transcript is what the promises speak of
+--     Covers                        each place lies in an element
+--     Examples, Against             transcripts that meet every premise, and mappers that the promises shut out
+pub mod Finding
+pub mod Spots
+pub mod Turns
+pub mod Fits
+pub mod Bounds
+pub mod Sound
+pub mod Columns
+pub mod Edges
+pub mod Naming
+pub mod Demand2
+pub mod Shifts
+pub mod Lengthening
+pub mod Records
+pub mod Demand3
+pub mod Rooms
+pub mod Built
+pub mod Promises
+pub mod Table
+pub mod Reach
+pub mod Covers
+pub mod Examples
+pub mod Against

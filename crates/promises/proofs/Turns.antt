@@ -1,0 +1,50 @@
+-- The turn of strand -1, the strict bounds, and n. numbers of places that are not negative. Assumes nothing.
+use Prim.Native.Nat.{ℕ, _+_, _-_, _≤_, _<_}
+use native.Mathlib.Omega.{arith}
+use mathlib.Core.Bool.{Bool, true, false, cond}
+use mathlib.Core.Path.{_≡_, refl}
+use lib.Dec.{leb·zero}
+use lib.IntN.{ℤ, pos, negℤ-negℤ, _-ℤ_}
+use borrow.Author.Tests.{le-leb}
+use Rattle.whole.specs.Whole.{order, dif}
+use Rattle.numbering.specs.Numbers.{nOfPlace}
+use Rattle.transcript.specs.Transcript.{Transcript}
+use Rattle.mapper.specs.Mapping.{inside, turned, signed, placeOfG}
+
+pub turn-turn : (forward : Bool) (len : ℕ) (z : ℤ) → turned forward len (turned forward len z) ≡ z
+unfolding turned
+turn-turn true len z = refl
+turn-turn false len z = omega (order, dif (pos len) (pos 1), dif (pos len -ℤ pos 1) z, dif (pos len -ℤ pos 1) (pos len -ℤ pos 1 -ℤ z))
+
+pub sign-sign : (forward : Bool) (o : ℤ) → signed forward (signed forward o) ≡ o
+sign-sign true o = refl
+sign-sign false o = negℤ-negℤ o
+
+-- the turned place of one that is below the length
+abbrev pub across : Bool → ℕ → ℕ → ℕ
+across forward len q = cond forward q (len - 1 - q)
+
+pub turned-within : (forward : Bool) (len q : ℕ) → q < len → turned forward len (pos q) ≡ pos (across forward len q)
+unfolding turned
+turned-within true len q h = refl
+turned-within false len q h = omega (order, dif (pos len) (pos 1), dif (pos len -ℤ pos 1) (pos q))
+
+pub across-within : (forward : Bool) (len q : ℕ) → q < len → across forward len q < len
+across-within true len q h = h
+across-within false len q h = omega arith
+
+pub inside-within : (len p : ℕ) → p ≤ len → inside true len (pos p) ≡ true
+unfolding inside
+inside-within len p h = rw (leb·zero p, le-leb p len h)
+
+pub n-of-place : (p : ℕ) → nOfPlace (pos p) ≡ pos (p + 1)
+unfolding nOfPlace
+n-of-place p = rw (leb·zero p)
+
+pub place-of-base : (t : Transcript) (p : ℕ) → placeOfG t (pos (p + t .first + 1)) ≡ pos p
+unfolding placeOfG
+place-of-base t p = omega (order, dif (pos (p + t .first + 1)) (pos 1), dif (pos (p + t .first + 1) -ℤ pos 1) (pos (t .first)))
+
+pub same-either : {A : Type 0} (forward : Bool) (a : A) → cond forward a a ≡ a
+same-either true a = refl
+same-either false a = refl

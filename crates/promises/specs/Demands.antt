@@ -1,0 +1,171 @@
+-- Demands 2 and 3, as what is asked of a mapper. Assumes nothing.
+--     Demand-2    each base of an exon, and of an intron between exons, has its HGVS name and comes back from it
+--     Demand-3    records added at the ends change no answer
+use Prim.Native.Nat.{ℕ, _+_, _<_}
+use mathlib.Core.Bool.{Bool, true, false}
+use mathlib.Core.List.{List, [], _∷_, _++_, map}
+use mathlib.Core.Path.{_≡_}
+use lib.IntN.{ℤ, pos, _+ℤ_}
+use Rattle.whole.specs.Whole.{eqZ}
+use Rattle.cigar.specs.Elements.{Element, genome, transcript, total}
+use Rattle.cigar.specs.Text.{elementsIn}
+use Rattle.cigar.specs.Read.{readText}
+use Rattle.records.specs.Records.{Record, recordsFrom}
+use Rattle.transcript.specs.Transcript.{Transcript, genomeLength, transcriptLength}
+use Rattle.transcript.specs.Transcript.Cds.{cds}
+use Rattle.transcript.specs.Building.{build}
+use Rattle.transcript.specs.Judging.{Judged, Made, startOf, endOf, judgeRecords}
+use Rattle.transcript.specs.Judging.Judged.{refused, accepted}
+use Rattle.transcript.specs.declared.Bound.{Bound}
+use Rattle.transcript.specs.declared.Bound.the-variants.{Given, Absent}
+use Rattle.mapper.specs.Answers.{GInterval, NInterval, CInterval, Answer, Plain, Answered}
+use Rattle.mapper.specs.Answers.Answer.{certain}
+use Rattle.mapper.specs.Mapping.{gToN, nToG, nToC, cToN, gToC, cToG}
+use Rattle.promises.specs.Bases.{Name, nName, cName, Matched, exonName, InIntron, upstreamPlace, downstreamPlace, intronName}
+
+-- ---- a mapper
+
+-- what a mapper answers to the six questions about a transcript; the first argument says whether it is strict
+pub record Mapper : Type 0 where
+  pub g-to-n : Bool → Transcript → GInterval → Answer NInterval
+  pub n-to-g : Bool → Transcript → NInterval → Answer GInterval
+  pub n-to-c : Bool → Transcript → NInterval → Plain CInterval
+  pub c-to-n : Bool → Transcript → CInterval → Plain NInterval
+  pub g-to-c : Bool → Transcript → GInterval → Answer CInterval
+  pub c-to-g : Bool → Transcript → CInterval → Answer GInterval
+
+-- the one that the definitions of `mapper` give
+abbrev pub ours : Mapper
+ours = record {
+  g-to-n = gToN;
+  n-to-g = nToG;
+  n-to-c = λ strict t. nToC strict (transcriptLength t) (t .coding);
+  c-to-n = λ strict t. cToN strict (transcriptLength t) (t .coding);
+  g-to-c = gToC;
+  c-to-g = cToG;
+}
+
+abbrev pub strict : Bool
+strict = true
+
+-- ---- building
+
+-- what building takes: the strand, the CDS bounds, each given or not, and the records in genomic order
+pub record Input : Type 0 where
+  pub strand : ℤ
+  pub start : Bound
+  pub end : Bound
+  pub records : List Record
+
+-- the transcript of what was judged
+abbrev pub madeOf : Judged Made → Judged Transcript
+madeOf (refused k) = refused k
+madeOf (accepted made) = accepted (build (made .forward) (made .exon-list) (made .coding))
+
+-- building refuses, or answers a transcript
+abbrev pub building : Input → Judged Transcript
+building x = madeOf (judgeRecords (x .strand) (x .start) (x .end) (x .records))
+
+-- the input that the numbers and bytes of a host lay out
+abbrev pub inputOf : ℤ → ℕ → ℤ → ℤ → ℕ → List ℕ → Input
+inputOf strand bits start end n s = record { strand = strand; start = startOf bits start; end = endOf bits end; records = recordsFrom n s 0 }
+
+-- the transcript t is built from the input x
+abbrev pub Builds : Input → Transcript → Type 0
+Builds x t = building x ≡ accepted t
+
+-- ---- demand 2
+
+-- the base at place p, as a g. interval; a name, as an n. and as a c. interval
+abbrev pub gAt : Transcript → ℕ → GInterval
+gAt t p = record { from = pos (p + t .first + 1); to = pos (p + t .first + 1) }
+
+abbrev pub nAt : Name → NInterval
+nAt x = record { from = nName x; to = nName x }
+
+abbrev pub cAt : ℕ → ℕ → Name → CInterval
+cAt s e x = record { from = cName s e x; to = cName s e x }
+
+-- in strict mode the base at place p is answered with the name x, certainly, and the name with the base: in n., and in c. where there is a CDS
+pub record Named (m : Mapper) (t : Transcript) (p : ℕ) (x : Name) : Type 0 where
+  pub g-to-n : m .g-to-n strict t (gAt t p) ≡ certain (nAt x)
+  pub n-to-g : m .n-to-g strict t (nAt x) ≡ certain (gAt t p)
+  pub g-to-c : (s e : ℕ) → t .coding ≡ cds s e → m .g-to-c strict t (gAt t p) ≡ certain (cAt s e x)
+  pub c-to-g : (s e : ℕ) → t .coding ≡ cds s e → m .c-to-g strict t (cAt s e x) ≡ certain (gAt t p)
+
+-- there are exon bases at u, upstream, and at d, downstream, and the base at place p has the name that counts from the nearer of the two
+pub record FromNearest (m : Mapper) (t : Transcript) (p u d : ℕ) : Type 0 where
+  pub up : Matched t u
+  pub down : Matched t d
+  pub named : Named m t p (intronName p up down)
+
+-- each base in a matched column has the name of an exon base, and each base of an intron counts from the nearest exon base
+pub record BasesNamed (m : Mapper) (t : Transcript) : Type 0 where
+  pub exon-base : (p : ℕ) (b : Matched t p) → Named m t p (exonName b)
+  pub intron-base : (p : ℕ) (b : InIntron t p) → FromNearest m t p (upstreamPlace b) (downstreamPlace b)
+
+-- of every transcript that builds
+abbrev pub Demand-2 : Mapper → Type 0
+Demand-2 m = (x : Input) (t : Transcript) → Builds x t → BasesNamed m t
+
+-- ---- demand 3
+
+-- the elements of a record's CIGAR
+abbrev pub cigarOf : Record → List Element
+cigarOf r = elementsIn (readText (r .cigar))
+
+-- each record's CIGAR spans exactly its genome bounds
+abbrev pub AllSpan : List Record → Type 0
+AllSpan [] = Unit {0}
+AllSpan (r ∷ rs) = (r .alt-start +ℤ pos (total genome (cigarOf r)) ≡ r .alt-end) × AllSpan rs
+
+-- the transcript bases of records
+unfoldable pub basesOf : List Record → ℕ
+basesOf [] = 0
+basesOf (r ∷ rs) = total transcript (cigarOf r) + basesOf rs
+
+-- the transcript bases that records add upstream: on strand 1 those on the left, along the genome, and on strand -1 those on the right
+abbrev pub addedUpstream : Bool → List Record → List Record → ℕ
+addedUpstream true left right = basesOf left
+addedUpstream false left right = basesOf right
+
+-- a CDS bound, moved up
+abbrev pub movedUp : ℕ → Bound → Bound
+movedUp n (Given z) = Given (z +ℤ pos n)
+movedUp n Absent = Absent
+
+-- what stays of a record when its transcript is lengthened: its genome bounds and its CIGAR
+pub record Kept : Type 0 where
+  pub alt-start : ℤ
+  pub alt-end : ℤ
+  pub cigar : List ℕ
+
+abbrev pub kept : Record → Kept
+kept r = record { alt-start = r .alt-start; alt-end = r .alt-end; cigar = r .cigar }
+
+-- y is x with records added at either end or both, along the genome, and its CDS bounds moved up by the transcript bases that are added upstream.
+-- Its own records keep their genome bounds and CIGARs; their transcript bounds and `ord` are whatever building accepts
+pub record Lengthens (x y : Input) : Type 0 where
+  pub left : List Record
+  pub own : List Record
+  pub right : List Record
+  pub stands : y .records ≡ left ++ (own ++ right)
+  pub own-kept : map kept own ≡ map kept (x .records)
+  pub strand-kept : y .strand ≡ x .strand
+  pub added : ℕ
+  pub upstream : added ≡ addedUpstream (eqZ (x .strand) (pos 1)) left right
+  pub start-moved : y .start ≡ movedUp added (x .start)
+  pub end-moved : y .end ≡ movedUp added (x .end)
+
+-- z is the g. number of a base of the span of t: its place is 0 to the genome length, exclusive
+abbrev pub BaseOf : Transcript → ℤ → Type 0
+BaseOf t z = (p : ℕ) × (z ≡ pos (p + t .first + 1)) × (p < genomeLength t)
+
+-- in strict mode u keeps the answers of t: the c. answer of each g. interval whose ends are bases of t's span, and the g. answer of each c. interval, certainty included
+pub record Keeps (m : Mapper) (t u : Transcript) : Type 0 where
+  pub g-to-c : (i : GInterval) → BaseOf t (i .from) → BaseOf t (i .to) → Answered (m .g-to-c strict t i) → m .g-to-c strict u i ≡ m .g-to-c strict t i
+  pub c-to-g : (i : CInterval) → Answered (m .c-to-g strict t i) → m .c-to-g strict u i ≡ m .c-to-g strict t i
+
+-- of every transcript that builds and every lengthened one that builds, where each record's CIGAR spans exactly its bounds; the shorter's records are among the longer's
+abbrev pub Demand-3 : Mapper → Type 0
+Demand-3 m = (x y : Input) (t u : Transcript) → Builds x t → Builds y u → Lengthens x y → AllSpan (y .records) → Keeps m t u

@@ -1,0 +1,7 @@
+-- What is promised of the mapper; proofs/ shows that it holds.
+--     Bases      how HGVS names a base, and the bases of matched columns and introns
+--     Demands    demands 2 and 3
+--     Table      the table of places
+pub mod Bases
+pub mod Demands
+pub mod Table

@@ -1,0 +1,2 @@
+-- What the replay's contracts cite.
+pub mod Sizes

@@ -1,0 +1,14 @@
+-- The sizes that the replay's memory is lent by.
+use Prim.Native.Nat.{ℕ}
+
+-- the most bytes of a file of recorded answers
+abbrev pub mostFile : ℕ
+mostFile = 1048576
+
+-- the largest number of 32 bits
+abbrev pub mostWord : ℕ
+mostWord = 4294967295
+
+-- the most bytes that are lent as a buffer
+abbrev pub mostRoom : ℕ
+mostRoom = 131072

@@ -1,0 +1,123 @@
+//! Times the port beside the crate in one run. The sides take turns, the best round of each counts, and the ratio of the two is
+//! what matters: what else the machine does meets both.
+
+use std::{
+    cell::RefCell,
+    hint::black_box,
+    process::ExitCode,
+    time::{Duration, Instant},
+};
+
+use benches::{Bench, POSITIONS, SIZES};
+use clap::Parser;
+use compare::original::{self, Outcome};
+use pulindraxi::boundary;
+use trials::{paper::Asked, Lent, Question};
+
+/// Times the port beside the crate.
+#[derive(Parser)]
+struct Options {
+    /// How many rounds each side has
+    #[arg(long, default_value_t = 40)]
+    rounds: usize,
+}
+
+/// The best time of some rounds in which the contestants take turns, in nanoseconds for one of `times` calls.
+fn best<const N: usize>(rounds: usize, times: usize, contestants: [&dyn Fn(); N]) -> [f64; N] {
+    let mut best = [Duration::MAX; N];
+    for _ in 0..rounds {
+        for (best, contestant) in best.iter_mut().zip(contestants) {
+            let start = Instant::now();
+            contestant();
+            *best = start.elapsed().min(*best);
+        }
+    }
+    best.map(|time| time.as_nanos() as f64 / times as f64)
+}
+
+fn questions(rounds: usize) {
+    println!("| segments | strand | question | crate, ns | port, ns | port / crate | of it check 23, ns | finding and the rest, ns |");
+    println!("|---|---|---|---|---|---|---|---|");
+    for segments in SIZES {
+        for strand in [1, -1] {
+            let Bench { asking, mapper, c_to_g, crate_g, crate_c, .. } = Bench::new(segments, strand);
+            let Lent { head: h, genome: g, transcript: t, letters: l } = black_box(&asking.lent);
+            let check = || {
+                for _ in 0..POSITIONS {
+                    black_box(boundary::txc_is_coding(h, g, t, l));
+                }
+            };
+            let to_n = || {
+                for &at in &asking.g {
+                    black_box(boundary::txc_g_to_n(h, g, t, l, at, at, 0, true));
+                }
+            };
+            let to_c = || {
+                for &at in &asking.g {
+                    black_box(boundary::txc_g_to_c(h, g, t, l, at, at, 0, true));
+                }
+            };
+            let to_g = || {
+                for Question { start: Asked { base, offset, star }, .. } in c_to_g.iter().copied() {
+                    black_box(boundary::txc_c_to_g(h, g, t, l, base, offset, star, base, offset, star, true));
+                }
+            };
+            let crate_to_n = || crate_g.iter().for_each(|g| drop(black_box(mapper.g_to_n(g))));
+            let crate_to_c = || crate_g.iter().for_each(|g| drop(black_box(mapper.g_to_c(g))));
+            let crate_to_g = || crate_c.iter().for_each(|c| drop(black_box(mapper.c_to_g(c))));
+            let sides: [&dyn Fn(); 7] = [&check, &to_n, &crate_to_n, &to_c, &crate_to_c, &to_g, &crate_to_g];
+            let [check, n, n_crate, c, c_crate, g, g_crate] = best(rounds, POSITIONS, sides);
+            for (name, port, original) in [("g_to_n", n, n_crate), ("g_to_c", c, c_crate), ("c_to_g", g, g_crate)] {
+                let (ratio, rest) = (port / original, port - check);
+                println!(
+                    "| {segments} | {strand} | {name} | {original:.1} | {port:.1} | {ratio:.2} | {check:.1} | {rest:.1} |"
+                );
+            }
+        }
+    }
+}
+
+fn buildings(rounds: usize) {
+    println!("\n| segments | building in the crate, µs | by the port, µs | port / crate | tables of the crate, bytes | of the port, bytes |");
+    println!("|---|---|---|---|---|---|");
+    for segments in SIZES {
+        let bench = Bench::new(segments, 1);
+        let bytes = bench.asking.case.lay();
+        let from = bench.asking.case.laid(&bytes);
+        let lent = RefCell::new(Lent::filled(0));
+        let by_port = || {
+            black_box(lent.borrow_mut().build(black_box(from)));
+        };
+        let by_crate = || drop(black_box(original::build(black_box(&bench.asking.case))));
+        let [port, original] = best(rounds, 1, [&by_port, &by_crate]).map(|ns| ns / 1_000.0);
+        let cigar = &bench.mapper.cigar_mapper;
+        let of_crate = size_of_val(&cigar.ref_pos[..])
+            + size_of_val(&cigar.tgt_pos[..])
+            + size_of_val(&cigar.cigar_op[..])
+            + size_of_val(&cigar.cigar_string.elems[..]);
+        let Lent { head, genome, transcript, letters } = &bench.asking.lent;
+        let of_port =
+            size_of_val(&**head) + size_of_val(&**genome) + size_of_val(&**transcript) + size_of_val(&**letters);
+        println!("| {segments} | {original:.1} | {port:.1} | {:.2} | {of_crate} | {of_port} |", port / original);
+    }
+}
+
+/// Whether the crate is built as for use, where an overflow wraps.
+fn crate_wraps() -> bool {
+    let mut bench = Bench::new(SIZES[0], 1);
+    let start = Asked { base: i32::MIN, ..Asked::default() };
+    let question = Question { start, strict: false, ..bench.g_to_n[0] };
+    original::ask(&mut bench.mapper, &question) != Outcome::Panicked
+}
+
+fn main() -> ExitCode {
+    let options = Options::parse();
+    original::silence_panics();
+    if !crate_wraps() {
+        eprintln!("ratios: the crate has overflow checks; build with --profile bench");
+        return ExitCode::FAILURE;
+    }
+    questions(options.rounds);
+    buildings(options.rounds);
+    ExitCode::SUCCESS
+}

@@ -1,0 +1,124 @@
+//! The transcripts and positions that are timed, on both sides.
+
+use compare::original::{self, Outcome};
+use hgvs::{
+    mapper::alignment::Mapper,
+    parser::{CdsInterval, GenomeInterval},
+};
+use trials::{
+    draw::{Case, Record},
+    paper::{self, Asked, Source},
+    Kind, Lent, Question,
+};
+
+/// The segment counts.
+pub const SIZES: [usize; 3] = [10, 200, 2_000];
+/// How many positions are asked.
+pub const POSITIONS: usize = 30_000;
+
+/// The elements of an exon, which all match: 100 bases.
+const PARTS: [&str; 3] = ["40=", "X", "59="];
+const EXON: i32 = 100;
+const INTRON: i32 = 900;
+
+/// A transcript of so many segments: exons of three elements with introns between them, and what is left over as elements of
+/// the last exon. Its CDS leaves out a tenth at each end.
+pub fn transcript(segments: usize, strand: i32) -> Case {
+    let exons = segments.div_ceil(PARTS.len() + 1).max(1);
+    let exons = if exons * (PARTS.len() + 1) - 1 > segments { exons - 1 } else { exons };
+    let left_over = segments - (exons * (PARTS.len() + 1) - 1);
+    let long = |index: usize| EXON + if index + 1 == exons { left_over as i32 } else { 0 };
+    let mut records = Vec::new();
+    let (mut alt, total) = (1_000, exons as i32 * EXON + left_over as i32);
+    let mut tx = if strand == 1 { 0 } else { total };
+    for index in 0..exons {
+        let mut cigar = PARTS.concat();
+        cigar.push_str(&if index + 1 == exons { "M".repeat(left_over) } else { String::new() });
+        let tx_start = if strand == 1 { tx } else { tx - long(index) };
+        let numbers = [alt, alt + long(index), tx_start, tx_start + long(index), strand * index as i32];
+        records.push(Record { numbers, cigar: cigar.into_bytes() });
+        alt += long(index) + INTRON;
+        tx += strand * long(index);
+    }
+    Case { strand, cds_start: Some(total / 10), cds_end: Some(total - total / 10), records }
+}
+
+/// One transcript, built by the port, with the positions that are asked of it.
+pub struct Asking {
+    /// How it is built.
+    pub case: Case,
+    /// The port's memory.
+    pub lent: Lent,
+    /// Document 01's, by which positions get their c. names.
+    source: Source,
+    /// g. positions, spread evenly and asked in a scattered order.
+    pub g: Vec<i32>,
+}
+
+impl Asking {
+    /// Builds a transcript.
+    pub fn new(segments: usize, strand: i32) -> Asking {
+        let case = transcript(segments, strand);
+        let bytes = case.lay();
+        let source = Source::Records(paper::build(case.laid(&bytes)).expect("it builds"));
+        let mut lent = Lent::filled(0);
+        assert_eq!(lent.build(case.laid(&bytes)), 0);
+        assert_eq!(lent.head[3] as usize, segments);
+        let genome = u64::from(lent.genome[segments]);
+        // 7,919 is a prime that doesn't divide the number of positions.
+        let place = |index: usize| (index * 7_919 % POSITIONS) as u64 * genome / POSITIONS as u64;
+        let g = (0..POSITIONS).map(|index| lent.head[2] + 1 + place(index) as i32).collect();
+        Asking { case, lent, source, g }
+    }
+
+    /// A question about the g. position at an index.
+    pub fn about_g(&self, kind: Kind, index: usize) -> Question {
+        question(kind, Asked { base: self.g[index], ..Asked::default() })
+    }
+
+    /// A question about the c. name of the g. position at an index.
+    pub fn about_c(&self, kind: Kind, index: usize) -> Question {
+        question(kind, self.about_g(Kind::GToC, index).expect(Some(&self.source)).start.into())
+    }
+}
+
+/// A strict question about one position.
+fn question(kind: Kind, at: Asked) -> Question {
+    Question { kind, start: at, end: at, missing: 0, strict: true }
+}
+
+/// One transcript on both sides, with its questions in both forms.
+pub struct Bench {
+    /// The port's side.
+    pub asking: Asking,
+    /// The crate's side.
+    pub mapper: Mapper,
+    /// The positions' questions g. to n.
+    pub g_to_n: Vec<Question>,
+    /// The positions' questions g. to c.
+    pub g_to_c: Vec<Question>,
+    /// The c. names' questions c. to g.
+    pub c_to_g: Vec<Question>,
+    /// The g. positions for the crate.
+    pub crate_g: Vec<GenomeInterval>,
+    /// The c. names for the crate.
+    pub crate_c: Vec<CdsInterval>,
+}
+
+impl Bench {
+    /// Builds a transcript on both sides, and holds them to each other at every position.
+    pub fn new(segments: usize, strand: i32) -> Bench {
+        let asking = Asking::new(segments, strand);
+        let Some(Outcome::Answered(mut mapper)) = original::build(&asking.case) else { panic!("it builds") };
+        let about_g = |kind| (0..POSITIONS).map(|index| asking.about_g(kind, index)).collect::<Vec<_>>();
+        let (g_to_n, g_to_c) = (about_g(Kind::GToN), about_g(Kind::GToC));
+        let c_to_g: Vec<_> = (0..POSITIONS).map(|index| asking.about_c(Kind::CToG, index)).collect();
+        for question in g_to_n.iter().chain(&g_to_c).chain(&c_to_g) {
+            let answer = question.ask(&asking.lent);
+            assert_eq!(original::ask(&mut mapper, question), Outcome::Answered(answer));
+        }
+        let crate_g = g_to_n.iter().map(original::g_interval).collect();
+        let crate_c = c_to_g.iter().map(original::c_interval).collect();
+        Bench { asking, mapper, g_to_n, g_to_c, c_to_g, crate_g, crate_c }
+    }
+}

@@ -1,0 +1,69 @@
+//! The program itself, from a text of records to names.
+
+use std::{
+    env, fs,
+    io::Write,
+    path::PathBuf,
+    process::{Command, Output, Stdio},
+};
+
+fn run(arguments: &[&str], input: &str) -> Output {
+    let mut child = Command::new(env!("CARGO_BIN_EXE_pulindraxi"))
+        .args(arguments)
+        .stdin(Stdio::piped())
+        .stdout(Stdio::piped())
+        .stderr(Stdio::piped())
+        .spawn()
+        .unwrap();
+    // A program that refuses its arguments may not read its input.
+    let _ = child.stdin.take().unwrap().write_all(input.as_bytes());
+    child.wait_with_output().unwrap()
+}
+
+fn demo(name: &str) -> PathBuf {
+    PathBuf::from(env!("CARGO_MANIFEST_DIR")).join("../demo").join(name)
+}
+
+/// Writes transcript A's card to a file of its own.
+fn card_of_a(name: &str) -> PathBuf {
+    let card = PathBuf::from(env!("CARGO_TARGET_TMPDIR")).join(name);
+    let written = run(&["card", demo("a.txt").to_str().unwrap(), "-o", card.to_str().unwrap()], "");
+    assert!(written.status.success(), "{}", String::from_utf8_lossy(&written.stderr));
+    card
+}
+
+#[test]
+fn from_records_to_a_listing() {
+    let card = card_of_a("listed.card");
+    let listed = run(&["list", card.to_str().unwrap()], "");
+    assert_eq!(String::from_utf8_lossy(&listed.stdout), "TXC + 3 23 18\nM 0 0 10\nN 10 10 5\nM 15 10 8\n");
+    let text = fs::read_to_string(demo("a.txt")).unwrap();
+    assert_eq!(run(&["card"], &text).stdout, fs::read(card).unwrap());
+}
+
+#[test]
+fn from_records_to_the_table_of_places() {
+    let card = card_of_a("mapped.card");
+    let mapped = run(&["map", card.to_str().unwrap()], &fs::read_to_string(demo("places.txt")).unwrap());
+    assert!(mapped.status.success());
+    let output = String::from_utf8(mapped.stdout).unwrap();
+    let names: Vec<_> = output.lines().map(|line| line.split_whitespace().nth(2).unwrap()).collect();
+    assert_eq!(names, ["c.-3", "c.-1", "c.1", "c.7+1", "c.7+3", "c.8-2", "c.*3", "refused", "14:", "14:"]);
+}
+
+#[test]
+fn what_goes_wrong_is_said() {
+    let card = card_of_a("wrong.card");
+    let mapped = run(&["map", card.to_str().unwrap()], "g 11\nnonsense\ng 12\n");
+    assert_eq!(mapped.status.code(), Some(1));
+    assert_eq!(String::from_utf8_lossy(&mapped.stdout).lines().count(), 2);
+    assert!(String::from_utf8_lossy(&mapped.stderr).starts_with("line 2: `nonsense`: "));
+
+    let listed = run(&["list", demo("a.txt").to_str().unwrap()], "");
+    assert_eq!(listed.status.code(), Some(1));
+    assert!(String::from_utf8_lossy(&listed.stderr).ends_with("refused 21: bytes that are no card\n"));
+
+    let absent = run(&["map", "no such card"], "");
+    assert_eq!(absent.status.code(), Some(1));
+    assert!(String::from_utf8_lossy(&absent.stderr).contains("no such card: "));
+}

@@ -1,0 +1,533 @@
+//! Records a sample of expected answers, spread over calls, strands, letters, strictness and refusals, for a replay that needs
+//! neither the crate nor Rust.
+
+use std::collections::BTreeMap;
+
+use pulindraxi::{
+    boundary::Laid,
+    limits::{MOST_CARD, MOST_SEGMENTS, MOST_TEXT},
+    Refusal,
+};
+use rand::{seq::SliceRandom, Rng, SeedableRng};
+use rand_xorshift::XorShiftRng;
+use trials::{
+    draw::{self, Case, Record},
+    paper::{self, Aligned, Asked, Source},
+    recorded::{self, Call, Row},
+    Kind, Lent, Question,
+};
+
+use crate::settle::{self, Built, Expected, Origin};
+
+/// The file is the same for the same seed.
+const SEED: u64 = 2024;
+/// How many transcripts are drawn.
+const DRAWN: usize = 6_000;
+/// The most rows of questions that agree in call, strictness, strand, letter, mark and refusal.
+const ALIKE: u32 = 6;
+/// The most rows of other calls that agree in call, strand and refusal.
+const ALIKE_OTHERS: u32 = 8;
+
+/// The refusals that each call can give, 0 for an answer. A sample that lacks one is no sample.
+const WANTED: [(Call, &[u32]); 17] = [
+    (Call::BuildCard, &[0, 1, 3, 4, 5, 6, 7, 8, 9, 10, 11, 12, 21, 22]),
+    (Call::Build, &[0, 1, 2, 3, 4, 5, 6, 7, 8, 9, 10, 11, 12, 21]),
+    (Call::BuildLength, &[0, 4, 9, 11, 12]),
+    (Call::GToN, &[0, 14, 17, 18, 19, 23]),
+    (Call::GToC, &[0, 13, 14, 15, 17, 18, 19, 23]),
+    (Call::NToG, &[0, 14, 17, 18, 23]),
+    (Call::NToC, &[0, 13, 15, 17, 23]),
+    (Call::CToN, &[0, 13, 16, 17, 23]),
+    (Call::CToG, &[0, 13, 16, 17, 18, 23]),
+    (Call::InBounds, &[0, 18, 19, 23]),
+    (Call::IsCoding, &[0, 23]),
+    (Call::ReadCigar, &[0, 3, 7, 8]),
+    (Call::WriteCigar, &[0, 3, 7, 8, 20]),
+    (Call::WriteCard, &[0, 1, 2, 3, 4, 5, 6, 7, 8, 9, 10, 11, 12, 20, 21]),
+    (Call::TrimPrefix, &[0]),
+    (Call::TrimSuffix, &[0]),
+    (Call::Changed, &[0]),
+];
+
+/// A number for what rows of one kind have in common.
+type Bucket = (Call, [i32; 5]);
+
+struct Recorder {
+    rng: XorShiftRng,
+    rows: Vec<Row>,
+    alike: BTreeMap<Bucket, u32>,
+    /// The memory as the rows so far leave it.
+    lent: Lent,
+}
+
+/// A refusal's number, 0 for none.
+fn number<T>(result: &Result<T, Refusal>) -> u32 {
+    result.as_ref().err().map_or(0, |refusal| refusal.number())
+}
+
+/// The letter of the segment that a question's start falls into, 0 where there is none.
+fn letter(source: &Source, question: &Question) -> u8 {
+    let Source::Records(Aligned { strand, first, genome, transcript, letters, .. }) = source else { return 0 };
+    let n = match question.kind {
+        Kind::CToN | Kind::CToG => source.c_to_n(question.start, question.start, false).map_or(0, |n| n.start.base),
+        _ => question.start.base,
+    };
+    let (starts, place) = match question.kind {
+        Kind::GToN | Kind::GToC | Kind::InBounds => (genome, i64::from(question.start.base) - 1 - first),
+        _ if *strand == 1 => (transcript, i64::from(n) - 1),
+        _ => (transcript, transcript[letters.len()] - i64::from(n)),
+    };
+    let index = (0..letters.len()).find(|&i| starts[i + 1] > place).unwrap_or(letters.len() - 1);
+    letters[index]
+}
+
+/// Lenient questions at the ends of 32 bits.
+fn extremes() -> Vec<Question> {
+    let ends = [i32::MIN, i32::MIN + 1, i32::MAX];
+    let mut questions = Vec::new();
+    for kind in [Kind::GToN, Kind::GToC, Kind::NToG, Kind::NToC, Kind::CToN, Kind::CToG] {
+        let has_offset = !matches!(kind, Kind::GToN | Kind::GToC);
+        for base in ends {
+            for offset in if has_offset { &ends[..] } else { &[0] } {
+                let star = matches!(kind, Kind::CToN | Kind::CToG) && *offset == i32::MAX;
+                let at = Asked { base, offset: *offset, star };
+                questions.push(Question { kind, start: at, end: at, missing: 0, strict: false });
+            }
+        }
+    }
+    questions
+}
+
+/// Building's input that was laid out, taken apart again.
+fn case_of(from: Laid<'_>) -> Option<Case> {
+    let given = |bit: u32, bound: i32| (from.cds & bit != 0).then_some(bound);
+    let records = paper::records(from.count, from.records)?.into_iter().map(|exon| Record {
+        numbers: [exon.alt_start_i, exon.alt_end_i, exon.tx_start_i, exon.tx_end_i, exon.ord],
+        cigar: exon.cigar.to_vec(),
+    });
+    Some(Case {
+        strand: from.strand,
+        cds_start: given(1, from.cds_start),
+        cds_end: given(2, from.cds_end),
+        records: records.collect(),
+    })
+}
+
+/// Elements of five bytes each.
+fn five_bytes(elements: &[paper::Counted]) -> Vec<u8> {
+    elements.iter().flat_map(|&(count, letter)| (count as i32).to_le_bytes().into_iter().chain([letter])).collect()
+}
+
+impl Recorder {
+    /// Whether a bucket has room; if so, one more is in it.
+    fn has_room(&mut self, bucket: Bucket, most: u32) -> bool {
+        let count = self.alike.entry(bucket).or_default();
+        *count += 1;
+        *count <= most
+    }
+
+    fn push(&mut self, row: Row, answer: [i32; 8], origin: Origin) {
+        self.rows.push(Row { answer, origin: origin as u8, ..row });
+    }
+
+    /// A row of building; the memory follows it.
+    fn push_built(&mut self, row: Row, expected: &Result<Source, Refusal>, origin: Origin) {
+        if let Ok(source) = expected {
+            let tables = self.lent.clone();
+            self.lent = match source {
+                Source::Records(_) => Lent::of(source),
+                Source::Length(..) => Lent { head: Box::new(source.head()), ..tables },
+            };
+        }
+        let answer = recorded::built(number(expected), &self.lent);
+        self.push(row, answer, origin);
+        if expected.is_err() && self.rng.gen_ratio(1, 4) {
+            self.push_memory_stays();
+        }
+    }
+
+    /// After a refused building: the memory still answers as it did.
+    fn push_memory_stays(&mut self) {
+        let source = self.lent.source();
+        let Some(drawn) = source.as_ref() else { return };
+        for kind in [Kind::IsCoding, Kind::NToG] {
+            let question = Question { kind, missing: 0, ..draw::question(&mut self.rng, drawn) };
+            let answer = question.expect(source.as_ref());
+            self.push(Row::asking(&question), recorded::words(answer), Origin::Added);
+        }
+    }
+
+    /// A question to what the memory holds, whole or damaged.
+    fn push_question(&mut self, question: &Question, built: Option<&mut Built>) -> Result<(), String> {
+        let row = Row::asking(question);
+        let (answer, origin) = match built {
+            Some(built) => settle::ask(built, question)
+                .map(|(_, origin)| (question.expect(Some(&built.source)), origin))
+                .map_err(|fault| format!("{question:?}: {fault}"))?,
+            None => {
+                let source = self.lent.source();
+                let origin = if source.is_none() { Origin::Narrowed } else { Origin::Added };
+                (question.expect(source.as_ref()), origin)
+            }
+        };
+        self.push(row, recorded::words(answer), origin);
+        Ok(())
+    }
+
+    /// The questions among many drawn ones whose buckets have room.
+    fn choose(&mut self, source: &Source, drawn: usize) -> Vec<Question> {
+        let mut chosen = Vec::new();
+        let drawn = (0..drawn).map(|_| draw::question(&mut self.rng, source)).collect::<Vec<_>>();
+        for question in drawn.into_iter().chain(extremes()) {
+            let answer = question.expect(Some(source));
+            let strand = source.head()[1];
+            let numbers = [strand, letter(source, &question).into(), answer.mark as i32, answer.number as i32];
+            let [a, b, c, d] = numbers;
+            if self.has_room((question.kind.into(), [question.strict.into(), a, b, c, d]), ALIKE) {
+                chosen.push(question);
+            }
+        }
+        chosen
+    }
+
+    /// A transcript with questions to it, as a card or as records.
+    fn transcript(&mut self, case: &Case) -> Result<(), String> {
+        let bytes = case.lay();
+        let from = case.laid(&bytes);
+        let ((expected, origin), built) = settle::build(case).map_err(|fault| format!("{case:?}: {fault}"))?;
+        let expected = expected.map(Source::Records);
+        let as_card = case.strand.abs() == 1 && self.rng.gen();
+        let call = if as_card { Call::BuildCard } else { Call::Build };
+        let questions = match &expected {
+            Ok(source) => self.choose(source, 60),
+            Err(_) => Vec::new(),
+        };
+        let is_kept = match expected {
+            Ok(_) => questions.len() > 2,
+            Err(refusal) => self.has_room((call, [case.strand, refusal.number() as i32, 0, 0, 0]), ALIKE_OTHERS),
+        };
+        if !is_kept {
+            return Ok(());
+        }
+        let row = if as_card {
+            Row { payload: case.card(), ..Row::new(call) }
+        } else {
+            let Laid { strand, cds, cds_start, cds_end, count, records } = from;
+            let numbers = [strand, cds_start, cds_end, count as i32, 0, 0];
+            Row { flags: cds as u8, numbers, payload: records.to_vec(), ..Row::new(call) }
+        };
+        self.push_built(row, &expected, origin);
+        let Some(mut built) = built else { return Ok(()) };
+        for question in &questions {
+            self.push_question(question, Some(&mut built))?;
+        }
+        self.damaged(&built.source)
+    }
+
+    /// Now and then: memory changed in one place, and questions to it.
+    fn damaged(&mut self, source: &Source) -> Result<(), String> {
+        if !self.rng.gen_ratio(1, 3) {
+            return Ok(());
+        }
+        let numbers = self.wound(source);
+        recorded::damage(&mut self.lent, numbers);
+        self.rows.push(Row { numbers, ..Row::new(Call::Damage) });
+        for kind in Kind::ALL {
+            let question = draw::question(&mut self.rng, source);
+            let question = Question { kind, missing: 0, ..question };
+            let refused = self.lent.source().is_none();
+            if self.has_room((kind.into(), [2, refused.into(), numbers[0], 0, 0]), ALIKE) {
+                self.push_question(&question, None)?;
+            }
+        }
+        Ok(())
+    }
+
+    /// A table, a place in it and another value.
+    fn wound(&mut self, source: &Source) -> [i32; 6] {
+        let rng = &mut self.rng;
+        let head = source.head();
+        let place = rng.gen_range(0..=head[3]);
+        let table = rng.gen_range(0..4);
+        let old = match table {
+            0 => {
+                let field = rng.gen_range(0..8);
+                let values = [head[field as usize].wrapping_add(1), -1, 2, draw::number(rng)];
+                return [0, field, *values.choose(rng).expect("not empty"), 0, 0, 0];
+            }
+            1 => self.lent.genome[place as usize] as i32,
+            2 => self.lent.transcript[place as usize] as i32,
+            _ => {
+                let letter = *b"=DIMNXS\0".choose(rng).expect("not empty");
+                return [3, place, letter.into(), 0, 0, 0];
+            }
+        };
+        let value = if rng.gen() { old.wrapping_add(1) } else { draw::number(rng) };
+        [table, place, value, 0, 0, 0]
+    }
+
+    fn length(&mut self) -> Result<(), String> {
+        let rng = &mut self.rng;
+        let (length, start, end) = if rng.gen() {
+            (rng.gen_range(0..20), Some(rng.gen_range(0..4)), Some(rng.gen_range(3..20)))
+        } else {
+            let given = [draw::number(rng), draw::number(rng)].map(|bound| rng.gen_ratio(9, 10).then_some(bound));
+            (draw::number(rng), given[0], given[1])
+        };
+        let ((expected, origin), built) =
+            settle::build_length(length, start, end).map_err(|fault| format!("{length} {start:?} {end:?}: {fault}"))?;
+        if !self.has_room((Call::BuildLength, [number(&expected) as i32, 0, 0, 0, 0]), ALIKE_OTHERS) {
+            return Ok(());
+        }
+        let flags = u8::from(start.is_some()) | u8::from(end.is_some()) << 1;
+        let numbers = [length, start.unwrap_or(0), end.unwrap_or(0), 0, 0, 0];
+        self.push_built(Row { flags, numbers, ..Row::new(Call::BuildLength) }, &expected, origin);
+        let Some(mut built) = built else { return Ok(()) };
+        for question in self.choose(&built.source.clone(), 60) {
+            self.push_question(&question, Some(&mut built))?;
+        }
+        Ok(())
+    }
+
+    /// Bytes that may be a card.
+    fn card(&mut self, card: Vec<u8>) -> Result<(), String> {
+        let (expected, origin): Expected<Source> = match paper::read_card(&card) {
+            Err(refusal) => (Err(refusal), Origin::Added),
+            Ok(from) => {
+                let case = case_of(from).expect("a card holds its records");
+                let ((expected, origin), _) = settle::build(&case).map_err(|fault| format!("{case:?}: {fault}"))?;
+                (expected.map(Source::Records), origin)
+            }
+        };
+        if self.has_room((Call::BuildCard, [0, number(&expected) as i32, 0, 0, 0]), ALIKE_OTHERS) {
+            self.push_built(Row { payload: card, ..Row::new(Call::BuildCard) }, &expected, origin);
+        }
+        Ok(())
+    }
+
+    /// Bytes that are not just that many records, for building.
+    fn no_records(&mut self, from: Laid<'_>) {
+        let expected = paper::build(from).map(Source::Records);
+        if !self.has_room((Call::Build, [2, number(&expected) as i32, 0, 0, 0]), ALIKE_OTHERS) {
+            return;
+        }
+        let numbers = [from.strand, from.cds_start, from.cds_end, from.count as i32, 0, 0];
+        let row = Row { flags: from.cds as u8, numbers, payload: from.records.to_vec(), ..Row::new(Call::Build) };
+        self.push_built(row, &expected, Origin::Added);
+    }
+
+    fn read_cigar(&mut self, text: &[u8]) -> Result<(), String> {
+        let (expected, origin) = settle::read_cigar(text)?;
+        if !self.has_room((Call::ReadCigar, [number(&expected) as i32, 0, 0, 0, 0]), 4 * ALIKE_OTHERS) {
+            return Ok(());
+        }
+        let elements = expected.as_deref().unwrap_or(&[]);
+        let answer = [number(&expected) as i32, elements.len() as i32, 0, 0, 0, 0, 0, 0];
+        let numbers = [text.len() as i32, 0, 0, 0, 0, 0];
+        let payload = [text, &five_bytes(elements)].concat();
+        self.push(Row { numbers, payload, ..Row::new(Call::ReadCigar) }, answer, origin);
+        Ok(())
+    }
+
+    fn write_cigar(&mut self, elements: &[paper::Counted], number_given: usize, room: usize) {
+        let counts: Vec<i32> = elements.iter().map(|e| e.0 as i32).collect();
+        let letters: Vec<u8> = elements.iter().map(|e| e.1).collect();
+        let expected = paper::write_cigar(number_given, &counts, &letters, room);
+        if !self.has_room((Call::WriteCigar, [number(&expected) as i32, 0, 0, 0, 0]), 2 * ALIKE_OTHERS) {
+            return;
+        }
+        let written = expected.as_deref().unwrap_or(&[]);
+        // The crate prints, and refuses nothing; a count of 0 it prints otherwise.
+        let printed = elements.iter().all(|e| e.0 > 0) && expected.is_ok();
+        let origin = if printed { Origin::Answered } else { Origin::Narrowed };
+        let answer = [number(&expected) as i32, written.len() as i32, 0, 0, 0, 0, 0, 0];
+        let numbers = [number_given as i32, elements.len() as i32, room as i32, 0, 0, 0];
+        let payload = [&five_bytes(elements), written].concat();
+        self.push(Row { numbers, payload, ..Row::new(Call::WriteCigar) }, answer, origin);
+    }
+
+    fn write_card(&mut self, from: Laid<'_>, room: usize) {
+        let expected = paper::write_card(from, room);
+        if !self.has_room((Call::WriteCard, [number(&expected) as i32, from.strand, 0, 0, 0]), ALIKE_OTHERS / 2) {
+            return;
+        }
+        let length = expected.as_ref().map_or(0, Vec::len) as i32;
+        let numbers = [from.strand, from.cds_start, from.cds_end, from.count as i32, room as i32, 0];
+        let row = Row { flags: from.cds as u8, numbers, payload: from.records.to_vec(), ..Row::new(Call::WriteCard) };
+        self.push(row, [number(&expected) as i32, length, 0, 0, 0, 0, 0, 0], Origin::Added);
+    }
+
+    fn trim(&mut self, reference: &[u8], alternative: &[u8]) -> Result<(), String> {
+        let payload = [reference, alternative].concat();
+        let numbers = [reference.len() as i32, 0, 0, 0, 0, 0];
+        let trims = settle::trim(reference, alternative)?;
+        for (call, (expected, origin)) in [Call::TrimPrefix, Call::TrimSuffix].into_iter().zip(trims) {
+            let length = expected.map_or(0, |length| length as i32);
+            let row = Row { numbers, payload: payload.clone(), ..Row::new(call) };
+            self.push(row, [0, length, 0, 0, 0, 0, 0, 0], origin);
+        }
+        let part = paper::changed(reference, alternative);
+        let answer = [0, part.alternative as i32, part.from as i32, part.to as i32, 0, 0, 0, 0];
+        self.push(Row { numbers, payload, ..Row::new(Call::Changed) }, answer, Origin::Added);
+        Ok(())
+    }
+}
+
+/// A record at 0 that holds a CIGAR.
+fn alone(ord: i32, cigar: &[u8]) -> Record {
+    Record { numbers: [0, 0, 0, 0, ord], cigar: cigar.to_vec() }
+}
+
+/// The transcripts of the table of places.
+fn worked() -> Vec<Case> {
+    let case = |strand, cds: Option<[i32; 2]>, records: &[([i32; 5], &str)]| Case {
+        strand,
+        cds_start: cds.map(|c| c[0]),
+        cds_end: cds.map(|c| c[1]),
+        records: records
+            .iter()
+            .map(|(numbers, cigar)| Record { numbers: *numbers, cigar: cigar.as_bytes().to_vec() })
+            .collect(),
+    };
+    vec![
+        case(1, Some([3, 15]), &[([10, 20, 0, 10, 0], "10M"), ([25, 33, 10, 18, 1], "8M")]),
+        case(-1, Some([3, 15]), &[([10, 20, 8, 18, 1], "10M"), ([25, 33, 0, 8, 0], "8M")]),
+        case(1, None, &[([100, 110, 0, 8, 0], "4M2I4M")]),
+        case(1, None, &[([100, 108, 0, 10, 0], "4M2D4M")]),
+    ]
+}
+
+/// What is over a limit, and what is just within.
+fn large() -> Vec<Case> {
+    let case = |strand: i32, records: Vec<Record>| Case { strand, cds_start: None, cds_end: None, records };
+    let many = |count: i32, cigar: &[u8]| (0..count).map(|ord| alone(ord, cigar)).collect::<Vec<_>>();
+    let long = |length: usize| [vec![b'0'; length - 1], b"M".to_vec()].concat();
+    vec![
+        case(1, many(512, b"=M=")),
+        case(1, many(513, b"")),
+        case(1, many(1, &vec![b'D'; MOST_SEGMENTS])),
+        case(1, many(1, &vec![b'D'; MOST_SEGMENTS + 1])),
+        case(1, many(1, &long(MOST_TEXT))),
+        case(1, many(1, &long(MOST_TEXT + 1))),
+        case(1, many(1, b"2000000000M")),
+        case(1, many(1, b"2000000001M")),
+        case(1, many(1, b"2147483647M2147483647M")),
+        case(1, many(1, b"99999999999M")),
+        case(1, many(1, b"99999999999S")),
+        case(1, many(1, b"99999999999")),
+        case(1, many(2, b"")),
+        case(1, many(1, b"")),
+        case(1, many(1, b"0M")),
+    ]
+}
+
+fn draw_all(recorder: &mut Recorder) -> Result<(), String> {
+    for case in worked().iter().chain(&large()) {
+        for _ in 0..2 {
+            recorder.transcript(case)?;
+        }
+    }
+    for (strand, g, n, strict) in [(1, 10, -1, false), (1, 34, 19, true), (-1, 23, 8, true)] {
+        let case = &worked()[usize::from(strand == -1)];
+        let mut built = settle::build(case)?.1.expect("the table's transcripts build");
+        let row = Row { payload: case.card(), ..Row::new(Call::BuildCard) };
+        recorder.push_built(row, &Ok(built.source.clone()), Origin::Answered);
+        let at = Asked { base: g, ..Asked::default() };
+        let question = Question { kind: Kind::GToN, start: at, end: at, missing: 0, strict };
+        recorder.push_question(&question, Some(&mut built))?;
+        assert_eq!(recorder.rows[recorder.rows.len() - 1].answer[2], n);
+    }
+    recorder.card([b"TXC\x01\x00".to_vec(), vec![0; MOST_CARD - 4]].concat())?;
+    for _ in 0..DRAWN {
+        let mut case = draw::case(&mut recorder.rng);
+        case.records.truncate(12);
+        recorder.transcript(&case)?;
+        let card = draw::card(&mut recorder.rng);
+        if card.len() < 1000 {
+            recorder.card(card)?;
+        }
+        recorder.length()?;
+        draw_texts(recorder, &case)?;
+    }
+    Ok(())
+}
+
+/// CIGAR texts, cards and alleles.
+fn draw_texts(recorder: &mut Recorder, case: &Case) -> Result<(), String> {
+    let Some(record) = case.records.first() else { return Ok(()) };
+    recorder.read_cigar(&record.cigar)?;
+    let mut elements = paper::read_cigar(&record.cigar, MOST_SEGMENTS).unwrap_or_default();
+    let rng = &mut recorder.rng;
+    if rng.gen_ratio(1, 5) {
+        let wound = *[(-1, b'M'), (i64::from(i32::MIN), b'='), (3, b'S'), (-1, b'S')].choose(rng).expect("not empty");
+        elements.push(wound);
+    }
+    let room = if rng.gen_ratio(1, 4) { rng.gen_range(0..12) } else { 64 };
+    let number = if rng.gen_ratio(1, 50) { MOST_SEGMENTS + 1 } else { elements.len() };
+    let mut allele =
+        || (0..rng.gen_range(0..7)).map(|_| *b"AC\xff".choose(rng).expect("not empty")).collect::<Vec<u8>>();
+    let alleles = [allele(), allele()];
+    let card_room = if rng.gen_ratio(1, 4) { rng.gen_range(0..60) } else { 1 << 17 };
+    let cut = rng.gen_ratio(1, 10);
+    recorder.write_cigar(&elements, number, room);
+    let mut bytes = case.lay();
+    if cut {
+        bytes.pop();
+        recorder.no_records(case.laid(&bytes));
+    }
+    recorder.write_card(case.laid(&bytes), card_room);
+    if recorder.has_room((Call::Changed, [alleles[0].len() as i32, alleles[1].len() as i32, 0, 0, 0]), 2) {
+        recorder.trim(&alleles[0], &alleles[1])?;
+    }
+    Ok(())
+}
+
+/// Longer texts at the limits.
+fn draw_long(recorder: &mut Recorder) -> Result<(), String> {
+    for text in
+        [vec![b'M'; MOST_SEGMENTS + 1], vec![b'0'; MOST_TEXT + 1], [vec![b'M'; MOST_SEGMENTS], b"S".to_vec()].concat()]
+    {
+        recorder.read_cigar(&text)?;
+    }
+    let long = vec![(i64::from(i32::MAX), b'M'); 400];
+    recorder.write_cigar(&long, long.len(), 5000);
+    for case in large() {
+        let bytes = case.lay();
+        recorder.write_card(case.laid(&bytes), MOST_CARD);
+    }
+    let empty = Case { strand: 1, cds_start: None, cds_end: None, records: Vec::new() };
+    recorder.write_card(empty.laid(&[]), MOST_CARD);
+    Ok(())
+}
+
+/// The file: a head row, then the sample.
+pub fn run() -> Result<Vec<u8>, String> {
+    let mut recorder = Recorder {
+        rng: XorShiftRng::seed_from_u64(SEED),
+        rows: Vec::new(),
+        alike: BTreeMap::new(),
+        lent: Lent::filled(0),
+    };
+    draw_long(&mut recorder)?;
+    draw_all(&mut recorder)?;
+    let mut counts: BTreeMap<(Call, u32), u32> = BTreeMap::new();
+    for row in &recorder.rows {
+        *counts.entry((row.call, row.answer[0] as u32)).or_default() += 1;
+    }
+    for (call, numbers) in WANTED {
+        let line: Vec<String> =
+            numbers.iter().map(|&n| format!("{n}: {}", counts.get(&(call, n)).copied().unwrap_or(0))).collect();
+        eprintln!("{call:?} {}", line.join(", "));
+        if let Some(lacking) = numbers.iter().find(|&&n| !counts.contains_key(&(call, n))) {
+            return Err(format!("the sample has no {call:?} with {lacking}"));
+        }
+    }
+    let mut file = Vec::new();
+    let head = Row { numbers: [1, recorder.rows.len() as i32, 0, 0, 0, 0], ..Row::new(Call::Head) };
+    head.write(&mut file);
+    for row in &recorder.rows {
+        row.write(&mut file);
+    }
+    eprintln!("{} rows, {} bytes", recorder.rows.len(), file.len());
+    Ok(file)
+}

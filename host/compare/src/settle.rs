@@ -1,0 +1,184 @@
+//! What to expect of the port: the crate's answer where it counts, and document 01's where it does not.
+
+use hgvs::mapper::alignment::Mapper;
+use pulindraxi::{boundary::Answer, Refusal};
+use trials::{
+    draw::Case,
+    paper::{self, Aligned, Source},
+    Question,
+};
+
+use crate::original::{self, Outcome};
+
+/// Where an expected answer comes from.
+#[derive(Clone, Copy, Debug, PartialEq, Eq, PartialOrd, Ord)]
+#[repr(u8)]
+pub enum Origin {
+    /// The crate answered.
+    Answered = 1,
+    /// The crate gave an error, which document 01 has under this number.
+    Refused = 2,
+    /// The crate panics or overflows; document 01 says what to expect.
+    Panicked = 3,
+    /// A refusal that narrows the crate applies.
+    Narrowed = 4,
+    /// The crate has no such question, or cannot be asked it.
+    Added = 5,
+}
+
+/// An expected answer or refusal, and where it comes from.
+pub type Expected<T> = (Result<T, Refusal>, Origin);
+
+/// The refusals by which building narrows the crate.
+const NARROWING: [Refusal; 7] = [
+    Refusal::NoStrand,
+    Refusal::TooMuch,
+    Refusal::BadBound,
+    Refusal::BadOrd,
+    Refusal::TooLong,
+    Refusal::NoSegment,
+    Refusal::BadCds,
+];
+
+/// Puts the crate's outcome beside document 01's. Where the crate counts and they differ, that is the error.
+pub fn settle<T: PartialEq + std::fmt::Debug>(
+    outcome: Option<Outcome<T>>,
+    paper: Result<T, Refusal>,
+    narrowed: bool,
+) -> Result<Expected<T>, String> {
+    let (said, origin) = match outcome {
+        None => return Ok((paper, Origin::Added)),
+        Some(_) if narrowed => return Ok((paper, Origin::Narrowed)),
+        Some(Outcome::Panicked) => return Ok((paper, Origin::Panicked)),
+        Some(Outcome::Answered(answer)) => (Ok(answer), Origin::Answered),
+        Some(Outcome::Refused(refusal)) => (Err(refusal), Origin::Refused),
+    };
+    if said == paper {
+        Ok((said, origin))
+    } else {
+        Err(format!("the crate says {said:?}, document 01 {paper:?}"))
+    }
+}
+
+/// Whether every `ord` rises on strand 1, and falls otherwise.
+fn is_in_order(case: &Case) -> bool {
+    case.records.windows(2).all(|pair| {
+        let (before, after) = (pair[0].numbers[4], pair[1].numbers[4]);
+        if case.strand == 1 {
+            before < after
+        } else {
+            before > after
+        }
+    })
+}
+
+/// Whether a refusal narrows the crate on this input. Records out of order are refused by 5, or by 6 where an earlier record
+/// in the list isn't adjacent to the one before it.
+fn is_narrowed<T>(case: &Case, paper: &Result<T, Refusal>) -> bool {
+    match paper {
+        Err(Refusal::NotAdjacent) => !is_in_order(case),
+        Err(refusal) => NARROWING.contains(refusal),
+        Ok(_) => false,
+    }
+}
+
+/// The crate's tables in document 01's form.
+fn aligned(mapper: &Mapper) -> Aligned {
+    let starts = |starts: &[i32]| starts.iter().map(|&start| i64::from(start)).collect();
+    let cigar = &mapper.cigar_mapper;
+    Aligned {
+        strand: i32::from(mapper.strand),
+        first: i64::from(mapper.gc_offset),
+        genome: starts(&cigar.ref_pos),
+        transcript: starts(&cigar.tgt_pos),
+        letters: cigar.cigar_op.iter().map(|&op| char::from(op) as u8).collect(),
+        cds: mapper.cds_start_i.zip(mapper.cds_end_i).map(|(start, end)| (i64::from(start), i64::from(end))),
+    }
+}
+
+/// A transcript in the crate and in document 01.
+pub struct Built {
+    /// Document 01's.
+    pub source: Source,
+    /// The crate's.
+    pub mapper: Mapper,
+}
+
+/// What to expect of building, and the transcript where both built one.
+pub fn build(case: &Case) -> Result<(Expected<Aligned>, Option<Built>), String> {
+    let bytes = case.lay();
+    let paper = paper::build(case.laid(&bytes));
+    let narrowed = is_narrowed(case, &paper);
+    let mut mapper = None;
+    let outcome = original::build(case).map(|outcome| {
+        outcome.map(|built| {
+            let aligned = aligned(&built);
+            mapper = Some(built);
+            aligned
+        })
+    });
+    let expected = settle(outcome, paper, narrowed)?;
+    let built = match (&expected.0, mapper) {
+        (Ok(aligned), Some(mapper)) => Some(Built { source: Source::Records(aligned.clone()), mapper }),
+        _ => None,
+    };
+    Ok((expected, built))
+}
+
+/// What to expect of building from a length, and the transcript where both built one.
+pub fn build_length(
+    length: i32,
+    cds_start: Option<i32>,
+    cds_end: Option<i32>,
+) -> Result<(Expected<Source>, Option<Built>), String> {
+    let case = Case { strand: 1, cds_start, cds_end, records: Vec::new() };
+    let from = case.laid(&[]);
+    let paper = paper::build_length(length, from.cds, from.cds_start, from.cds_end);
+    let narrowed = is_narrowed(&case, &paper);
+    let mut mapper = None;
+    let outcome = original::build_length(length, cds_start, cds_end).map(|built| {
+        let cds = built.cds_start_i.zip(built.cds_end_i).map(|(start, end)| (i64::from(start), i64::from(end)));
+        let source = Source::Length(i64::from(built.tgt_len), cds);
+        mapper = Some(built);
+        source
+    });
+    let expected = settle(Some(outcome), paper, narrowed)?;
+    let built = match (&expected.0, mapper) {
+        (Ok(source), Some(mapper)) => Some(Built { source: source.clone(), mapper }),
+        _ => None,
+    };
+    Ok((expected, built))
+}
+
+/// What to expect of a question.
+pub fn ask(built: &mut Built, question: &Question) -> Result<Expected<Answer>, String> {
+    let answer = question.expect(Some(&built.source));
+    let paper = match Refusal::from_number(answer.number) {
+        Some(refusal) => Err(refusal),
+        None => Ok(answer),
+    };
+    let narrowed = paper == Err(Refusal::NoGenome);
+    settle(Some(original::ask(&mut built.mapper, question)), paper, narrowed)
+}
+
+/// What to expect of reading CIGAR text: the elements.
+pub fn read_cigar(text: &[u8]) -> Result<Expected<Vec<paper::Counted>>, String> {
+    let paper = paper::read_cigar(text, pulindraxi::limits::MOST_SEGMENTS);
+    let narrowed = paper == Err(Refusal::TooMuch);
+    let outcome = original::read_cigar(text).map(|outcome| {
+        outcome
+            .map(|cigar| cigar.iter().map(|element| (i64::from(element.count), char::from(element.op) as u8)).collect())
+    });
+    settle(outcome, paper, narrowed)
+}
+
+/// What to expect of trimming the front and the back.
+pub fn trim(reference: &[u8], alternative: &[u8]) -> Result<[Expected<usize>; 2], String> {
+    let paper = [paper::prefix(reference, alternative), paper::suffix(reference, alternative)];
+    let beyond_ascii = !reference.is_ascii() || !alternative.is_ascii();
+    let [front, back] = match original::trim(reference, alternative) {
+        Some([front, back]) => [Some(front), Some(back)],
+        None => [None, None],
+    };
+    Ok([settle(front, Ok(paper[0]), beyond_ascii)?, settle(back, Ok(paper[1]), beyond_ascii)?])
+}

@@ -1,0 +1,40 @@
+//! Maps genome positions (g.) to transcript (n.) and coding (c.) numbers and back, through entries that are proved.
+//!
+//! A [`Transcript`] is built from exon records, from a card or from a length alone, and is then asked. Positions are read
+//! and written as HGVS names. What cannot be answered is a [`Refusal`] with the number and the words of document 01.
+//!
+//! ```
+//! use pulindraxi::{Bounds, Exon, Input, Transcript};
+//!
+//! let exons = [
+//!     Exon { alt_start_i: 10, alt_end_i: 20, tx_start_i: 0, tx_end_i: 10, ord: 0, cigar: b"10M" },
+//!     Exon { alt_start_i: 25, alt_end_i: 33, tx_start_i: 10, tx_end_i: 18, ord: 1, cigar: b"8M" },
+//! ];
+//! let input = Input { strand: 1, cds_start: Some(3), cds_end: Some(15), exons: &exons };
+//! let transcript = Transcript::build(&input)?;
+//!
+//! let c = transcript.g_to_c("g.24".parse()?, Bounds::Strict)?;
+//! assert_eq!(c.to_string(), "c.8-2");
+//! assert_eq!(transcript.c_to_g(c.interval(), Bounds::Strict)?.to_string(), "g.24");
+//! # Ok::<(), Box<dyn std::error::Error>>(())
+//! ```
+//!
+//! The entries are linked from `libentry.a`, which `rt staticlib entry` proves and writes. The library needs nothing but the
+//! standard library. A host that keeps off the heap builds a [`Room`] from a card and asks it.
+
+pub mod alleles;
+pub mod boundary;
+pub mod cigar;
+mod input;
+pub mod limits;
+pub mod name;
+mod position;
+mod refusal;
+mod transcript;
+
+pub use cigar::Element;
+pub use input::{Exon, Input};
+pub use name::{Named, NoName};
+pub use position::{CInterval, CPosition, GInterval, Mapped, NInterval, NPosition};
+pub use refusal::Refusal;
+pub use transcript::{Bounds, Room, Segment, Transcript};

@@ -1,0 +1,14 @@
+//! The limits of document 01, each named once.
+
+/// The most exon records of a transcript.
+pub const MOST_RECORDS: usize = 512;
+/// The most segments of a transcript.
+pub const MOST_SEGMENTS: usize = 2048;
+/// The length of a table of starts: one for each segment, and the total.
+pub const MOST_STARTS: usize = MOST_SEGMENTS + 1;
+/// The most bytes of a CIGAR's text.
+pub const MOST_TEXT: usize = 4096;
+/// The most bytes of a card.
+pub const MOST_CARD: usize = 65_536;
+/// The largest transcript length, and the largest genome end.
+pub const MOST_BASES: u32 = 2_000_000_000;

@@ -1,0 +1,104 @@
+//! The refusals of document 01, by name, number and words.
+
+use std::{error::Error, fmt};
+
+macro_rules! refusals {
+    ($($number:literal $name:ident $words:literal)*) => {
+        /// Why a question or a building was refused. The number and the words are document 01's.
+        ///
+        /// ```
+        /// use pulindraxi::Refusal;
+        ///
+        /// assert_eq!(Refusal::Outside.number(), 14);
+        /// assert_eq!(Refusal::from_number(14), Some(Refusal::Outside));
+        /// assert_eq!(Refusal::Outside.to_string(), "refused 14: strict: place outside the from-table");
+        /// ```
+        #[derive(Clone, Copy, Debug, PartialEq, Eq, PartialOrd, Ord, Hash)]
+        #[repr(u32)]
+        pub enum Refusal {
+            $(#[doc = $words] $name = $number,)*
+        }
+
+        impl Refusal {
+            /// Every refusal, in the order of the numbers.
+            pub const ALL: &'static [Refusal] = &[$(Refusal::$name,)*];
+
+            /// Document 01's words: it is given exactly when these hold.
+            pub const fn words(self) -> &'static str {
+                match self {
+                    $(Refusal::$name => $words,)*
+                }
+            }
+        }
+    };
+}
+
+refusals! {
+    1 NoRecords "no exon records"
+    2 NoStrand "strand is neither 1 nor -1"
+    3 TooMuch "over 512 records, a CIGAR over 4,096 bytes, a segment past 2,048, a card over 65,536 bytes"
+    4 BadBound "a record's bound or a given length negative, a record's end below its start, a genome start below the previous end"
+    5 BadOrd "`ord` not strictly rising (strand 1) or falling (strand -1)"
+    6 NotAdjacent "consecutive exons in `ord` order: `tx_end_i` differs from the next `tx_start_i`"
+    7 NoElement "a CIGAR byte or end where an element can't be finished; in writing, a letter not of the six"
+    8 BadCount "a finished element's count above 2,147,483,647; in writing, a negative count"
+    9 TooLong "transcript length, or first start plus genome length, above 2,000,000,000"
+    10 NoSegment "no segment at all"
+    11 HalfCds "one CDS bound given, the other not"
+    12 BadCds "not 0 <= start <= end <= transcript length"
+    13 NotCoding "c. asked, no CDS"
+    14 Outside "strict: place outside the from-table"
+    15 NOutside "strict n. to c.: start number <= 0, or end number above the length"
+    16 COutside "strict c. to n.: number <= 0 or above the length"
+    17 TooWide "a result number doesn't fit 32 signed bits"
+    18 NoGenome "g. asked of a length-only transcript"
+    19 MissingEnd "g. start or end missing"
+    20 NoRoom "text longer than the lent buffer"
+    21 NoCard "bytes that are no card"
+    22 BadVersion "card version not 1"
+    23 NotTogether "a transcript that doesn't hold together"
+}
+
+impl Refusal {
+    /// Document 01's number.
+    pub const fn number(self) -> u32 {
+        self as u32
+    }
+
+    /// The refusal of a number; none for 0 and above 23.
+    pub fn from_number(number: u32) -> Option<Refusal> {
+        Refusal::ALL.get((number as usize).checked_sub(1)?).copied()
+    }
+
+    /// What an entry's number says: answered, or refused.
+    pub(crate) fn check(number: u32) -> Result<(), Refusal> {
+        match number {
+            0 => Ok(()),
+            _ => Err(Refusal::from_number(number).expect("the entries give no number above 23")),
+        }
+    }
+}
+
+impl fmt::Display for Refusal {
+    fn fmt(&self, f: &mut fmt::Formatter<'_>) -> fmt::Result {
+        write!(f, "refused {}: {}", self.number(), self.words())
+    }
+}
+
+impl Error for Refusal {}
+
+#[cfg(test)]
+mod tests {
+    use super::*;
+
+    #[test]
+    fn numbers_run_from_1_to_23() {
+        for (index, refusal) in Refusal::ALL.iter().enumerate() {
+            assert_eq!(refusal.number() as usize, index + 1);
+            assert_eq!(Refusal::from_number(refusal.number()), Some(*refusal));
+        }
+        assert_eq!(Refusal::ALL.len(), 23);
+        assert_eq!(Refusal::from_number(0), None);
+        assert_eq!(Refusal::from_number(24), None);
+    }
+}

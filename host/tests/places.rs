@@ -1,0 +1,128 @@
+//! The table of places of document 01, asked through the safe functions.
+
+use pulindraxi::{alleles, cigar, Bounds, Element, Exon, Input, Refusal, Room, Transcript};
+
+/// Transcript A, or B on strand -1.
+fn transcript(strand: i32) -> Transcript {
+    let tx = if strand == 1 { [[0, 10], [10, 18]] } else { [[8, 18], [0, 8]] };
+    let exon = |alt: [i32; 2], tx: [i32; 2], cigar| Exon {
+        alt_start_i: alt[0],
+        alt_end_i: alt[1],
+        tx_start_i: tx[0],
+        tx_end_i: tx[1],
+        ord: tx[0],
+        cigar,
+    };
+    let exons = [exon([10, 20], tx[0], b"10M"), exon([25, 33], tx[1], b"8M")];
+    Transcript::build(&Input { strand, cds_start: Some(3), cds_end: Some(15), exons: &exons }).unwrap()
+}
+
+/// One exon without a CDS.
+fn alone(start: i32, end: i32, length: i32, cigar: &[u8]) -> Transcript {
+    let exons = [Exon { alt_start_i: start, alt_end_i: end, tx_start_i: 0, tx_end_i: length, ord: 0, cigar }];
+    Transcript::build(&Input { strand: 1, cds_start: None, cds_end: None, exons: &exons }).unwrap()
+}
+
+/// An answer's name, or the refusal's number.
+fn said<T: ToString>(answer: Result<T, Refusal>) -> String {
+    answer.map_or_else(|refusal| refusal.number().to_string(), |name| name.to_string())
+}
+
+fn g_to_n(room: &Room, g: &str, bounds: Bounds) -> String {
+    said(room.g_to_n(g.parse().unwrap(), bounds))
+}
+
+fn g_to_c(room: &Room, g: &str, bounds: Bounds) -> String {
+    said(room.g_to_c(g.parse().unwrap(), bounds))
+}
+
+#[test]
+fn p1_to_p9_on_a() {
+    let a = transcript(1);
+    for (g, n, c) in [
+        ("g.11", "n.1", "c.-3"),
+        ("g.13", "n.3", "c.-1"),
+        ("g.14", "n.4", "c.1"),
+        ("g.21", "n.10+1", "c.7+1"),
+        ("g.23", "n.10+3", "c.7+3"),
+        ("g.24", "n.11-2", "c.8-2"),
+        ("g.33", "n.18", "c.*3"),
+        ("g.34", "n.19", "15"),
+        ("g.35", "14", "14"),
+        ("g.10", "14", "14"),
+    ] {
+        assert_eq!(g_to_n(&a, g, Bounds::Strict), n, "{g}");
+        assert_eq!(g_to_c(&a, g, Bounds::Strict), c, "{g}");
+    }
+    assert_eq!(g_to_n(&a, "g.10", Bounds::Lenient), "n.-1");
+    assert_eq!(g_to_c(&a, "g.10", Bounds::Lenient), "c.-4");
+}
+
+#[test]
+fn c_leads_back_on_a() {
+    let a = transcript(1);
+    for (c, n, g) in [("c.-3", "n.1", "g.11"), ("c.7+3", "n.10+3", "g.23"), ("c.*3", "n.18", "g.33")] {
+        assert_eq!(said(a.c_to_n(c.parse().unwrap(), Bounds::Strict)), n);
+        assert_eq!(said(a.n_to_c(n.parse().unwrap(), Bounds::Strict)), c);
+        assert_eq!(said(a.c_to_g(c.parse().unwrap(), Bounds::Strict)), g);
+        assert_eq!(said(a.n_to_g(n.parse().unwrap(), Bounds::Strict)), g);
+    }
+}
+
+#[test]
+fn p10_and_p11_on_b_with_the_exchange() {
+    let b = transcript(-1);
+    assert_eq!(g_to_n(&b, "g.33", Bounds::Strict), "n.1");
+    assert_eq!(g_to_n(&b, "g.23", Bounds::Strict), "n.8+3");
+    assert_eq!(g_to_c(&b, "g.23", Bounds::Strict), "c.5+3");
+    assert_eq!(g_to_n(&b, "g.11_33", Bounds::Strict), "n.1_18");
+    assert_eq!(g_to_n(&b, "g.22_33", Bounds::Strict), "n.1_9-2");
+    assert_eq!(said(b.n_to_g("n.1_18".parse().unwrap(), Bounds::Strict)), "g.11_33");
+}
+
+#[test]
+fn p12_and_p13_are_uncertain() {
+    let inserted = alone(100, 110, 8, b"4M2I4M");
+    assert_eq!(g_to_n(&inserted, "g.105_105", Bounds::Strict), "n.(4_5)");
+    let deleted = alone(100, 108, 10, b"4M2D4M");
+    assert_eq!(said(deleted.n_to_g("n.5_5".parse().unwrap(), Bounds::Strict)), "g.(104_105)");
+    assert_eq!(g_to_n(&deleted, "g.105", Bounds::Strict), "n.7");
+}
+
+#[test]
+fn p14_and_p15() {
+    let elements = cigar::read(b"M0X3=").unwrap();
+    assert_eq!(elements, [Element::new(1, b'M'), Element::new(0, b'X'), Element::new(3, b'=')]);
+    assert_eq!(cigar::write(&elements).unwrap(), b"M0X3=");
+    assert_eq!(alleles::trim_prefix(b"ACGT", b"ACT"), (2, &b"GT"[..], &b"T"[..]));
+    assert_eq!(alleles::changed(b"ACGT", b"ACT"), alleles::Changed::Reference(b"G"));
+}
+
+#[test]
+fn questions_of_yes_and_no() {
+    let a = transcript(1);
+    assert_eq!(a.is_coding(), Ok(true));
+    assert_eq!(a.is_in_bounds("g.11_34".parse().unwrap()), Ok(true));
+    assert_eq!(a.is_in_bounds("g.10_33".parse().unwrap()), Ok(false));
+    assert_eq!(a.is_in_bounds("g.?_33".parse().unwrap()), Err(Refusal::MissingEnd));
+    assert_eq!(alone(0, 1, 1, b"M").is_coding(), Ok(false));
+}
+
+#[test]
+fn segments_and_lengths() {
+    let a = transcript(1);
+    let lines: Vec<_> = a.segments().map(|s| (s.letter, s.genome, s.transcript, s.count)).collect();
+    assert_eq!(lines, [(b'M', 0, 0, 10), (b'N', 10, 10, 5), (b'M', 15, 10, 8)]);
+    assert_eq!((a.strand(), a.segment_count(), a.genome_length(), a.transcript_length()), (1, 3, 23, 18));
+}
+
+#[test]
+fn a_cigar_beyond_a_cards_size_is_too_much() {
+    let text = vec![b'M'; 70_000];
+    let exon = |cigar, ord| Exon { alt_start_i: 0, alt_end_i: 0, tx_start_i: 0, tx_end_i: 0, ord, cigar };
+    let build = |exons: &[Exon<'_>]| {
+        Transcript::build(&Input { strand: 1, cds_start: None, cds_end: None, exons }).unwrap_err()
+    };
+    assert_eq!(build(&[exon(&text, 0)]), Refusal::TooMuch);
+    assert_eq!(build(&[exon(&text, 0), exon(b"M", 0)]), Refusal::BadOrd);
+}

@@ -1,0 +1,216 @@
+//! What holds of any input, tried on random ones: what was written reads back, names lead back to their bases, and no bytes
+//! and no damage bring more than a refusal that leaves lent memory as it was.
+
+use proptest::{collection::vec, prelude::*, sample::select};
+use pulindraxi::{
+    alleles, cigar, Bounds, Element, Exon, GInterval, Input, Mapped, NInterval, Refusal, Room, Transcript,
+};
+
+/// Elements with counts from 0 on.
+fn elements(most: usize) -> impl Strategy<Value = Vec<Element>> {
+    let element = (0..30i32, select(&b"=DIMNX"[..])).prop_map(|(count, letter)| Element::new(count, letter));
+    vec(element, 0..most)
+}
+
+/// A record's elements and the gap before it.
+type Part = (Vec<Element>, i32);
+
+fn reach(elements: &[Element], still: &[u8]) -> i32 {
+    elements.iter().filter(|e| !still.contains(&e.letter)).map(|e| e.count).sum()
+}
+
+/// Calls a function with building's input of records that match their CIGARs.
+fn with_input<T>(strand: i32, first: i32, parts: &[Part], coding: bool, f: impl FnOnce(&Input<'_>) -> T) -> T {
+    let texts: Vec<_> = parts.iter().map(|(elements, _)| cigar::write(elements).unwrap()).collect();
+    let total: i32 = parts.iter().map(|(elements, _)| reach(elements, b"IN")).sum();
+    let (mut alt, mut tx) = (first, if strand == 1 { 0 } else { total });
+    let mut exons = Vec::new();
+    for (index, ((elements, gap), cigar)) in parts.iter().zip(&texts).enumerate() {
+        let (start, long) = (alt + gap, reach(elements, b"IN"));
+        alt = start + reach(elements, b"D");
+        let tx_start = if strand == 1 { tx } else { tx - long };
+        tx += strand * long;
+        exons.push(Exon {
+            alt_start_i: start,
+            alt_end_i: alt,
+            tx_start_i: tx_start,
+            tx_end_i: tx_start + long,
+            ord: strand * index as i32,
+            cigar,
+        });
+    }
+    let cds = coding.then_some((total / 3, total - total / 4));
+    f(&Input { strand, cds_start: cds.map(|c| c.0), cds_end: cds.map(|c| c.1), exons: &exons })
+}
+
+/// Strand, first start, records and whether it codes.
+fn transcripts() -> impl Strategy<Value = (i32, i32, Vec<Part>, bool)> {
+    (select(&[1, -1][..]), 0..1000i32, vec((elements(5), 0..9i32), 1..6), any::<bool>())
+}
+
+fn bounds() -> impl Strategy<Value = Bounds> {
+    select(&[Bounds::Strict, Bounds::Lenient][..])
+}
+
+/// A number at a limit, small, or any.
+fn number() -> impl Strategy<Value = i32> {
+    prop_oneof![
+        select(&[i32::MIN, -2_000_000_001, -1, 0, 1, 2_047, 2_048, 2_049, 2_000_000_000, 2_000_000_001, i32::MAX][..]),
+        -20..60i32,
+        any::<i32>(),
+    ]
+}
+
+proptest! {
+    #![proptest_config(ProptestConfig { cases: 4096, failure_persistence: None, ..ProptestConfig::default() })]
+
+    #[test]
+    fn written_elements_read_back(elements in elements(60)) {
+        let text = cigar::write(&elements).unwrap();
+        prop_assert_eq!(cigar::read(&text).unwrap(), elements);
+    }
+
+    #[test]
+    fn a_card_builds_what_it_was_written_from((strand, first, parts, coding) in transcripts()) {
+        with_input(strand, first, &parts, coding, |input| {
+            match (input.card(), Transcript::build(input)) {
+                (Ok(card), Ok(built)) => prop_assert_eq!(Transcript::from_card(&card).unwrap(), built),
+                (card, built) => prop_assert_eq!(card.unwrap_err(), built.unwrap_err()),
+            }
+            Ok(())
+        })?;
+    }
+
+    #[test]
+    fn matched_bases_lead_back((strand, first, parts, coding) in transcripts(), at in any::<u32>()) {
+        let built = with_input(strand, first, &parts, coding, Transcript::build);
+        prop_assume!(built.is_ok());
+        let room = built.unwrap();
+        let matched: Vec<_> = room.segments().filter(|s| b"=MX".contains(&s.letter) && s.count > 0).collect();
+        prop_assume!(!matched.is_empty());
+        let segment = matched[at as usize % matched.len()];
+        let g = GInterval::at(room.head[2] + 1 + (segment.genome + at % segment.count) as i32);
+        let n = room.g_to_n(g, Bounds::Strict).unwrap();
+        prop_assert!(n.is_certain());
+        prop_assert_eq!(room.n_to_g(n.interval(), Bounds::Strict), Ok(Mapped::Certain(g)));
+        if coding {
+            let c = room.g_to_c(g, Bounds::Strict).unwrap();
+            prop_assert_eq!(room.c_to_g(c.interval(), Bounds::Strict), Ok(Mapped::Certain(g)));
+        }
+    }
+
+    #[test]
+    fn strict_answers_are_lenient_ones((strand, first, parts, coding) in transcripts(), g in number(), h in -5..300i32) {
+        if let Ok(room) = with_input(strand, first, &parts, coding, Transcript::build) {
+            for g in [GInterval::at(g), GInterval::at(first + h), GInterval::new(first + h, first + h + 3)] {
+                if let Ok(n) = room.g_to_n(g, Bounds::Strict) {
+                    prop_assert_eq!(room.g_to_n(g, Bounds::Lenient), Ok(n));
+                }
+            }
+        }
+    }
+
+    #[test]
+    fn any_bytes_as_a_card(bytes in vec(any::<u8>(), 0..200), known in 0..6usize) {
+        let mut card = bytes;
+        for (byte, mark) in card.iter_mut().zip(b"TXC\x01\x00").take(known) {
+            *byte = *mark;
+        }
+        let mut room = Box::new(Room::new());
+        room.head = [7; 8];
+        let before = room.clone();
+        if room.build_card(&card).is_err() {
+            prop_assert!(room == before);
+        }
+    }
+
+    #[test]
+    fn a_damaged_card((strand, first, parts, coding) in transcripts(), at in any::<usize>(), byte in any::<u8>(), cut in any::<bool>()) {
+        if let Ok(mut card) = with_input(strand, first, &parts, coding, |input| input.card()) {
+            let at = at % card.len();
+            if cut { card.truncate(at) } else { card[at] = byte }
+            let mut room = Box::new(Room::new());
+            let before = room.clone();
+            match room.build_card(&card) {
+                Ok(()) => prop_assert!(room.is_coding().is_ok()),
+                Err(_) => prop_assert!(room == before),
+            }
+        }
+    }
+
+    #[test]
+    fn damaged_memory_is_asked((strand, first, parts, coding) in transcripts(), wounds in vec((0..4u8, 0..12usize, number()), 0..3),
+                               a in number(), ao in number(), b in number(), bo in number(), bounds in bounds()) {
+        let mut room = Box::new(Room::new());
+        let _ = with_input(strand, first, &parts, coding, |input| room.build(input));
+        for (table, index, number) in wounds {
+            match table {
+                0 => room.head[index % 8] = number,
+                1 => room.genome[index] = number as u32,
+                2 => room.transcript[index] = number as u32,
+                _ => room.letters[index] = number as u8,
+            }
+        }
+        let before = room.clone();
+        let together = room.is_coding() != Err(Refusal::NotTogether);
+        let n = NInterval::new(pulindraxi::NPosition::new(a, ao), pulindraxi::NPosition::new(b, bo));
+        let c = pulindraxi::CInterval::new(pulindraxi::CPosition::new(a, ao), pulindraxi::CPosition::star(b, bo));
+        let g = GInterval::new(a, b);
+        let refused = [
+            room.g_to_n(g, bounds).err(),
+            room.g_to_c(g, bounds).err(),
+            room.n_to_g(n, bounds).err(),
+            room.n_to_c(n, bounds).err(),
+            room.c_to_n(c, bounds).err(),
+            room.c_to_g(c, bounds).err(),
+            room.is_in_bounds(g).err(),
+        ];
+        for refusal in refused {
+            prop_assert_eq!(refusal == Some(Refusal::NotTogether), !together);
+        }
+        prop_assert!(room == before);
+    }
+
+    #[test]
+    fn a_length_alone(length in number(), start in number(), end in number(), n in number()) {
+        let mut room = Box::new(Room::new());
+        let before = room.clone();
+        match room.build_length(length, Some(start), Some(end)) {
+            Ok(()) => {
+                let n = NInterval::at(pulindraxi::NPosition::new(n, 0));
+                if let Ok(c) = room.n_to_c(n, Bounds::Strict) {
+                    prop_assert_eq!(room.c_to_n(c, Bounds::Strict), Ok(n));
+                }
+                prop_assert_eq!(room.n_to_g(n, Bounds::Lenient), Err(Refusal::NoGenome));
+            }
+            Err(_) => prop_assert!(room == before),
+        }
+    }
+
+    #[test]
+    fn a_short_buffer_stays(elements in elements(20), room in 0..80usize) {
+        let text = cigar::write(&elements).unwrap();
+        let mut buffer = vec![b'.'; room];
+        match cigar::write_into(&elements, &mut buffer) {
+            Ok(length) => {
+                prop_assert_eq!(&buffer[..length], &text[..]);
+                prop_assert!(buffer[length..].iter().all(|&b| b == b'.'));
+            }
+            Err(refusal) => {
+                prop_assert_eq!(refusal, Refusal::NoRoom);
+                prop_assert!(room < text.len() && buffer.iter().all(|&b| b == b'.'));
+            }
+        }
+    }
+
+    #[test]
+    fn trimming_leaves_no_common_end(reference in "[ACGT]{0,12}", alternative in "[ACGT]{0,12}") {
+        let (reference, alternative) = (reference.as_bytes(), alternative.as_bytes());
+        let (common, r, a) = alleles::trim_prefix(reference, alternative);
+        prop_assert_eq!(&reference[..common], &alternative[..common]);
+        prop_assert!(r.is_empty() || a.is_empty() || r[0] != a[0]);
+        let (common, r, a) = alleles::trim_suffix(reference, alternative);
+        prop_assert_eq!(&reference[reference.len() - common..], &alternative[alternative.len() - common..]);
+        prop_assert!(r.is_empty() || a.is_empty() || r[r.len() - 1] != a[a.len() - 1]);
+    }
+}

@@ -1,0 +1,360 @@
+//! Input drawn at random: transcripts, faults in them, damage to memory, questions.
+
+use pulindraxi::boundary::Laid;
+use rand::{seq::SliceRandom, Rng};
+
+use crate::{
+    paper::{Aligned, Asked, Source},
+    Kind, Lent, Question,
+};
+
+/// Numbers at and around the limits.
+pub const LIMITS: [i32; 22] = [
+    i32::MIN,
+    i32::MIN + 1,
+    -2_000_000_001,
+    -2_000_000_000,
+    -65_537,
+    -2,
+    -1,
+    0,
+    1,
+    2,
+    3,
+    4,
+    512,
+    2_047,
+    2_048,
+    2_049,
+    65_536,
+    1_999_999_999,
+    2_000_000_000,
+    2_000_000_001,
+    i32::MAX - 1,
+    i32::MAX,
+];
+
+/// A number at a limit, a small one, or any.
+pub fn number<R: Rng>(rng: &mut R) -> i32 {
+    match rng.gen_range(0..10) {
+        0..=4 => *LIMITS.choose(rng).expect("not empty"),
+        5..=7 => rng.gen_range(-20..60),
+        _ => rng.gen(),
+    }
+}
+
+/// One exon record.
+#[derive(Clone, Debug, PartialEq, Eq)]
+pub struct Record {
+    /// `alt_start_i`, `alt_end_i`, `tx_start_i`, `tx_end_i`, `ord`.
+    pub numbers: [i32; 5],
+    /// The CIGAR.
+    pub cigar: Vec<u8>,
+}
+
+/// Building's input.
+#[derive(Clone, Debug, PartialEq, Eq)]
+pub struct Case {
+    /// 1 or -1, if it is to build.
+    pub strand: i32,
+    /// The CDS start, if given.
+    pub cds_start: Option<i32>,
+    /// The CDS end, if given.
+    pub cds_end: Option<i32>,
+    /// The records.
+    pub records: Vec<Record>,
+}
+
+impl Case {
+    /// The records laid out as in a card. A CIGAR is at most 65,535 bytes.
+    pub fn lay(&self) -> Vec<u8> {
+        let mut bytes = Vec::new();
+        for record in &self.records {
+            for number in record.numbers {
+                bytes.extend(number.to_le_bytes());
+            }
+            bytes.extend((record.cigar.len() as u16).to_le_bytes());
+            bytes.extend(&record.cigar);
+        }
+        bytes
+    }
+
+    /// The input at the boundary, over records that [`Case::lay`] laid out.
+    pub fn laid<'a>(&self, records: &'a [u8]) -> Laid<'a> {
+        Laid {
+            strand: self.strand,
+            cds: self.cds_bits(),
+            cds_start: self.cds_start.unwrap_or(0),
+            cds_end: self.cds_end.unwrap_or(0),
+            count: self.records.len(),
+            records,
+        }
+    }
+
+    /// The card of the input, whether it builds or not. Any strand but -1 is written as plus.
+    pub fn card(&self) -> Vec<u8> {
+        let mut card = b"TXC\x01\x00".to_vec();
+        card.push(u8::from(self.strand == -1));
+        card.push(self.cds_bits() as u8);
+        card.extend(self.cds_start.unwrap_or(0).to_le_bytes());
+        card.extend(self.cds_end.unwrap_or(0).to_le_bytes());
+        card.extend((self.records.len() as u16).to_le_bytes());
+        card.extend(self.lay());
+        card
+    }
+
+    fn cds_bits(&self) -> u32 {
+        u32::from(self.cds_start.is_some()) | u32::from(self.cds_end.is_some()) << 1
+    }
+}
+
+/// How far a CIGAR goes on both sides.
+#[derive(Clone, Copy, Default)]
+struct Reach {
+    genome: i64,
+    transcript: i64,
+}
+
+/// A count as digits: now and then with leading zeros, and 1 with or without.
+fn digits<R: Rng>(rng: &mut R, count: i64, text: &mut Vec<u8>) {
+    if count == 1 && rng.gen() {
+        return;
+    }
+    if rng.gen_ratio(1, 12) {
+        text.extend(b"00");
+    }
+    text.extend(count.to_string().bytes());
+}
+
+/// A CIGAR of some elements with counts up to a largest, and how far it goes.
+fn cigar<R: Rng>(rng: &mut R, elements: usize, largest: i64) -> (Vec<u8>, Reach) {
+    let mut text = Vec::new();
+    let mut reach = Reach::default();
+    for _ in 0..elements {
+        let count = if rng.gen_ratio(1, 6) { 0 } else { rng.gen_range(1..=largest) };
+        let letter = *b"=MXMIDN".choose(rng).expect("not empty");
+        digits(rng, count, &mut text);
+        text.push(letter);
+        reach.genome += if crate::paper::along_genome(letter) { count } else { 0 };
+        reach.transcript += if crate::paper::along_transcript(letter) { count } else { 0 };
+    }
+    (text, reach)
+}
+
+fn narrow(number: i64) -> i32 {
+    number.clamp(0, i64::from(i32::MAX)) as i32
+}
+
+/// A transcript that builds, unless its numbers grow too large. Records need not match their CIGARs.
+pub fn whole<R: Rng>(rng: &mut R) -> Case {
+    let strand = if rng.gen() { 1 } else { -1 };
+    let (count, most_elements, largest) = match rng.gen_range(0..1000) {
+        0 => (rng.gen_range(400..=512), 4, 9),
+        1..=9 => (rng.gen_range(13..=60), 5, 60),
+        10..=49 => (rng.gen_range(1..=3), 4, 200_000_000),
+        50..=449 => (rng.gen_range(4..=9), 5, 12),
+        _ => (rng.gen_range(1..=3), 6, 5),
+    };
+    let matching = rng.gen_ratio(2, 3);
+    let largest_gap = *[0, 3, 9, 1000].choose(rng).expect("not empty");
+    let mut at = match rng.gen_range(0..10) {
+        0..=2 => 0,
+        3..=6 => rng.gen_range(0..30),
+        7..=8 => rng.gen_range(0..250_000_000),
+        _ => rng.gen_range(1_999_999_900..=2_000_000_000),
+    };
+    let mut records = Vec::new();
+    let mut reach = Reach::default();
+    for _ in 0..count {
+        let elements = rng.gen_range(usize::from(count == 1)..=most_elements);
+        let (cigar, own) = cigar(rng, elements, largest);
+        let end = at + if matching { own.genome } else { rng.gen_range(0..=largest) };
+        let long = if matching { own.transcript } else { rng.gen_range(0..=largest) };
+        records.push(Record { numbers: [narrow(at), narrow(end), 0, narrow(long), 0], cigar });
+        reach.transcript += own.transcript;
+        at = narrow(end).into();
+        at += rng.gen_range(0..=largest_gap);
+    }
+    number_exons(rng, strand, &mut records);
+    let (cds_start, cds_end) = cds(rng, narrow(reach.transcript));
+    Case { strand, cds_start, cds_end, records }
+}
+
+/// Gives the records their `ord` and tx bounds; each has its tx length where its tx end will stand.
+fn number_exons<R: Rng>(rng: &mut R, strand: i32, records: &mut [Record]) {
+    let mut ord = rng.gen_range(-2..3);
+    let mut at = if rng.gen_ratio(1, 8) { rng.gen_range(0..50) } else { 0 };
+    let count = records.len();
+    for index in 0..count {
+        let record = &mut records[if strand == 1 { index } else { count - 1 - index }];
+        let end = narrow(i64::from(at) + i64::from(record.numbers[3]));
+        record.numbers[2..].copy_from_slice(&[at, end, ord]);
+        at = end;
+        ord += rng.gen_range(1..3);
+    }
+}
+
+/// CDS bounds within a length, or none.
+fn cds<R: Rng>(rng: &mut R, length: i32) -> (Option<i32>, Option<i32>) {
+    if rng.gen_ratio(1, 5) {
+        return (None, None);
+    }
+    let (a, b) = (rng.gen_range(0..=length), rng.gen_range(0..=length));
+    match rng.gen_range(0..8) {
+        0 => (Some(0), Some(length)),
+        1 => (Some(a), Some(a)),
+        _ => (Some(a.min(b)), Some(a.max(b))),
+    }
+}
+
+/// Puts one fault, or what may be one, into a transcript.
+pub fn spoil<R: Rng>(rng: &mut R, case: &mut Case) {
+    let index = rng.gen_range(0..case.records.len());
+    let record = &mut case.records[index];
+    match rng.gen_range(0..12) {
+        0 => case.strand = *[0, 2, -2, i32::from(i16::MAX)].choose(rng).expect("not empty"),
+        1..=3 => record.numbers[rng.gen_range(0..5)] = number(rng),
+        4 => {
+            let step = rng.gen_range(-3..=3);
+            let field = &mut record.numbers[rng.gen_range(0..5)];
+            *field = field.saturating_add(step);
+        }
+        5 => case.cds_start = rng.gen::<bool>().then(|| number(rng)),
+        6 => case.cds_end = rng.gen::<bool>().then(|| number(rng)),
+        7 => {
+            let other = rng.gen_range(0..case.records.len());
+            case.records.swap(index, other);
+        }
+        8 => {
+            record.cigar = [&b""[..], b"0M", b"5", b"2147483647M", b"2147483648M", b"99999999999S"]
+                .choose(rng)
+                .expect("not empty")
+                .to_vec()
+        }
+        9 => record.cigar.extend(b"2147483647M"),
+        10 => {
+            let at = rng.gen_range(0..=record.cigar.len());
+            record.cigar.insert(at, *b"=DIMNXSHP*0129 \xc3-".choose(rng).expect("not empty"));
+        }
+        _ => {
+            case.records.truncate(index);
+        }
+    }
+}
+
+/// A transcript, of which some have one fault or more.
+pub fn case<R: Rng>(rng: &mut R) -> Case {
+    let mut case = whole(rng);
+    while rng.gen_ratio(1, 5) && !case.records.is_empty() {
+        spoil(rng, &mut case);
+    }
+    case
+}
+
+/// Changes one number or letter of lent memory.
+pub fn damage<R: Rng>(rng: &mut R, lent: &mut Lent) {
+    let count = usize::try_from(lent.head[3]).unwrap_or(0).min(lent.letters.len() - 1);
+    // Mostly among the places in use.
+    let place = if rng.gen_ratio(9, 10) { rng.gen_range(0..=count) } else { rng.gen_range(0..lent.letters.len()) };
+    let shift = |rng: &mut R, old: u32| match rng.gen_range(0..3) {
+        0 => old.wrapping_add(rng.gen_range(0..5)).wrapping_sub(2),
+        1 => old ^ 1 << rng.gen_range(0..32),
+        _ => number(rng) as u32,
+    };
+    match rng.gen_range(0..6) {
+        0 | 1 => {
+            let field = rng.gen_range(0..8);
+            lent.head[field] = shift(rng, lent.head[field] as u32) as i32;
+        }
+        2 => lent.genome[place] = shift(rng, lent.genome[place]),
+        3 => lent.transcript[place] = shift(rng, lent.transcript[place]),
+        4 => lent.letters[place] = *b"=DIMNXS\0m\xff".choose(rng).expect("not empty"),
+        _ => {
+            // Both sides at once can keep a matched segment whole.
+            let by = rng.gen_range(0..3);
+            lent.genome[place] = lent.genome[place].wrapping_add(by);
+            lent.transcript[place] = lent.transcript[place].wrapping_add(by);
+        }
+    }
+}
+
+/// Random bytes, or a card with some bytes changed, cut or added.
+pub fn card<R: Rng>(rng: &mut R) -> Vec<u8> {
+    if rng.gen_ratio(1, 6) {
+        let mut bytes = vec![0; rng.gen_range(0..80)];
+        rng.fill(&mut bytes[..]);
+        let known = rng.gen_range(0..=5.min(bytes.len()));
+        bytes[..known].copy_from_slice(&b"TXC\x01\x00"[..known]);
+        return bytes;
+    }
+    let mut card = case(rng).card();
+    for _ in 0..rng.gen_range(0..4) {
+        let at = rng.gen_range(0..card.len());
+        match rng.gen_range(0..8) {
+            0 => card.truncate(at),
+            1 => card.push(rng.gen()),
+            2 => card[at.min(16)] = rng.gen(),
+            3 => card[at] ^= 1 << rng.gen_range(0..8),
+            4 if rng.gen_ratio(1, 50) => card.resize(65_537, 0),
+            _ => (),
+        }
+        if card.is_empty() {
+            break;
+        }
+    }
+    card
+}
+
+/// A number near the places of a table, a limit, or any; `base` is the number of place 0.
+fn near<R: Rng>(rng: &mut R, starts: &[i64], base: i64) -> i32 {
+    let total = starts[starts.len() - 1];
+    let number = match rng.gen_range(0..20) {
+        0 => return number(rng),
+        1..=9 => starts[rng.gen_range(0..starts.len())] + rng.gen_range(-2..=2),
+        _ => rng.gen_range(-2..=total + 2),
+    };
+    (number + base).clamp(i64::from(i32::MIN), i64::from(i32::MAX)) as i32
+}
+
+fn offset<R: Rng>(rng: &mut R) -> i32 {
+    match rng.gen_range(0..20) {
+        0 => number(rng),
+        1..=7 => rng.gen_range(-5..=5),
+        _ => 0,
+    }
+}
+
+/// A position that suits a kind of question to a transcript.
+fn asked<R: Rng>(rng: &mut R, kind: Kind, source: &Source) -> Asked {
+    let length = [0, source.length()];
+    let (starts, base): (&[i64], i64) = match (kind, source) {
+        (Kind::GToN | Kind::GToC | Kind::InBounds, Source::Records(Aligned { genome, first, .. })) => {
+            (genome, first + 1)
+        }
+        (_, Source::Records(Aligned { transcript, .. })) => (transcript, 1),
+        (_, Source::Length(..)) => (&length, 1),
+    };
+    let is_g = matches!(kind, Kind::GToN | Kind::GToC | Kind::InBounds);
+    if !matches!(kind, Kind::CToN | Kind::CToG) {
+        let base = near(rng, starts, base);
+        return Asked { base, offset: if is_g { 0 } else { offset(rng) }, star: false };
+    }
+    let (s, e) = source.cds().unwrap_or((0, 0));
+    let star = rng.gen_ratio(1, 3);
+    let base = near(rng, starts, if star { 1 - e } else { 1 - s });
+    Asked { base, offset: offset(rng), star }
+}
+
+/// A question to a transcript.
+pub fn question<R: Rng>(rng: &mut R, source: &Source) -> Question {
+    let kind = if rng.gen_ratio(1, 40) { Kind::IsCoding } else { Kind::ALL[rng.gen_range(0..7)] };
+    if kind == Kind::IsCoding {
+        return Question { kind, start: Asked::default(), end: Asked::default(), missing: 0, strict: false };
+    }
+    let start = asked(rng, kind, source);
+    let end = if rng.gen() { start } else { asked(rng, kind, source) };
+    let is_g = matches!(kind, Kind::GToN | Kind::GToC | Kind::InBounds);
+    let missing = if is_g && rng.gen_ratio(1, 50) { rng.gen_range(1..4) } else { 0 };
+    let strict = kind != Kind::InBounds && rng.gen();
+    Question { kind, start, end, missing, strict }
+}

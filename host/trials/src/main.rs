@@ -1,0 +1,309 @@
+//! Calls every entry with random, damaged and extreme input, a given number of times from a given seed. Each answer must be
+//! document 01's, and a refusal must leave lent memory as it was.
+
+use std::collections::BTreeMap;
+
+use clap::Parser;
+use pulindraxi::{
+    boundary::{self, Laid, Length},
+    limits::MOST_SEGMENTS,
+    Refusal,
+};
+use rand::{seq::SliceRandom, Rng, SeedableRng};
+use rand_xorshift::XorShiftRng;
+use trials::{
+    draw::{self, Case, Record},
+    paper::{self, Source, CARD_HEAD},
+    Kind, Lent, Question,
+};
+
+/// Tries the boundary with bad input.
+#[derive(Parser)]
+struct Options {
+    /// Where the random numbers start.
+    #[arg(long, default_value_t = 1)]
+    seed: u64,
+    /// How many calls to make at least.
+    #[arg(long, default_value_t = 1_000_000)]
+    count: u64,
+}
+
+/// The memory that is lent, what it must hold, and what was called so far.
+struct Trial {
+    rng: XorShiftRng,
+    lent: Lent,
+    /// What `lent` holds between calls.
+    before: Lent,
+    /// The last transcript that was built, from which questions are drawn.
+    source: Source,
+    calls: u64,
+    /// Calls by entry and refusal number.
+    tally: BTreeMap<(&'static str, u32), u64>,
+}
+
+fn number_of<T>(result: &Result<T, Refusal>) -> u32 {
+    result.as_ref().err().map_or(0, |refusal| refusal.number())
+}
+
+fn entry_of(kind: Kind) -> &'static str {
+    match kind {
+        Kind::GToN => "txc_g_to_n",
+        Kind::GToC => "txc_g_to_c",
+        Kind::NToG => "txc_n_to_g",
+        Kind::NToC => "txc_n_to_c",
+        Kind::CToN => "txc_c_to_n",
+        Kind::CToG => "txc_c_to_g",
+        Kind::InBounds => "txc_in_bounds",
+        Kind::IsCoding => "txc_is_coding",
+    }
+}
+
+impl Trial {
+    fn new(seed: u64) -> Trial {
+        let lent = Lent::filled(0xa5);
+        let source = Source::Length(0, None);
+        let rng = XorShiftRng::seed_from_u64(seed);
+        Trial { rng, before: lent.clone(), lent, source, calls: 0, tally: BTreeMap::new() }
+    }
+
+    fn count(&mut self, entry: &'static str, number: u32) {
+        self.calls += 1;
+        *self.tally.entry((entry, number)).or_default() += 1;
+    }
+
+    /// After a building: the number, and memory that holds the transcript or is as it was.
+    fn judge_built(&mut self, entry: &'static str, number: u32, expected: Result<Source, Refusal>) {
+        assert_eq!(number, number_of(&expected), "{entry}, call {}", self.calls);
+        self.count(entry, number);
+        if let Ok(source) = expected {
+            let tables_stay = matches!(source, Source::Length(..));
+            let wanted = if tables_stay {
+                Lent { head: Box::new(source.head()), ..self.before.clone() }
+            } else {
+                Lent::of(&source)
+            };
+            self.before = wanted;
+            self.source = source;
+        }
+        assert!(self.lent == self.before, "{entry} left other memory, call {}", self.calls);
+    }
+
+    /// Building's input as the boundary takes it, now and then with numbers that no safe function gives it.
+    fn laid<'a>(&mut self, case: &Case, records: &'a [u8]) -> Laid<'a> {
+        let mut from = case.laid(records);
+        let rng = &mut self.rng;
+        match rng.gen_range(0..60) {
+            0..=2 => from.records = &records[..rng.gen_range(0..=records.len())],
+            3..=5 => from.count = *[0, 1, 2, 513, usize::MAX].choose(rng).expect("not empty"),
+            6..=8 => from.cds = *[0, 1, 2, 3, 4, 7, u32::MAX].choose(rng).expect("not empty"),
+            // A bound that is not given is not looked at.
+            9..=11 if from.cds == 0 => (from.cds_start, from.cds_end) = (draw::number(rng), draw::number(rng)),
+            _ => (),
+        }
+        from
+    }
+
+    fn build(&mut self) {
+        let case = draw::case(&mut self.rng);
+        let bytes = case.lay();
+        let from = self.laid(&case, &bytes);
+        let number = self.lent.build(from);
+        self.judge_built("txc_build", number, paper::build(from).map(Source::Records));
+    }
+
+    /// Many records, or many elements, or long texts, around the limits.
+    fn much(&mut self) -> Case {
+        let rng = &mut self.rng;
+        let count = *[1, 2, 16, 511, 512, 513].choose(rng).expect("not empty");
+        let long = *[0, 1, 4, 2048 / count, 2049, 4096, 4097].choose(rng).expect("not empty");
+        let mut cigar = vec![*b"M0=N".choose(rng).expect("not empty"); long];
+        if let Some(last) = cigar.last_mut() {
+            *last = b'D';
+        }
+        let strand = if rng.gen() { 1 } else { -1 };
+        let record = |ord| Record { numbers: [0, 0, 0, 0, ord * strand], cigar: cigar.clone() };
+        Case { strand, cds_start: None, cds_end: None, records: (0..count as i32).map(record).collect() }
+    }
+
+    fn build_much(&mut self) {
+        let case = self.much();
+        let bytes = case.lay();
+        let from = case.laid(&bytes);
+        let number = self.lent.build(from);
+        self.judge_built("txc_build", number, paper::build(from).map(Source::Records));
+    }
+
+    fn build_card(&mut self) {
+        let card = draw::card(&mut self.rng);
+        let number = self.lent.build_card(&card);
+        let expected = paper::read_card(&card).and_then(paper::build).map(Source::Records);
+        self.judge_built("txc_build_card", number, expected);
+    }
+
+    fn build_length(&mut self) {
+        let rng = &mut self.rng;
+        let (length, start, end) = (draw::number(rng), draw::number(rng), draw::number(rng));
+        let cds = *[0, 1, 2, 3, 3, 3, 4, u32::MAX].choose(rng).expect("not empty");
+        let number = boundary::txc_build_length(length, cds, start, end, &mut self.lent.head);
+        self.judge_built("txc_build_length", number, paper::build_length(length, cds, start, end));
+    }
+
+    fn judge_question(&mut self, question: &Question, source: Option<&Source>) {
+        let answer = question.ask(&self.lent);
+        assert_eq!(answer, question.expect(source), "{question:?} of {:?}, call {}", self.lent.head, self.calls);
+        assert!(self.lent == self.before, "{question:?} changed lent memory, call {}", self.calls);
+        self.count(entry_of(question.kind), answer.number);
+    }
+
+    fn ask(&mut self) {
+        let source = self.lent.source();
+        for _ in 0..12 {
+            let mut question = draw::question(&mut self.rng, source.as_ref().unwrap_or(&self.source));
+            if self.rng.gen_ratio(1, 50) {
+                // Only the two lowest bits say what is missing.
+                question.missing |= 4 << self.rng.gen_range(0..30);
+            }
+            self.judge_question(&question, source.as_ref());
+        }
+    }
+
+    fn ask_damaged(&mut self) {
+        let whole = self.lent.clone();
+        for _ in 0..self.rng.gen_range(1..3) {
+            draw::damage(&mut self.rng, &mut self.lent);
+        }
+        self.before = self.lent.clone();
+        let source = self.lent.source();
+        for _ in 0..3 {
+            let question = draw::question(&mut self.rng, &self.source);
+            self.judge_question(&question, source.as_ref());
+        }
+        self.before = whole.clone();
+        self.lent = whole;
+    }
+
+    fn read_cigar(&mut self) {
+        let rng = &mut self.rng;
+        let mut text: Vec<u8> = draw::case(rng).records.into_iter().flat_map(|record| record.cigar).collect();
+        match rng.gen_range(0..20) {
+            0 => text.resize(rng.gen_range(4090..4100), b'0'),
+            1 => text = vec![b'D'; rng.gen_range(2040..2060)],
+            2 => text.extend(b"99999999999999999999S"),
+            _ => (),
+        }
+        let mut counts = Box::new([-7; MOST_SEGMENTS]);
+        let mut letters = Box::new([7; MOST_SEGMENTS]);
+        let read = boundary::read_cigar(&text, &mut counts, &mut letters);
+        let expected = paper::read_cigar(&text, MOST_SEGMENTS);
+        let length = expected.as_ref().map_or(0, Vec::len);
+        assert_eq!(read, Length { number: number_of(&expected), length }, "txc_read_cigar, call {}", self.calls);
+        match expected {
+            Ok(elements) => {
+                let got = counts.iter().zip(letters.iter()).map(|(&count, &letter)| (i64::from(count), letter));
+                assert!(got.take(length).eq(elements), "txc_read_cigar read other elements, call {}", self.calls);
+            }
+            Err(_) => assert!(counts.iter().all(|&c| c == -7) && letters.iter().all(|&l| l == 7)),
+        }
+        self.count("txc_read_cigar", read.number);
+    }
+
+    fn write_cigar(&mut self) {
+        let rng = &mut self.rng;
+        let number = if rng.gen_ratio(1, 8) { rng.gen_range(2040..2060) } else { rng.gen_range(0..20) };
+        let mut counts = Box::new([1; MOST_SEGMENTS]);
+        let mut letters = Box::new([b'M'; MOST_SEGMENTS]);
+        for place in 0..number.min(MOST_SEGMENTS) {
+            counts[place] = rng.gen_range(0..40);
+            letters[place] = *b"=DIMNX".choose(rng).expect("not empty");
+        }
+        if rng.gen_ratio(1, 4) {
+            counts[rng.gen_range(0..20)] = draw::number(rng);
+        }
+        if rng.gen_ratio(1, 8) {
+            letters[rng.gen_range(0..20)] = rng.gen();
+        }
+        let room = if rng.gen_ratio(1, 3) { rng.gen_range(0..60) } else { 4200 };
+        let expected = paper::write_cigar(number, &counts[..], &letters[..], room);
+        let mut buffer = vec![b'.'; room];
+        let written = boundary::write_cigar(number, &counts, &letters, &mut buffer);
+        self.judge_written("txc_write_cigar", written, expected, &buffer);
+    }
+
+    fn write_card(&mut self) {
+        let case = if self.rng.gen_ratio(1, 20) { self.much() } else { draw::case(&mut self.rng) };
+        let bytes = case.lay();
+        let from = self.laid(&case, &bytes);
+        let room = if self.rng.gen_ratio(1, 3) { self.rng.gen_range(0..200) } else { bytes.len() + CARD_HEAD };
+        let expected = paper::write_card(from, room);
+        let mut buffer = vec![b'.'; room];
+        let written = boundary::write_card(from, &mut buffer);
+        self.judge_written("txc_write_card", written, expected, &buffer);
+    }
+
+    /// A text that fits fills the front of the buffer and the rest stays.
+    fn judge_written(
+        &mut self,
+        entry: &'static str,
+        written: Length,
+        expected: Result<Vec<u8>, Refusal>,
+        buffer: &[u8],
+    ) {
+        let number = number_of(&expected);
+        let text = expected.unwrap_or_default();
+        assert_eq!(written, Length { number, length: text.len() }, "{entry}, call {}", self.calls);
+        let (front, rest) = buffer.split_at(text.len());
+        assert!(front == text && rest.iter().all(|&b| b == b'.'), "{entry} wrote otherwise, call {}", self.calls);
+        self.count(entry, number);
+    }
+
+    fn trim(&mut self) {
+        let rng = &mut self.rng;
+        let mut allele = || (0..rng.gen_range(0..9)).map(|_| *b"AC\xc3\xff".choose(rng).expect("not empty")).collect();
+        let (reference, alternative): (Vec<u8>, Vec<u8>) = (allele(), allele());
+        let got = (
+            boundary::trim_prefix(&reference, &alternative),
+            boundary::trim_suffix(&reference, &alternative),
+            boundary::changed(&reference, &alternative),
+        );
+        let expected = (
+            paper::prefix(&reference, &alternative),
+            paper::suffix(&reference, &alternative),
+            paper::changed(&reference, &alternative),
+        );
+        assert_eq!(got, expected, "{reference:?} and {alternative:?}, call {}", self.calls);
+        for entry in ["txc_trim_prefix", "txc_trim_suffix", "txc_changed"] {
+            self.count(entry, 0);
+        }
+    }
+
+    fn step(&mut self) {
+        match self.rng.gen_range(0..100) {
+            0..=9 => self.build(),
+            10 => self.build_much(),
+            11..=24 => self.build_card(),
+            25..=27 => self.build_length(),
+            28..=52 => self.ask(),
+            53..=79 => self.ask_damaged(),
+            80..=86 => self.read_cigar(),
+            87..=90 => self.write_cigar(),
+            91..=94 => self.write_card(),
+            _ => self.trim(),
+        }
+    }
+}
+
+fn main() {
+    let options = Options::parse();
+    let mut trial = Trial::new(options.seed);
+    while trial.calls < options.count {
+        trial.step();
+    }
+    let mut entries: BTreeMap<&str, Vec<String>> = BTreeMap::new();
+    for ((entry, number), calls) in &trial.tally {
+        entries.entry(entry).or_default().push(format!("{number}: {calls}"));
+    }
+    for (entry, numbers) in entries {
+        println!("{entry:<17} {}", numbers.join(", "));
+    }
+    println!("{} calls from seed {}, each as document 01 says", trial.calls, options.seed);
+}

@@ -1,0 +1,633 @@
+//! Document 01 in plain Rust on 64-bit numbers: what to expect of every entry on any input.
+//!
+//! The crate hgvs says what to expect only where it neither panics nor overflows and is not narrowed. This module, written
+//! from the document's text, says the rest, and the comparison holds it to the crate wherever the crate answers.
+
+use pulindraxi::{
+    boundary::{Answer, Head, Laid, Letters, Part, Position, Said, Starts},
+    limits::{MOST_BASES, MOST_CARD, MOST_RECORDS, MOST_SEGMENTS, MOST_STARTS, MOST_TEXT},
+    Exon, Refusal,
+};
+
+/// An element: a count and a letter.
+pub type Counted = (i64, u8);
+
+/// Whether a letter advances the genome.
+pub fn along_genome(letter: u8) -> bool {
+    letter != b'D'
+}
+
+/// Whether a letter advances the transcript.
+pub fn along_transcript(letter: u8) -> bool {
+    !matches!(letter, b'I' | b'N')
+}
+
+/// Whether a letter is one of the six.
+pub fn is_letter(letter: u8) -> bool {
+    b"=DIMNX".contains(&letter)
+}
+
+/// A transcript built from records.
+#[derive(Clone, Debug, PartialEq, Eq)]
+pub struct Aligned {
+    /// 1 or -1.
+    pub strand: i32,
+    /// Where the first record begins on the genome.
+    pub first: i64,
+    /// The segments' starts on the genome, and the total.
+    pub genome: Vec<i64>,
+    /// The segments' starts on the transcript, and the total.
+    pub transcript: Vec<i64>,
+    /// The segments' letters.
+    pub letters: Vec<u8>,
+    /// The CDS.
+    pub cds: Option<(i64, i64)>,
+}
+
+/// A transcript of either kind.
+#[derive(Clone, Debug, PartialEq, Eq)]
+pub enum Source {
+    /// Built from records.
+    Records(Aligned),
+    /// Built from a length alone, with its CDS.
+    Length(i64, Option<(i64, i64)>),
+}
+
+/// The lent memory of a built transcript.
+pub type Tables = (Head, Box<Starts>, Box<Starts>, Box<Letters>);
+
+fn last(starts: &[i64]) -> i64 {
+    starts[starts.len() - 1]
+}
+
+// ---- CIGAR text
+
+/// The elements of a text that fit a room: 3 for its size, then each element's 7, 8, 3 in text order.
+pub fn read_cigar(text: &[u8], room: usize) -> Result<Vec<Counted>, Refusal> {
+    if text.len() > MOST_TEXT {
+        return Err(Refusal::TooMuch);
+    }
+    let mut elements = Vec::new();
+    let mut digits: &[u8] = &text[..0];
+    for (at, &byte) in text.iter().enumerate() {
+        if byte.is_ascii_digit() {
+            digits = &text[at - digits.len()..=at];
+            continue;
+        }
+        if !is_letter(byte) {
+            return Err(Refusal::NoElement);
+        }
+        elements.push((count(digits).ok_or(Refusal::BadCount)?, byte));
+        if elements.len() > room {
+            return Err(Refusal::TooMuch);
+        }
+        digits = &text[..0];
+    }
+    if digits.is_empty() {
+        Ok(elements)
+    } else {
+        Err(Refusal::NoElement)
+    }
+}
+
+/// The count of digits, 1 for none, if it is not above the largest.
+fn count(digits: &[u8]) -> Option<i64> {
+    if digits.is_empty() {
+        return Some(1);
+    }
+    let count = digits.iter().fold(0u64, |sum, d| sum.saturating_mul(10).saturating_add(u64::from(d - b'0')));
+    (count <= i32::MAX as u64).then_some(count as i64)
+}
+
+/// The text of elements: 3 for their number, each 7, 8, then 3 for the text, 20.
+pub fn write_cigar(number: usize, counts: &[i32], letters: &[u8], room: usize) -> Result<Vec<u8>, Refusal> {
+    if number > MOST_SEGMENTS {
+        return Err(Refusal::TooMuch);
+    }
+    let mut text = Vec::new();
+    for (&count, &letter) in counts.iter().zip(letters).take(number) {
+        if !is_letter(letter) {
+            return Err(Refusal::NoElement);
+        }
+        if count < 0 {
+            return Err(Refusal::BadCount);
+        }
+        if count != 1 {
+            text.extend(count.to_string().bytes());
+        }
+        text.push(letter);
+    }
+    if text.len() > MOST_TEXT {
+        return Err(Refusal::TooMuch);
+    }
+    if text.len() > room {
+        return Err(Refusal::NoRoom);
+    }
+    Ok(text)
+}
+
+// ---- Building
+
+/// The number of bytes of a card before its records.
+pub const CARD_HEAD: usize = 17;
+
+/// Bytes as just that many records.
+pub fn records(count: usize, mut bytes: &[u8]) -> Option<Vec<Exon<'_>>> {
+    let mut exons = Vec::new();
+    for _ in 0..count {
+        let (numbers, rest) = bytes.split_at_checked(20)?;
+        let number = |i: usize| i32::from_le_bytes(numbers[4 * i..4 * i + 4].try_into().expect("four bytes"));
+        let (size, rest) = rest.split_at_checked(2)?;
+        let size = u16::from_le_bytes(size.try_into().expect("two bytes"));
+        let (cigar, rest) = rest.split_at_checked(usize::from(size))?;
+        exons.push(Exon {
+            alt_start_i: number(0),
+            alt_end_i: number(1),
+            tx_start_i: number(2),
+            tx_end_i: number(3),
+            ord: number(4),
+            cigar,
+        });
+        bytes = rest;
+    }
+    bytes.is_empty().then_some(exons)
+}
+
+/// A card as building's input: 3 for its size, 21 for its mark, 22, 21 for all else.
+pub fn read_card(card: &[u8]) -> Result<Laid<'_>, Refusal> {
+    if card.len() > MOST_CARD {
+        return Err(Refusal::TooMuch);
+    }
+    if card.len() < 5 || &card[..3] != b"TXC" {
+        return Err(Refusal::NoCard);
+    }
+    if card[3..5] != [1, 0] {
+        return Err(Refusal::BadVersion);
+    }
+    let (head, records) = card.split_at_checked(CARD_HEAD).ok_or(Refusal::NoCard)?;
+    let number = |at: usize| i32::from_le_bytes(head[at..at + 4].try_into().expect("four bytes"));
+    let (strand, cds, cds_start, cds_end) = (head[5], u32::from(head[6]), number(7), number(11));
+    let count = usize::from(u16::from_le_bytes([head[15], head[16]]));
+    let unused = (cds & 1 == 0 && cds_start != 0) || (cds & 2 == 0 && cds_end != 0);
+    if strand > 1 || cds > 3 || unused || self::records(count, records).is_none() {
+        return Err(Refusal::NoCard);
+    }
+    Ok(Laid { strand: if strand == 0 { 1 } else { -1 }, cds, cds_start, cds_end, count, records })
+}
+
+/// The card of building's input, which must build: then 3 for its size, 20.
+pub fn write_card(from: Laid<'_>, room: usize) -> Result<Vec<u8>, Refusal> {
+    build(from)?;
+    let mut card = b"TXC\x01\x00".to_vec();
+    card.push(u8::from(from.strand == -1));
+    card.push(from.cds as u8);
+    card.extend(if from.cds & 1 == 0 { 0 } else { from.cds_start }.to_le_bytes());
+    card.extend(if from.cds & 2 == 0 { 0 } else { from.cds_end }.to_le_bytes());
+    card.extend((from.count as u16).to_le_bytes());
+    card.extend(from.records);
+    if card.len() > MOST_CARD {
+        return Err(Refusal::TooMuch);
+    }
+    if card.len() > room {
+        return Err(Refusal::NoRoom);
+    }
+    Ok(card)
+}
+
+/// 4, 5 and 6 of a record and the one before it.
+fn judge_record(strand: i32, before: Option<&Exon<'_>>, exon: &Exon<'_>) -> Result<(), Refusal> {
+    let bounds = [exon.alt_start_i, exon.alt_end_i, exon.tx_start_i, exon.tx_end_i];
+    let overlaps = before.is_some_and(|before| exon.alt_start_i < before.alt_end_i);
+    if bounds.iter().any(|&b| b < 0) || bounds[1] < bounds[0] || bounds[3] < bounds[2] || overlaps {
+        return Err(Refusal::BadBound);
+    }
+    let Some(before) = before else { return Ok(()) };
+    let (earlier, later) = if strand == 1 { (before, exon) } else { (exon, before) };
+    if earlier.ord >= later.ord {
+        return Err(Refusal::BadOrd);
+    }
+    if earlier.tx_end_i != later.tx_start_i {
+        return Err(Refusal::NotAdjacent);
+    }
+    Ok(())
+}
+
+/// The elements of all records in genomic order: per record 3 for the CIGAR's size, 3 for the gap, its elements.
+fn elements(strand: i32, exons: &[Exon<'_>]) -> Result<Vec<Counted>, Refusal> {
+    let mut all: Vec<Counted> = Vec::new();
+    let mut before: Option<&Exon<'_>> = None;
+    for exon in exons {
+        if exon.cigar.len() > MOST_TEXT {
+            return Err(Refusal::TooMuch);
+        }
+        if let Some(before) = before {
+            if all.len() == MOST_SEGMENTS {
+                return Err(Refusal::TooMuch);
+            }
+            all.push((i64::from(exon.alt_start_i) - i64::from(before.alt_end_i), b'N'));
+        }
+        let mut own = read_cigar(exon.cigar, MOST_SEGMENTS - all.len())?;
+        if strand == -1 {
+            own.reverse();
+        }
+        all.append(&mut own);
+        before = Some(exon);
+    }
+    Ok(all)
+}
+
+/// Running starts and the total.
+fn running(elements: &[Counted], advances: fn(u8) -> bool) -> Vec<i64> {
+    let mut starts = vec![0];
+    for &(count, letter) in elements {
+        starts.push(last(&starts) + if advances(letter) { count } else { 0 });
+    }
+    starts
+}
+
+/// 11: one CDS bound given, the other not.
+fn judge_half(cds: u32) -> Result<(), Refusal> {
+    match cds {
+        1 | 2 => Err(Refusal::HalfCds),
+        _ => Ok(()),
+    }
+}
+
+/// 12, and the CDS.
+fn judge_cds(cds: u32, start: i32, end: i32, length: i64) -> Result<Option<(i64, i64)>, Refusal> {
+    let (start, end) = (i64::from(start), i64::from(end));
+    match cds {
+        0 => Ok(None),
+        _ if 0 <= start && start <= end && end <= length => Ok(Some((start, end))),
+        _ => Err(Refusal::BadCds),
+    }
+}
+
+/// CDS bits of no such value are 23, before all else.
+fn judge_bits(cds: u32) -> Result<(), Refusal> {
+    match cds {
+        0..=3 => Ok(()),
+        _ => Err(Refusal::NotTogether),
+    }
+}
+
+/// The transcript of records, by building's order.
+pub fn build(from: Laid<'_>) -> Result<Aligned, Refusal> {
+    judge_bits(from.cds)?;
+    let exons = records(from.count, from.records).ok_or(Refusal::NoCard)?;
+    let first = i64::from(exons.first().ok_or(Refusal::NoRecords)?.alt_start_i);
+    if from.strand != 1 && from.strand != -1 {
+        return Err(Refusal::NoStrand);
+    }
+    if exons.len() > MOST_RECORDS {
+        return Err(Refusal::TooMuch);
+    }
+    for (index, exon) in exons.iter().enumerate() {
+        judge_record(from.strand, index.checked_sub(1).map(|before| &exons[before]), exon)?;
+    }
+    judge_half(from.cds)?;
+    let elements = elements(from.strand, &exons)?;
+    if elements.is_empty() {
+        return Err(Refusal::NoSegment);
+    }
+    let (genome, transcript) = (running(&elements, along_genome), running(&elements, along_transcript));
+    if last(&transcript) > i64::from(MOST_BASES) || first + last(&genome) > i64::from(MOST_BASES) {
+        return Err(Refusal::TooLong);
+    }
+    let cds = judge_cds(from.cds, from.cds_start, from.cds_end, last(&transcript))?;
+    let letters = elements.iter().map(|&(_, letter)| letter).collect();
+    Ok(Aligned { strand: from.strand, first, genome, transcript, letters, cds })
+}
+
+/// A length-only transcript: 4, 9, 11, 12.
+pub fn build_length(length: i32, cds: u32, start: i32, end: i32) -> Result<Source, Refusal> {
+    judge_bits(cds)?;
+    let length = i64::from(length);
+    if length < 0 {
+        return Err(Refusal::BadBound);
+    }
+    if length > i64::from(MOST_BASES) {
+        return Err(Refusal::TooLong);
+    }
+    judge_half(cds)?;
+    Ok(Source::Length(length, judge_cds(cds, start, end, length)?))
+}
+
+impl Source {
+    /// The head of the transcript.
+    pub fn head(&self) -> Head {
+        let (bits, start, end) = match self.cds() {
+            Some((start, end)) => (3, start as i32, end as i32),
+            None => (0, 0, 0),
+        };
+        match self {
+            Source::Records(a) => [0, a.strand, a.first as i32, a.letters.len() as i32, bits, start, end, 0],
+            Source::Length(length, _) => [1, 0, 0, 0, bits, start, end, *length as i32],
+        }
+    }
+
+    /// The CDS.
+    pub fn cds(&self) -> Option<(i64, i64)> {
+        match self {
+            Source::Records(aligned) => aligned.cds,
+            Source::Length(_, cds) => *cds,
+        }
+    }
+
+    /// The transcript length.
+    pub fn length(&self) -> i64 {
+        match self {
+            Source::Records(aligned) => last(&aligned.transcript),
+            Source::Length(length, _) => *length,
+        }
+    }
+}
+
+/// The lent memory of a transcript built from records: unused places hold 0.
+pub fn tables(aligned: &Aligned) -> Tables {
+    let starts = |from: &[i64]| {
+        let mut starts = Box::new([0u32; MOST_STARTS]);
+        for (place, &start) in starts.iter_mut().zip(from) {
+            *place = start as u32;
+        }
+        starts
+    };
+    let mut letters = Box::new([0u8; MOST_SEGMENTS]);
+    letters[..aligned.letters.len()].copy_from_slice(&aligned.letters);
+    let head = Source::Records(aligned.clone()).head();
+    (head, starts(&aligned.genome), starts(&aligned.transcript), letters)
+}
+
+// ---- Check 23
+
+/// What lent memory stands for, where it holds together.
+pub fn source(head: &Head, genome: &Starts, transcript: &Starts, letters: &Letters) -> Option<Source> {
+    let [kind, strand, first, count, bits, cds_start, cds_end, length] = *head;
+    let bits = u32::try_from(bits).ok().filter(|&bits| bits == 0 || bits == 3)?;
+    match kind {
+        0 => {
+            let count = usize::try_from(count).ok().filter(|count| (1..=MOST_SEGMENTS).contains(count))?;
+            let whole = |starts: &Starts| starts[..=count].iter().map(|&s| i64::from(s)).collect::<Vec<_>>();
+            let (genome, transcript, letters) = (whole(genome), whole(transcript), letters[..count].to_vec());
+            let together = (strand == 1 || strand == -1)
+                && first >= 0
+                && segments_hold(&genome, &transcript, &letters)
+                && i64::from(first) + last(&genome) <= i64::from(MOST_BASES)
+                && last(&transcript) <= i64::from(MOST_BASES);
+            let cds = judge_cds(bits, cds_start, cds_end, last(&transcript)).ok()?;
+            together
+                .then(|| Source::Records(Aligned { strand, first: i64::from(first), genome, transcript, letters, cds }))
+        }
+        1 => build_length(length, bits, cds_start, cds_end).ok(),
+        _ => None,
+    }
+}
+
+fn segments_hold(genome: &[i64], transcript: &[i64], letters: &[u8]) -> bool {
+    let steps = genome.windows(2).zip(transcript.windows(2));
+    genome[0] == 0
+        && transcript[0] == 0
+        && steps.zip(letters).all(|((g, t), &letter)| {
+            let (g, t) = (g[1] - g[0], t[1] - t[0]);
+            is_letter(letter)
+                && g >= 0
+                && t >= 0
+                && (along_genome(letter) || g == 0)
+                && (along_transcript(letter) || t == 0)
+                && (!(along_genome(letter) && along_transcript(letter)) || g == t)
+        })
+}
+
+// ---- Finding and mapping a place
+
+struct Spot {
+    place: i64,
+    offset: i64,
+    sure: bool,
+}
+
+/// Maps a place by the first segment whose end is above it, or else the last.
+fn map_place(from: &[i64], to: &[i64], letters: &[u8], p: i64, is_start: bool, forward: bool) -> Spot {
+    let index = (0..letters.len()).find(|&i| from[i + 1] > p).unwrap_or(letters.len() - 1);
+    let (f, t, h) = (from[index], to[index], from[index + 1]);
+    match letters[index] {
+        b'I' | b'D' => Spot { place: if is_start { t - 1 } else { t }, offset: 0, sure: false },
+        b'N' => {
+            let (left, right) = (p - f + 1, h - p);
+            if left < right || (left == right && forward) {
+                Spot { place: t - 1, offset: left, sure: true }
+            } else {
+                Spot { place: t, offset: -right, sure: true }
+            }
+        }
+        _ => Spot { place: t + (p - f), offset: 0, sure: true },
+    }
+}
+
+fn inside(strict: bool, from: &[i64], p: i64) -> Result<(), Refusal> {
+    if strict && !(0..=last(from)).contains(&p) {
+        return Err(Refusal::Outside);
+    }
+    Ok(())
+}
+
+fn n_of_place(place: i64) -> i64 {
+    if place >= 0 {
+        place + 1
+    } else {
+        place
+    }
+}
+
+fn place_of_n(n: i64) -> i64 {
+    if n >= 1 {
+        n - 1
+    } else {
+        n
+    }
+}
+
+/// A position in whole numbers.
+#[derive(Clone, Copy, Debug)]
+struct Whole {
+    base: i64,
+    offset: i64,
+    star: bool,
+}
+
+impl Whole {
+    fn plain(base: i64, offset: i64) -> Whole {
+        Whole { base, offset, star: false }
+    }
+
+    /// 17, or the position.
+    fn fit(self) -> Result<Position, Refusal> {
+        let fit = |number: i64| i32::try_from(number).map_err(|_| Refusal::TooWide);
+        Ok(Position { base: fit(self.base)?, offset: fit(self.offset)?, star: u32::from(self.star) })
+    }
+}
+
+const CERTAIN: u32 = 1;
+const UNCERTAIN: u32 = 2;
+const UNMARKED: u32 = 3;
+
+fn answer(mark: u32, start: Position, end: Position) -> Answer {
+    Answer { number: 0, mark, start, end }
+}
+
+fn mark(a: &Spot, b: &Spot) -> u32 {
+    if a.sure && b.sure {
+        CERTAIN
+    } else {
+        UNCERTAIN
+    }
+}
+
+/// A position as it is asked.
+#[derive(Clone, Copy, Debug, Default, PartialEq, Eq)]
+pub struct Asked {
+    /// The number.
+    pub base: i32,
+    /// The offset.
+    pub offset: i32,
+    /// Whether it counts from the end of the CDS.
+    pub star: bool,
+}
+
+impl From<Position> for Asked {
+    fn from(p: Position) -> Asked {
+        Asked { base: p.base, offset: p.offset, star: p.star != 0 }
+    }
+}
+
+impl Source {
+    fn aligned(&self) -> Result<&Aligned, Refusal> {
+        match self {
+            Source::Records(aligned) => Ok(aligned),
+            Source::Length(..) => Err(Refusal::NoGenome),
+        }
+    }
+
+    /// g. to n.: 18, 19, 14, 17.
+    pub fn g_to_n(&self, start: i32, end: i32, missing: u32, strict: bool) -> Result<Answer, Refusal> {
+        let t = self.aligned()?;
+        if missing & 3 != 0 {
+            return Err(Refusal::MissingEnd);
+        }
+        let place = |g: i32| i64::from(g) - 1 - t.first;
+        inside(strict, &t.genome, place(start))?;
+        inside(strict, &t.genome, place(end))?;
+        let map = |p, is_start| map_place(&t.genome, &t.transcript, &t.letters, p, is_start, t.strand == 1);
+        let (a, b) = (map(place(start), true), map(place(end), false));
+        let mark = mark(&a, &b);
+        let n = |spot: &Spot| match t.strand {
+            1 => Whole::plain(n_of_place(spot.place), spot.offset),
+            _ => Whole::plain(n_of_place(last(&t.transcript) - 1 - spot.place), -spot.offset),
+        };
+        let (a, b) = if t.strand == 1 { (n(&a), n(&b)) } else { (n(&b), n(&a)) };
+        Ok(answer(mark, a.fit()?, b.fit()?))
+    }
+
+    /// n. to g.: 18, 14, 17.
+    pub fn n_to_g(&self, start: Asked, end: Asked, strict: bool) -> Result<Answer, Refusal> {
+        let t = self.aligned()?;
+        let turned = |asked: Asked| {
+            let place = place_of_n(i64::from(asked.base));
+            match t.strand {
+                1 => (place, i64::from(asked.offset)),
+                _ => (last(&t.transcript) - 1 - place, -i64::from(asked.offset)),
+            }
+        };
+        let (a, b) = if t.strand == 1 { (start, end) } else { (end, start) };
+        let ((a, a_offset), (b, b_offset)) = (turned(a), turned(b));
+        inside(strict, &t.transcript, a)?;
+        inside(strict, &t.transcript, b)?;
+        let map = |p, is_start| map_place(&t.transcript, &t.genome, &t.letters, p, is_start, true);
+        let (a, b) = (map(a, true), map(b, false));
+        let g = |spot: &Spot, offset: i64| Whole::plain(spot.place + t.first + 1 + offset, 0).fit();
+        Ok(answer(mark(&a, &b), g(&a, a_offset)?, g(&b, b_offset)?))
+    }
+
+    /// n. to c.: 13, 15, 17.
+    pub fn n_to_c(&self, start: Asked, end: Asked, strict: bool) -> Result<Answer, Refusal> {
+        let (s, e) = self.cds().ok_or(Refusal::NotCoding)?;
+        if strict && (start.base <= 0 || i64::from(end.base) > self.length()) {
+            return Err(Refusal::NOutside);
+        }
+        let c = |n: Asked| {
+            let b = i64::from(n.base);
+            let (base, star) = match b {
+                _ if b <= s => (b - s - i64::from(b > 0), false),
+                _ if b <= e => (b - s, false),
+                _ => (b - e, true),
+            };
+            Whole { base, offset: i64::from(n.offset), star }.fit()
+        };
+        Ok(answer(UNMARKED, c(start)?, c(end)?))
+    }
+
+    /// c. to n.: 13, then start 16, 17, then end.
+    pub fn c_to_n(&self, start: Asked, end: Asked, strict: bool) -> Result<Answer, Refusal> {
+        let (s, e) = self.cds().ok_or(Refusal::NotCoding)?;
+        let n = |c: Asked| {
+            let b = i64::from(c.base);
+            let n = if c.star { b + e } else { b + s + i64::from(b < 0) };
+            let n = if n <= 0 { n - 1 } else { n };
+            if strict && (n <= 0 || n > self.length()) {
+                return Err(Refusal::COutside);
+            }
+            Whole::plain(n, i64::from(c.offset)).fit()
+        };
+        Ok(answer(UNMARKED, n(start)?, n(end)?))
+    }
+
+    /// g. to c.: the first mapping wholly, then the second.
+    pub fn g_to_c(&self, start: i32, end: i32, missing: u32, strict: bool) -> Result<Answer, Refusal> {
+        let n = self.g_to_n(start, end, missing, strict)?;
+        let c = self.n_to_c(n.start.into(), n.end.into(), strict)?;
+        Ok(Answer { mark: n.mark, ..c })
+    }
+
+    /// c. to g.: the first mapping wholly, then the second.
+    pub fn c_to_g(&self, start: Asked, end: Asked, strict: bool) -> Result<Answer, Refusal> {
+        let n = self.c_to_n(start, end, strict)?;
+        self.n_to_g(n.start.into(), n.end.into(), strict)
+    }
+
+    /// In bounds: 18, 19.
+    pub fn in_bounds(&self, start: i32, end: i32, missing: u32) -> Result<Said, Refusal> {
+        let t = self.aligned()?;
+        if missing & 3 != 0 {
+            return Err(Refusal::MissingEnd);
+        }
+        let place = |g: i32| i64::from(g) - 1 - t.first;
+        let yes = place(start) >= 0 && place(end) <= last(&t.genome);
+        Ok(Said { number: 0, yes: u32::from(yes) })
+    }
+
+    /// Whether it codes.
+    pub fn is_coding(&self) -> Said {
+        Said { number: 0, yes: u32::from(self.cds().is_some()) }
+    }
+}
+
+// ---- Trimming
+
+/// The length of the common prefix.
+pub fn prefix(reference: &[u8], alternative: &[u8]) -> usize {
+    reference.iter().zip(alternative).take_while(|(r, a)| r == a).count()
+}
+
+/// The length of the common suffix.
+pub fn suffix(reference: &[u8], alternative: &[u8]) -> usize {
+    reference.iter().rev().zip(alternative.iter().rev()).take_while(|(r, a)| r == a).count()
+}
+
+/// What remains of the longer allele, the reference's when lengths tie.
+pub fn changed(reference: &[u8], alternative: &[u8]) -> Part {
+    let from = prefix(reference, alternative);
+    let cut = suffix(&reference[from..], &alternative[from..]);
+    let is_alternative = alternative.len() > reference.len();
+    let longer = reference.len().max(alternative.len());
+    Part { alternative: u32::from(is_alternative), from, to: longer - cut }
+}

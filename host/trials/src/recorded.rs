@@ -1,0 +1,318 @@
+//! Recorded answers: a file of 64-byte blocks that holds calls of the boundary and what to expect of them.
+//!
+//! `host/compare/README.md` describes the layout, for readers in other languages too.
+
+use pulindraxi::{
+    boundary::{self, Answer, Laid, Length, Part},
+    limits::MOST_SEGMENTS,
+};
+
+use crate::{
+    paper::{Asked, CARD_HEAD},
+    Kind, Lent, Question,
+};
+
+/// The size of a block.
+pub const BLOCK: usize = 64;
+
+/// What a row calls. The number is the row's first byte.
+#[derive(Clone, Copy, Debug, PartialEq, Eq, PartialOrd, Ord)]
+#[repr(u8)]
+pub enum Call {
+    /// The first row: the layout's version, and how many rows follow.
+    Head = 0,
+    /// `txc_build_card`.
+    BuildCard = 1,
+    /// `txc_build`.
+    Build = 2,
+    /// `txc_build_length`.
+    BuildLength = 3,
+    /// No call: the host changes lent memory.
+    Damage = 4,
+    /// `txc_g_to_n`.
+    GToN = 5,
+    /// `txc_g_to_c`.
+    GToC = 6,
+    /// `txc_n_to_g`.
+    NToG = 7,
+    /// `txc_n_to_c`.
+    NToC = 8,
+    /// `txc_c_to_n`.
+    CToN = 9,
+    /// `txc_c_to_g`.
+    CToG = 10,
+    /// `txc_in_bounds`.
+    InBounds = 11,
+    /// `txc_is_coding`.
+    IsCoding = 12,
+    /// `txc_read_cigar`.
+    ReadCigar = 13,
+    /// `txc_write_cigar`.
+    WriteCigar = 14,
+    /// `txc_write_card`.
+    WriteCard = 15,
+    /// `txc_trim_prefix`.
+    TrimPrefix = 16,
+    /// `txc_trim_suffix`.
+    TrimSuffix = 17,
+    /// `txc_changed`.
+    Changed = 18,
+}
+
+impl Call {
+    /// Every call, in the order of the numbers.
+    pub const ALL: [Call; 19] = [
+        Call::Head,
+        Call::BuildCard,
+        Call::Build,
+        Call::BuildLength,
+        Call::Damage,
+        Call::GToN,
+        Call::GToC,
+        Call::NToG,
+        Call::NToC,
+        Call::CToN,
+        Call::CToG,
+        Call::InBounds,
+        Call::IsCoding,
+        Call::ReadCigar,
+        Call::WriteCigar,
+        Call::WriteCard,
+        Call::TrimPrefix,
+        Call::TrimSuffix,
+        Call::Changed,
+    ];
+
+    /// The question of a call, if it is one.
+    fn kind(self) -> Option<Kind> {
+        let index = (self as usize).checked_sub(Call::GToN as usize)?;
+        Kind::ALL.get(index).copied()
+    }
+}
+
+impl From<Kind> for Call {
+    fn from(kind: Kind) -> Call {
+        Call::ALL[Call::GToN as usize + kind as usize]
+    }
+}
+
+/// One call and what to expect of it.
+#[derive(Clone, Debug, PartialEq, Eq)]
+pub struct Row {
+    /// What is called.
+    pub call: Call,
+    /// Of a question: bit 0 strict, bits 1 and 2 a star at start and end, bits 3 and 4 start and end missing. Of a building: the
+    /// CDS bits.
+    pub flags: u8,
+    /// Where the expectation comes from, 0 where there is none.
+    pub origin: u8,
+    /// The call's numbers.
+    pub numbers: [i32; 6],
+    /// What to expect: the refusal's number first.
+    pub answer: [i32; 8],
+    /// The call's bytes.
+    pub payload: Vec<u8>,
+}
+
+fn word(bytes: &[u8], at: usize) -> i32 {
+    i32::from_le_bytes(bytes[at..at + 4].try_into().expect("four bytes"))
+}
+
+/// An answer as eight words.
+pub fn words(answer: Answer) -> [i32; 8] {
+    let (a, b) = (answer.start, answer.end);
+    [answer.number as i32, answer.mark as i32, a.base, a.offset, a.star as i32, b.base, b.offset, b.star as i32]
+}
+
+impl Row {
+    /// A row without numbers, bytes and expectation.
+    pub fn new(call: Call) -> Row {
+        Row { call, flags: 0, origin: 0, numbers: [0; 6], answer: [0; 8], payload: Vec::new() }
+    }
+
+    /// The row of a question, without its expectation.
+    pub fn asking(question: &Question) -> Row {
+        let Question { kind, start: a, end: b, missing, strict } = *question;
+        let flags = u8::from(strict) | u8::from(a.star) << 1 | u8::from(b.star) << 2 | (missing as u8) << 3;
+        Row { flags, numbers: [a.base, a.offset, b.base, b.offset, 0, 0], ..Row::new(kind.into()) }
+    }
+
+    /// The question of a row.
+    fn question(&self, kind: Kind) -> Question {
+        let [a, a_offset, b, b_offset, ..] = self.numbers;
+        let bit = |bit: u8| self.flags >> bit & 1 == 1;
+        Question {
+            kind,
+            start: Asked { base: a, offset: a_offset, star: bit(1) },
+            end: Asked { base: b, offset: b_offset, star: bit(2) },
+            missing: u32::from(self.flags >> 3 & 3),
+            strict: bit(0),
+        }
+    }
+
+    /// Appends the row's blocks.
+    pub fn write(&self, file: &mut Vec<u8>) {
+        file.extend([self.call as u8, self.flags, self.origin, 0]);
+        file.extend((self.payload.len() as u32).to_le_bytes());
+        for number in self.numbers.iter().chain(&self.answer) {
+            file.extend(number.to_le_bytes());
+        }
+        file.extend(&self.payload);
+        file.resize(file.len().next_multiple_of(BLOCK), 0);
+    }
+
+    /// The row at the front of a file, and what follows it.
+    pub fn read(file: &[u8]) -> Option<(Row, &[u8])> {
+        let (block, rest) = file.split_at_checked(BLOCK)?;
+        let length = word(block, 4) as usize;
+        let (payload, rest) = rest.split_at_checked(length.next_multiple_of(BLOCK))?;
+        let row = Row {
+            call: *Call::ALL.get(usize::from(block[0]))?,
+            flags: block[1],
+            origin: block[2],
+            numbers: std::array::from_fn(|i| word(block, 8 + 4 * i)),
+            answer: std::array::from_fn(|i| word(block, 32 + 4 * i)),
+            payload: payload[..length].to_vec(),
+        };
+        Some((row, rest))
+    }
+
+    /// Building's input of a row.
+    fn laid(&self) -> Laid<'_> {
+        let [strand, cds_start, cds_end, count, ..] = self.numbers;
+        let records = &self.payload;
+        Laid { strand, cds: u32::from(self.flags), cds_start, cds_end, count: count as usize, records }
+    }
+}
+
+/// Elements of five bytes each: a count and a letter.
+fn elements(bytes: &[u8]) -> impl Iterator<Item = (i32, u8)> + '_ {
+    bytes.chunks_exact(5).map(|five| (word(five, 0), five[4]))
+}
+
+/// What building's row expects of the memory: strand, first start, segment count, both lengths.
+pub fn built(number: u32, lent: &Lent) -> [i32; 8] {
+    let [kind, strand, first, count, _, _, _, length] = *lent.head;
+    let last = count as usize;
+    match (number, kind) {
+        (0, 0) => [0, strand, first, count, lent.genome[last] as i32, lent.transcript[last] as i32, 0, 0],
+        (0, _) => [0, 0, 0, 0, 0, length, 0, 0],
+        _ => [number as i32, 0, 0, 0, 0, 0, 0, 0],
+    }
+}
+
+fn counted(length: Length) -> [i32; 8] {
+    [length.number as i32, length.length as i32, 0, 0, 0, 0, 0, 0]
+}
+
+/// Changes one number of lent memory.
+pub fn damage(lent: &mut Lent, [table, index, value, ..]: [i32; 6]) {
+    let index = index as usize;
+    match table {
+        0 => lent.head[index] = value,
+        1 => lent.genome[index] = value as u32,
+        2 => lent.transcript[index] = value as u32,
+        _ => lent.letters[index] = value as u8,
+    }
+}
+
+fn read_cigar(row: &Row) -> Result<[i32; 8], String> {
+    let (text, expected) = row.payload.split_at(row.numbers[0] as usize);
+    let mut counts = Box::new([0; MOST_SEGMENTS]);
+    let mut letters = Box::new([0; MOST_SEGMENTS]);
+    let read = boundary::read_cigar(text, &mut counts, &mut letters);
+    let got = counts.iter().copied().zip(letters.iter().copied());
+    if got.take(read.length).eq(elements(expected)) {
+        Ok(counted(read))
+    } else {
+        Err("other elements".into())
+    }
+}
+
+fn write_cigar(row: &Row) -> Result<[i32; 8], String> {
+    let [number, lent, room, ..] = row.numbers.map(|number| number as usize);
+    let (given, expected) = row.payload.split_at(5 * lent);
+    let mut counts = Box::new([0; MOST_SEGMENTS]);
+    let mut letters = Box::new([0; MOST_SEGMENTS]);
+    for (place, (count, letter)) in elements(given).enumerate() {
+        (counts[place], letters[place]) = (count, letter);
+    }
+    let mut buffer = vec![0; room];
+    let written = boundary::write_cigar(number, &counts, &letters, &mut buffer);
+    if buffer.starts_with(expected) && buffer[expected.len()..].iter().all(|&byte| byte == 0) {
+        Ok(counted(written))
+    } else {
+        Err("another text".into())
+    }
+}
+
+fn write_card(row: &Row) -> Result<[i32; 8], String> {
+    let mut buffer = vec![0; row.numbers[4] as usize];
+    let written = boundary::write_card(row.laid(), &mut buffer);
+    if written.number != 0
+        || buffer[..written.length].ends_with(&row.payload) && written.length == CARD_HEAD + row.payload.len()
+    {
+        Ok(counted(written))
+    } else {
+        Err("another card".into())
+    }
+}
+
+/// Calls the boundary as a row says, and gives what it answered.
+fn call(row: &Row, lent: &mut Lent) -> Result<[i32; 8], String> {
+    if let Some(kind) = row.call.kind() {
+        return Ok(words(row.question(kind).ask(lent)));
+    }
+    let (reference, alternative) = row.payload.split_at(match row.call {
+        Call::TrimPrefix | Call::TrimSuffix | Call::Changed => row.numbers[0] as usize,
+        _ => 0,
+    });
+    let trimmed = |length: usize| Ok([0, length as i32, 0, 0, 0, 0, 0, 0]);
+    match row.call {
+        Call::BuildCard => Ok(built(lent.build_card(&row.payload), lent)),
+        Call::Build => Ok(built(lent.build(row.laid()), lent)),
+        Call::BuildLength => {
+            let [length, start, end, ..] = row.numbers;
+            let number = boundary::txc_build_length(length, u32::from(row.flags), start, end, &mut lent.head);
+            Ok(built(number, lent))
+        }
+        Call::Damage => {
+            damage(lent, row.numbers);
+            Ok([0; 8])
+        }
+        Call::ReadCigar => read_cigar(row),
+        Call::WriteCigar => write_cigar(row),
+        Call::WriteCard => write_card(row),
+        Call::TrimPrefix => trimmed(boundary::trim_prefix(reference, alternative)),
+        Call::TrimSuffix => trimmed(boundary::trim_suffix(reference, alternative)),
+        Call::Changed => {
+            let Part { alternative, from, to } = boundary::changed(reference, alternative);
+            Ok([0, alternative as i32, from as i32, to as i32, 0, 0, 0, 0])
+        }
+        _ => Err("a row in the wrong place".into()),
+    }
+}
+
+/// Calls the boundary as every row of a file says, and compares. Gives the number of rows, or what is wrong first.
+pub fn replay(file: &[u8]) -> Result<usize, String> {
+    let (head, mut rest) = Row::read(file).ok_or("no rows")?;
+    if head.call != Call::Head || head.numbers[0] != 1 {
+        return Err("no layout of version 1".into());
+    }
+    let mut lent = Lent::filled(0);
+    let mut rows = 0;
+    while !rest.is_empty() {
+        let (row, after) = Row::read(rest).ok_or_else(|| format!("row {rows} is cut off"))?;
+        let answer = call(&row, &mut lent).map_err(|why| format!("row {rows}, {:?}: {why}", row.call))?;
+        if answer != row.answer {
+            return Err(format!("row {rows}, {:?} {:?}: {answer:?}, recorded {:?}", row.call, row.numbers, row.answer));
+        }
+        rest = after;
+        rows += 1;
+    }
+    if rows == head.numbers[1] as usize {
+        Ok(rows)
+    } else {
+        Err(format!("{rows} rows, but the first says {}", head.numbers[1]))
+    }
+}
