@@ -14,7 +14,6 @@ import sys
 ROOT = pathlib.Path(__file__).resolve().parent.parent
 LARGEST_CARD, MOST_RECORDS, MOST_SEGMENTS, MOST_TEXT = 65536, 512, 2048, 4096
 LARGEST_COUNT, LARGEST_END = 2147483647, 2000000000
-BOTH, GENOME_ONLY = '=MX', 'IN'
 
 
 class Refused(Exception):
@@ -115,7 +114,8 @@ def build(strand, start, end, records):
 
 
 def along(letter, count):
-    return (0 if letter == 'D' else count), (count if letter in BOTH or letter == 'D' else 0)
+    """How far an element goes along the genome and along the transcript."""
+    return (count if letter in '=MXIN' else 0), (count if letter in '=MXD' else 0)
 
 
 # ---- the listing

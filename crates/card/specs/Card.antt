@@ -79,7 +79,7 @@ numbersIn s = record {
 unfoldable pub arePlain : ℕ → ℤ → ℤ → Bool
 arePlain cds start end = eqZ (numberOf (startOf cds start)) start && eqZ (numberOf (endOf cds end)) end
 
--- all else: the strand and CDS bytes are of those above, so are the bounds' numbers, the records are just as many as the count says, and nothing follows
+-- all else: the strand byte is 0 or 1, the CDS byte has no other bits, the bounds' numbers are plain, the records are just as many as the count says, and nothing follows
 unfoldable pub isCard : List ℕ → Bool
 isCard s =
     leb recordsAt (length s)
@@ -97,8 +97,9 @@ readCard s =
     else if not (isCard s) then read.Refused noCard
     else read.Card (numbersIn s)
 
--- ---- the input that numbers and records stand for
+-- ---- the input that numbers and bytes stand for
 
+-- n records in bytes, with the numbers that building is handed
 abbrev pub inputOf : ℤ → ℕ → ℤ → ℤ → ℕ → List ℕ → Input
 inputOf strand cds start end n s = record { strand = strand; start = startOf cds start; end = endOf cds end; records = recordsFrom n s 0 }
 

@@ -32,7 +32,7 @@ use transcript::reading::Tally;
 
 const VERSION: u32 = 1;
 
-// Where a card's numbers stand, and its records.
+// Where a card's numbers stand: the version, the strand and CDS bytes, the CDS start and end, the record count; and its records.
 const VERSION_AT: usize = 3;
 
 const STRAND_AT: usize = 5;
@@ -73,7 +73,7 @@ pub fn put_mark(buffer: &mut [u8])
     buffer[2] = b'C';
 }
 
-// Whether bytes have a version and the mark.
+// Whether bytes are long enough for a version and begin with the mark.
 fn is_marked(card: &[u8]) -> bool
     ensures { λ r. ⌜ r ≡ isMarked (now (card .entry)) ⌝ }
 {

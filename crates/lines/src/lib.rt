@@ -49,7 +49,7 @@ fn put_numbers(buffer: &mut [u8], at: usize, a: u32, b: u32, c: u32) -> usize
     end + 1
 }
 
-// How far a start is above the one before it.
+// How far a start is above the one before it, or 0.
 fn step(from: u32, to: u32) -> u32
     ensures { λ r. ⌜ r ≡ to - from ⌝ }
 {
@@ -117,6 +117,7 @@ fn put_lines(
     at
 }
 
+// The sign of a strand.
 fn sign(forward: bool) -> u8
     ensures { λ r. ⌜ r ≡ signOf forward ⌝ }
 {
