@@ -6,8 +6,8 @@ use lib.ListN.{length}
 use Rattle.whole.specs.Whole.{if_then_else_}
 use Rattle.cigar.specs.Elements.{Element, genome, transcript, total}
 use Rattle.cigar.specs.Write.{decimal}
-use Rattle.transcript.specs.Building.{elementsOf}
 use Rattle.transcript.specs.Judging.{Judged, Made, refused, accepted}
+use Rattle.transcript.specs.Outcome.{elementsMade}
 use Rattle.card.specs.Layout.{mark}
 
 -- a space and a number
@@ -46,4 +46,4 @@ refusalText k = 114 ∷ 101 ∷ 102 ∷ 117 ∷ 115 ∷ 101 ∷ 100 ∷ (numberT
 -- what is written of building's judgment
 abbrev pub judgmentText : Judged Made → List ℕ
 judgmentText (refused k) = refusalText k
-judgmentText (accepted m) = listingText (m .forward) (elementsOf (m .forward) (m .exon-list))
+judgmentText (accepted m) = listingText (m .forward) (elementsMade m)
