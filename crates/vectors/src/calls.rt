@@ -38,7 +38,7 @@ pub const CHANGED: usize = 18;
 pub const END: usize = CHANGED + 1;
 
 // Writes the name of a call.
-pub fn say(call: usize) {
+pub(crate) fn say(call: usize) {
     match call {
         BUILD_CARD => crate::say::text(b"build_card"),
         BUILD => crate::say::text(b"build"),

@@ -220,7 +220,7 @@ fn is_coding(
 }
 
 // Whether a question is answered as recorded.
-pub fn agrees(
+pub(crate) fn agrees(
     row: &[u8],
     head: &[i32; 8],
     genome: &[u32; MOST_STARTS],

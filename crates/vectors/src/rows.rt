@@ -25,14 +25,14 @@ const ANSWER: usize = 8;
 const FIRST_ANSWER: usize = 8;
 
 // Room for a file.
-pub fn space() -> [u8; MOST_FILE]
+pub(crate) fn space() -> [u8; MOST_FILE]
     ensures { λ r. ⌜ mostFile ≡ length r ⌝ }
 {
     [0; MOST_FILE]
 }
 
 // The bytes from a place on, none where there is no such place.
-pub fn rest(s: &[u8], from: usize) -> &[u8] {
+pub(crate) fn rest(s: &[u8], from: usize) -> &[u8] {
     if s.len() < from {
         return &s[..0];
     }
@@ -40,7 +40,7 @@ pub fn rest(s: &[u8], from: usize) -> &[u8] {
 }
 
 // So many bytes from a place on, none where the end comes sooner.
-pub fn part(s: &[u8], from: usize, size: usize) -> &[u8] {
+pub(crate) fn part(s: &[u8], from: usize, size: usize) -> &[u8] {
     if s.len() < from {
         return &s[..0];
     }
@@ -84,22 +84,22 @@ fn size_word(row: &[u8], i: usize) -> usize
 }
 
 // What a row calls.
-pub fn call(row: &[u8]) -> usize {
+pub(crate) fn call(row: &[u8]) -> usize {
     size_word(row, 0) % 256
 }
 
 // A row's flags.
-pub fn flags(row: &[u8]) -> u32 {
+pub(crate) fn flags(row: &[u8]) -> u32 {
     word(row, 0) / 256 % 256
 }
 
 // Where a row's expectation comes from.
-pub fn origin(row: &[u8]) -> usize {
+pub(crate) fn origin(row: &[u8]) -> usize {
     size_word(row, 0) / 65_536 % 256
 }
 
 // A number of the call.
-pub fn number(row: &[u8], i: usize) -> i32 {
+pub(crate) fn number(row: &[u8], i: usize) -> i32 {
     if i < NUMBERS {
         signed_word(row, FIRST_NUMBER + i)
     } else {
@@ -108,7 +108,7 @@ pub fn number(row: &[u8], i: usize) -> i32 {
 }
 
 // A number of the call as 32 bits.
-pub fn bits(row: &[u8], i: usize) -> u32 {
+pub(crate) fn bits(row: &[u8], i: usize) -> u32 {
     if i < NUMBERS {
         word(row, FIRST_NUMBER + i)
     } else {
@@ -117,19 +117,19 @@ pub fn bits(row: &[u8], i: usize) -> u32 {
 }
 
 // A number of the call as a size.
-pub fn size(row: &[u8], i: usize) -> usize
+pub(crate) fn size(row: &[u8], i: usize) -> usize
     ensures { λ r. ⌜ r ≤ mostWord ⌝ }
 {
     bits(row, i) as usize
 }
 
 // A row's own bytes.
-pub fn payload(row: &[u8]) -> &[u8] {
+pub(crate) fn payload(row: &[u8]) -> &[u8] {
     part(row, BLOCK, size_word(row, 1))
 }
 
 // A word of the answer that a row expects.
-pub fn answer(row: &[u8], i: usize) -> usize {
+pub(crate) fn answer(row: &[u8], i: usize) -> usize {
     if i < ANSWER {
         size_word(row, FIRST_ANSWER + i)
     } else {
@@ -138,17 +138,17 @@ pub fn answer(row: &[u8], i: usize) -> usize {
 }
 
 // Whether a word of the answer is this number.
-pub fn expects(row: &[u8], i: usize, n: usize) -> bool {
+pub(crate) fn expects(row: &[u8], i: usize, n: usize) -> bool {
     answer(row, i) == n
 }
 
 // Whether a word of the answer is this number of 32 bits.
-pub fn expects_word(row: &[u8], i: usize, n: u32) -> bool {
+pub(crate) fn expects_word(row: &[u8], i: usize, n: u32) -> bool {
     expects(row, i, n as usize)
 }
 
 // Whether a word of the answer is this signed number.
-pub fn expects_signed(row: &[u8], i: usize, z: i32) -> bool {
+pub(crate) fn expects_signed(row: &[u8], i: usize, z: i32) -> bool {
     if i < ANSWER {
         let word = signed_word(row, FIRST_ANSWER + i);
         word == z
@@ -158,7 +158,7 @@ pub fn expects_signed(row: &[u8], i: usize, z: i32) -> bool {
 }
 
 // Whether the words of the answer from one on are 0.
-pub fn expects_no_more(row: &[u8], from: usize) -> bool {
+pub(crate) fn expects_no_more(row: &[u8], from: usize) -> bool {
     for i in from..ANSWER {
         if !expects(row, i, 0) {
             return false;
@@ -168,12 +168,12 @@ pub fn expects_no_more(row: &[u8], from: usize) -> bool {
 }
 
 // Whether a file begins with a head of this layout.
-pub fn has_head(file: &[u8]) -> bool {
+pub(crate) fn has_head(file: &[u8]) -> bool {
     call(file) == 0 && BLOCK <= file.len() && number(file, 0) == VERSION
 }
 
 // Tells how many rows a file's head promises, unless it has just so many.
-pub fn tell_promised(file: &[u8], rows: u64) {
+pub(crate) fn tell_promised(file: &[u8], rows: u64) {
     let promised = size(file, 1) as u64;
     if promised != rows {
         say::text(b"promised are ");
@@ -183,7 +183,7 @@ pub fn tell_promised(file: &[u8], rows: u64) {
 }
 
 // How many bytes the row at a place has, 0 where it is cut off.
-pub fn row_size(file: &[u8], at: usize) -> usize
+pub(crate) fn row_size(file: &[u8], at: usize) -> usize
     requires { ⌜ at ≤ length (now file) ⌝ }
     ensures { λ r. ⌜ at + r ≤ length (now (file .entry)) ⌝ }
 {

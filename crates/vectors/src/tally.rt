@@ -22,7 +22,7 @@ const ORIGINS: usize = ADDED + 1;
 // The most differences that are told one by one.
 const MOST_TOLD: u64 = 20;
 
-pub struct Tally {
+pub(crate) struct Tally {
     pub rows: u64,
     agreed: u64,
     calls: [u64; calls::END],
@@ -84,7 +84,7 @@ fn tell_number(number: usize, rows: u64) {
 }
 
 impl Tally {
-    pub fn new() -> Self {
+    pub(crate) fn new() -> Self {
         Self {
             rows: 0,
             agreed: 0,
@@ -96,7 +96,7 @@ impl Tally {
     }
 
     // With one row more. A call, a number or an origin that rows cannot have is counted among all rows alone.
-    pub fn with(mut self, row: &[u8], agrees: bool) -> Self {
+    pub(crate) fn with(mut self, row: &[u8], agrees: bool) -> Self {
         let call = rows::call(row);
         let number = rows::answer(row, 0);
         let origin = rows::origin(row);
@@ -116,7 +116,7 @@ impl Tally {
     }
 
     // Tells that the last row differs, unless many did before it.
-    pub fn tell_difference(self, row: &[u8]) {
+    pub(crate) fn tell_difference(self, row: &[u8]) {
         if differed(self.rows, self.agreed) <= MOST_TOLD {
             say::text(b"row ");
             say::number(self.rows);
@@ -127,7 +127,7 @@ impl Tally {
     }
 
     // Tells that the row after the last one is cut off.
-    pub fn tell_cut_off(self) {
+    pub(crate) fn tell_cut_off(self) {
         say::text(b"cut off after row ");
         say::number(self.rows);
         say::text(b"\n");
@@ -167,7 +167,7 @@ impl Tally {
     }
 
     // Tells the counts, the whole last.
-    pub fn tell(self) {
+    pub(crate) fn tell(self) {
         self.tell_calls();
         self.tell_numbers();
         self.tell_origins();

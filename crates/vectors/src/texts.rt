@@ -218,7 +218,7 @@ fn alleles_agree(row: &[u8]) -> bool {
 }
 
 // Whether a row that lends no transcript is answered as recorded.
-pub fn agrees(row: &[u8]) -> bool {
+pub(crate) fn agrees(row: &[u8]) -> bool {
     match rows::call(row) {
         calls::READ_CIGAR => read_cigar(row),
         calls::WRITE_CIGAR => write_cigar(row),

@@ -167,7 +167,7 @@ fn build_length(row: &[u8], head: &mut [i32; 8]) -> bool {
 }
 
 // Whether a row that changes the lent transcript is answered as recorded.
-pub fn agrees(
+pub(crate) fn agrees(
     row: &[u8],
     head: &mut [i32; 8],
     genome: &mut [u32; MOST_STARTS],
