@@ -4,19 +4,18 @@
 --     laid-from, from-fit, from-length   bytes that are just n records are what those lay out, and they fit
 -- Assumes nothing.
 use mathlib.Core.Path.{_≡_, refl, sym, ap, ap₂, _∙_}
-use mathlib.Core.Bool.{Bool, true, false, _&&_}
-use mathlib.Core.List.{List, [], _∷_, _++_, append-nil, append-assoc}
-use Prim.Native.Nat.{ℕ, zero, suc, _+_, _-_, _*_, _<_, _≤_, _^_}
+use mathlib.Core.Bool.{true}
+use mathlib.Core.List.{List, [], _∷_, _++_}
+use Prim.Native.Nat.{ℕ, zero, suc, _+_, _-_, _<_, _≤_}
 use native.Mathlib.Nat.{add-zero}
 use native.Mathlib.Omega.{arith}
 use borrow.Author.Tests.{eq-eqb, eqb-true, le-leb}
-use lib.Dec.{eqb, leb}
 use lib.IntN.{ℤ}
 use lib.ListN.{length, take, drop, length-append, length-drop, take-append-drop, drop-of-length-le}
 use lib.Seq.{drop-drop, take-add, take-at, drop-at, length-take-le}
 use mir.Syntax.{w32}
 use mir.Val.{SFits}
-use Rattle.fields.specs.Fields.{little, bytes, le16, le32, bytes16, bytes32, signed32, bits32}
+use Rattle.fields.specs.Fields.{little, le16, le32, bytes16, bytes32, signed32, bits32}
 use Rattle.fields.specs.RoundTrips.{Bytes, little-bytes, signed-bits, bits-fit, bits-signed, signed-fits, bytes16-le, bytes32-le, le16-below, le32-below}
 use Rattle.records.specs.Layout.{altStart, altEnd, txStart, txEnd, ordAt, cigarSize, cigarText}
 use Rattle.records.specs.Records.{Record, fieldAt, sizeAt, nextAt, recordAt, laid, exactly, recordsFrom}

@@ -5,10 +5,10 @@
 --     is-canonical   every card that is read is the card that its input is written as
 -- Assumes nothing.
 use mathlib.Core.Path.{_≡_, refl, sym, ap, ap₂, _∙_}
-use mathlib.Core.Bool.{Bool, true, false}
+use mathlib.Core.Bool.{true}
 use mathlib.Core.Logic.{_⊎_, ⊎-elim}
 use mathlib.Core.List.{List, [], _∷_, _++_}
-use Prim.Native.Nat.{ℕ, zero, suc, _+_, _-_, _*_, _%_, _<_, _≤_}
+use Prim.Native.Nat.{ℕ, _+_, _-_, _%_, _<_, _≤_}
 use native.Mathlib.Omega.{arith}
 use borrow.Author.Tests.{eq-eqb, eqb-true, eqb-false, le-leb, leb-true, leb-false, le-ltb, ltb-false}
 use lib.Dec.{eqb, leb, ltb}
@@ -18,17 +18,17 @@ use lib.Seq.{drop-cons, getD-drop}
 use mir.Syntax.{w32}
 use mir.Val.{SFits}
 use Rattle.refusals.specs.Numbers.{mostCard}
-use Rattle.whole.specs.Whole.{if_then_else_, eqZ, by-test, order, eq-by, eq-yes-by, eq-yes-says}
-use Rattle.fields.specs.Fields.{little, bytes, le16, le32, bytes16, bytes32, signed32, bits32}
+use Rattle.whole.specs.Whole.{eqZ, by-test, eq-by, eq-yes-by, eq-yes-says}
+use Rattle.fields.specs.Fields.{le16, le32, bytes16, bytes32, bits32}
 use Rattle.fields.specs.RoundTrips.{Bytes, little-bytes, bytes16-le}
 use Rattle.segments.specs.Meaning.{both}
 use Rattle.records.specs.Records.{Record, fieldAt, exactly, recordsFrom}
-use Rattle.transcript.specs.Judging.{bothBits, boundOf, startOf, endOf}
+use Rattle.transcript.specs.Judging.{bothBits, startOf, endOf}
 use Rattle.transcript.specs.Outcome.{strandOf, numberOf}
 use Rattle.transcript.specs.declared.Bound.{Bound}
 use Rattle.transcript.specs.declared.Bound.the-variants.{Given, Absent}
 use Rattle.card.specs.Layout.{mark, version, versionAt, strandAt, cdsAt, startAt, endAt, countAt, recordsAt}
-use Rattle.card.specs.Card.{Input, strandByte, cdsByte, recordsText, headerText, cardText, isMarked, numbersIn, arePlain, isCard, readCard, inputOf, inputIn, Said, input, refused, said, cardSays}
+use Rattle.card.specs.Card.{Input, strandByte, cdsByte, recordsText, headerText, cardText, isMarked, numbersIn, arePlain, isCard, readCard, inputIn, input, said, cardSays}
 use Rattle.card.specs.Records.{AllFit, signed-back, from-laid, exactly-laid, from-length, field-laid, beside, laid-from}
 use Rattle.card.specs.declared.Numbers.{Numbers}
 use Rattle.card.specs.declared.ReadCard.{ReadCard}

@@ -4,10 +4,9 @@
 use mathlib.Core.Path.{_≡_, refl, sym, ap, ap₂, _∙_}
 use mathlib.Core.Bool.{Bool}
 use mathlib.Core.List.{List, [], _++_}
-use Prim.Native.Nat.{ℕ, zero, suc, _+_, _≤_, _<_}
+use Prim.Native.Nat.{ℕ, zero, suc, _+_, _≤_}
 use native.Mathlib.Omega.{arith}
-use lib.ListN.{getD, length}
-use Rattle.cigar.specs.Elements.{Element, genome, transcript, total}
+use lib.ListN.{getD}
 use Rattle.segments.specs.Tables.{Holds, elementAt, elementsFrom, read}
 use Rattle.segments.specs.Reading.{read-length, genome-step, transcript-step, last-genome, last-transcript}
 use Rattle.lines.specs.Listing.{headerText, lineText, linesText, listingText}

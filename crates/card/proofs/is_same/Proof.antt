@@ -1,14 +1,12 @@
+-- `card::is_same` meets its contract: `==` compares the bits, and its branch tells of the numbers.
+-- Assumes nothing.
 use Rattle.whole.specs.Whole.{whole}
 use Rattle.card.proofs.is_same.Statement.{statement}
 use Rattle.card.proofs.is_same.Tie as tie
-use Rattle.card.proofs.is_same.Reads as reads
-use Rattle.card.proofs.is_same.Lts as lts
 
--- src/lib.rt:116:9
 returns : tie.Need-returns
 returns c = search whole
 
--- src/lib.rt:112:1
 returns-2 : tie.Need-returns-2
 returns-2 c = search whole
 

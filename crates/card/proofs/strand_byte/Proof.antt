@@ -1,9 +1,8 @@
+-- `card::strand_byte` meets its contract: `==` compares the bits, and its branch tells of the numbers.
+-- Assumes nothing.
 use Rattle.whole.specs.Whole.{whole}
-use borrow.Author.Needs.{needs}
 use Rattle.card.proofs.strand_byte.Statement.{statement}
 use Rattle.card.proofs.strand_byte.Tie as tie
-use Rattle.card.proofs.strand_byte.Reads as reads
-use Rattle.card.proofs.strand_byte.Lts as lts
 
 returns : tie.Need-returns
 returns c = search whole

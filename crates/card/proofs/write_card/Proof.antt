@@ -1,8 +1,6 @@
 -- `card::write_card` meets its contract: building's judgment comes first, and what it takes is written.
 -- Assumes nothing.
-use mathlib.Core.Path.{_≡_, refl, sym, ap, _∙_}
-use mathlib.Core.List.{List}
-use Prim.Native.Nat.{ℕ}
+use mathlib.Core.Path.{_≡_, sym, ap, _∙_}
 use lib.IntN.{ℤ}
 use lib.ListN.{length}
 use mir.Syntax.{w32}
@@ -11,7 +9,6 @@ use Rattle.whole.specs.Whole.{read}
 use Rattle.cigar.specs.Write.{Writing, answerOf, bufferAfter}
 use Rattle.transcript.specs.Judging.{Judged, Made, refused, accepted, judge}
 use Rattle.transcript.specs.Tallies.{toldOf}
-use Rattle.transcript.specs.declared.reading.Tally.the-variants as tally
 use Rattle.card.specs.Card.{cardText, inputOf}
 use Rattle.card.specs.Writing.{fitted, ifTaken, cardWriting}
 use Rattle.card.specs.Taken.{taken-records, taken-few}

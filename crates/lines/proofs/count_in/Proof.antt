@@ -9,7 +9,6 @@ use lib.Signed.{leZ, nonNeg}
 use mir.Syntax.{w32, w64}
 use mir.Val.{Fits, SFits}
 use Rattle.whole.specs.Whole.{read}
-use borrow.Author.Needs.{needs}
 use Rattle.lines.proofs.count_in.Statement.{statement}
 use Rattle.lines.proofs.count_in.Tie as tie
 

@@ -1,14 +1,12 @@
+-- `lines::is_plus` meets its contract: `==` compares the bits, and its branch tells of the numbers.
+-- Assumes nothing.
 use Rattle.whole.specs.Whole.{whole}
 use Rattle.lines.proofs.is_plus.Statement.{statement}
 use Rattle.lines.proofs.is_plus.Tie as tie
-use Rattle.lines.proofs.is_plus.Reads as reads
-use Rattle.lines.proofs.is_plus.Lts as lts
 
--- src/lib.rt:180:9
 returns : tie.Need-returns
 returns c = search whole
 
--- src/lib.rt:176:1
 returns-2 : tie.Need-returns-2
 returns-2 c = search whole
 

@@ -3,7 +3,6 @@
 use mathlib.Core.Path.{_≡_}
 use native.Mathlib.Omega.{arith}
 use Prim.Native.Nat.{_+_, _*_, _-_, _≤_}
-use lib.ListN.{length}
 use Rattle.lines.specs.Tables.{linesFrom}
 use Rattle.lines.specs.Lengths.{mostLine}
 use Rattle.card.specs.Putting.{Put, none-put, then-put, put-length}

@@ -8,7 +8,6 @@ use lib.Seq.{length-take-le}
 use borrow.Author.Needs.{needs}
 use Rattle.listings.proofs.list_all.Statement.{statement}
 use Rattle.listings.proofs.list_all.Tie as tie
-use Rattle.fields.proofs.u32_at.Reads as u32-at-reads
 
 abbrev Inv-loop : tie.InvT-loop
 Inv-loop cards genome₀ transcript₀ letters₀ text₀ at₀ genome transcript letters text at = (at ≤ length cards) × (length text ≡ length text₀)
