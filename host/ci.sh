@@ -20,6 +20,20 @@ last_line() {
     tail -n 1 "$log"
 }
 
+# Runs the tests of the default packages, or of those that are named, and prints how many passed.
+tests() {
+    cargo test --release --quiet "$@" >"$log" 2>&1 || {
+        cat "$log"
+        exit 1
+    }
+    awk '/^test result: ok/ { passed += $4 } END { print passed " passed" }' "$log"
+}
+
+# The archive links into x86-64 programs alone.
+if [ "$(uname -m)" != x86_64 ]; then
+    say "the archive is for x86-64, and this machine is $(uname -m): the host cannot be tried here"
+    exit 1
+fi
 ./install.sh
 [ -n "${TXC_ARCHIVE:-}" ] || (cd .. && rt staticlib entry)
 # The archive exports just the header's entries.
@@ -32,11 +46,7 @@ cargo build --release --quiet
 if cargo fmt --version >/dev/null 2>&1; then cargo fmt --check; fi
 if cargo clippy --version >/dev/null 2>&1; then cargo clippy --release --quiet -- --deny warnings; fi
 say "tests"
-cargo test --release --quiet >"$log" 2>&1 || {
-    cat "$log"
-    exit 1
-}
-awk '/^test result: ok/ { passed += $4 } END { print passed " passed" }' "$log"
+tests
 
 say "bad input"
 last_line target/release/fuzz --seed 1 --count 1000000
@@ -53,6 +63,7 @@ HGVS_SRC=$(cd "$source" && pwd)
 export HGVS_SRC
 say "comparison with crate hgvs"
 cargo build --release --quiet --package compare
+tests --package compare
 last_line target/release/compare random --seed 1 --count 1200000
 last_line target/release/compare small --elements 1
 last_line target/release/compare differences --check ../docs/DIFFERENCES.md

@@ -1,13 +1,77 @@
 //! The boundary as `include/txc.h` has it: plain numbers and lent memory, one function an entry.
 //!
 //! Every entry answers any numbers and any bytes, so each is safe to call. The rest of the crate stands on this module; it
-//! alone says `unsafe`, for the entries that take a pointer and a length.
+//! alone says `unsafe`, for the entries that take a pointer and a length. A question is handed its transcript as a
+//! [`Reading`], a building its memory as a [`Filling`]: the tables that an entry takes are spelled out here alone.
 #![allow(unsafe_code)]
 
 use crate::limits::{MOST_SEGMENTS, MOST_STARTS};
 
-/// Kind, strand, first start, segment count, CDS bits, CDS start, CDS end, length of a length-only transcript.
-pub type Head = [i32; 8];
+// ---- What is lent
+
+/// Declares the head by the names of its numbers, in their order.
+macro_rules! head {
+    ($($(#[$words:meta])* $name:ident)*) => {
+        /// The head of a transcript. A number that its kind or its bit does not use is written 0 and not looked at.
+        #[repr(C)]
+        #[derive(Clone, Copy, Debug, PartialEq, Eq)]
+        pub struct Head {
+            $($(#[$words])* pub $name: i32,)*
+        }
+
+        impl Head {
+            /// How many numbers it has.
+            pub const COUNT: usize = [$(stringify!($name)),*].len();
+
+            /// A head that holds one number throughout.
+            pub const fn filled(with: i32) -> Head {
+                Head { $($name: with),* }
+            }
+
+            /// Its numbers in their order.
+            pub const fn numbers(self) -> [i32; Head::COUNT] {
+                [$(self.$name),*]
+            }
+        }
+
+        impl From<[i32; Head::COUNT]> for Head {
+            fn from([$($name),*]: [i32; Head::COUNT]) -> Head {
+                Head { $($name),* }
+            }
+        }
+    };
+}
+
+head! {
+    /// [`Head::RECORDS`] or [`Head::LENGTH_ONLY`].
+    kind
+    /// 1 or -1.
+    strand
+    /// Where the first record begins on the genome.
+    first_start
+    /// How many segments there are.
+    segment_count
+    /// Which CDS bounds are given: the bits of [`Cds`].
+    cds_bits
+    /// The CDS start.
+    cds_start
+    /// The CDS end.
+    cds_end
+    /// The length of a length-only transcript.
+    length
+}
+
+impl Head {
+    /// The kind of a transcript that was built from records.
+    pub const RECORDS: i32 = 0;
+    /// The kind of a transcript that was built from a length alone.
+    pub const LENGTH_ONLY: i32 = 1;
+}
+
+// The entries see an array of numbers.
+const _: () = assert!(size_of::<Head>() == size_of::<[i32; Head::COUNT]>());
+const _: () = assert!(align_of::<Head>() == align_of::<i32>());
+
 /// The running starts of the segments on one side, and the total.
 pub type Starts = [u32; MOST_STARTS];
 /// The segments' letters.
@@ -15,7 +79,103 @@ pub type Letters = [u8; MOST_SEGMENTS];
 /// The counts of elements.
 pub type Counts = [i32; MOST_SEGMENTS];
 
-/// A position; of a g. position the base alone counts.
+/// A transcript that is lent to a question (`TXC_READ`).
+#[derive(Clone, Copy, Debug)]
+pub struct Reading<'a> {
+    /// The head.
+    pub head: &'a Head,
+    /// The starts on the genome.
+    pub genome: &'a Starts,
+    /// The starts on the transcript.
+    pub transcript: &'a Starts,
+    /// The letters.
+    pub letters: &'a Letters,
+}
+
+/// Memory that is lent to a building (`TXC_LENT`).
+#[derive(Debug)]
+pub struct Filling<'a> {
+    /// The head.
+    pub head: &'a mut Head,
+    /// The starts on the genome.
+    pub genome: &'a mut Starts,
+    /// The starts on the transcript.
+    pub transcript: &'a mut Starts,
+    /// The letters.
+    pub letters: &'a mut Letters,
+}
+
+// ---- What is asked
+
+/// CDS bounds, each given or not.
+#[derive(Clone, Copy, Debug, PartialEq, Eq)]
+pub struct Cds {
+    /// [`Cds::START`] and [`Cds::END`], each where it is given.
+    pub bits: u32,
+    /// The start, 0 where it is not given.
+    pub start: i32,
+    /// The end, 0 where it is not given.
+    pub end: i32,
+}
+
+impl Cds {
+    /// The bit of a start that is given.
+    pub const START: u32 = 1;
+    /// The bit of an end that is given.
+    pub const END: u32 = 2;
+
+    /// The bounds that are given.
+    pub fn new(start: Option<i32>, end: Option<i32>) -> Cds {
+        let bit = |bound: Option<i32>, bit| if bound.is_some() { bit } else { 0 };
+        Cds { bits: bit(start, Cds::START) | bit(end, Cds::END), start: start.unwrap_or(0), end: end.unwrap_or(0) }
+    }
+}
+
+/// Building's input. The records are laid out as in a card.
+#[derive(Clone, Copy, Debug, PartialEq, Eq)]
+pub struct Laid<'a> {
+    /// 1 or -1.
+    pub strand: i32,
+    /// The CDS bounds.
+    pub cds: Cds,
+    /// How many records there are.
+    pub count: usize,
+    /// Their bytes.
+    pub records: &'a [u8],
+}
+
+/// A g. interval that is asked.
+#[derive(Clone, Copy, Debug, Default, PartialEq, Eq)]
+pub struct AskedG {
+    /// The first base.
+    pub start: i32,
+    /// The last base.
+    pub end: i32,
+    /// [`AskedG::START`] and [`AskedG::END`], each where it is missing.
+    pub missing: u32,
+}
+
+impl AskedG {
+    /// The bit of a start that is missing.
+    pub const START: u32 = 1;
+    /// The bit of an end that is missing.
+    pub const END: u32 = 2;
+}
+
+/// An n. or c. position that is asked; of an n. position the star does not count.
+#[derive(Clone, Copy, Debug, Default, PartialEq, Eq)]
+pub struct Asked {
+    /// The number.
+    pub base: i32,
+    /// The intron offset, 0 for none.
+    pub offset: i32,
+    /// Whether the number counts from the end of the CDS.
+    pub star: bool,
+}
+
+// ---- What is answered
+
+/// A position that is answered; of a g. position the base alone counts.
 #[repr(C)]
 #[derive(Clone, Copy, Debug, Default, PartialEq, Eq)]
 pub struct Position {
@@ -27,18 +187,33 @@ pub struct Position {
     pub star: u32,
 }
 
+impl From<Position> for Asked {
+    fn from(answered: Position) -> Asked {
+        Asked { base: answered.base, offset: answered.offset, star: answered.star != 0 }
+    }
+}
+
 /// What a mapping answers; where `number` is not 0, all else is.
 #[repr(C)]
 #[derive(Clone, Copy, Debug, Default, PartialEq, Eq)]
 pub struct Answer {
     /// The refusal's number, 0 for none.
     pub number: u32,
-    /// 1 certain, 2 uncertain, 3 unmarked (n. to c. and back).
+    /// [`Answer::CERTAIN`], [`Answer::UNCERTAIN`] or [`Answer::UNMARKED`].
     pub mark: u32,
     /// The interval's start.
     pub start: Position,
     /// The interval's end.
     pub end: Position,
+}
+
+impl Answer {
+    /// The mark of a certain interval.
+    pub const CERTAIN: u32 = 1;
+    /// The mark of an uncertain interval.
+    pub const UNCERTAIN: u32 = 2;
+    /// The mark of n. to c. and back.
+    pub const UNMARKED: u32 = 3;
 }
 
 /// What a question of yes or no answers.
@@ -73,8 +248,101 @@ pub struct Part {
     pub to: usize,
 }
 
-// SAFETY: the types are those of include/txc.h, and the entries are proved to answer whatever they are given. Those with a
-// pointer and a length read, or write, just that many bytes.
+// ---- The entries
+
+/// Declares the entries that are asked of a transcript, and for each a function that hands it over. An entry stands as in the
+/// header but for `TXC_READ`, each number with what it is taken from.
+macro_rules! questions {
+    ($(
+        $(#[$words:meta])*
+        $name:ident($($given:ident: $given_as:ty),*) -> $answer:ty,
+        $entry:ident($($number:ident: $kind:ty = $from:expr),*);
+    )*) => {
+        // SAFETY: the types are those of include/txc.h, and the entries are proved to answer whatever they are given.
+        unsafe extern "C" {
+            $(safe fn $entry(
+                head: &Head,
+                genome: &Starts,
+                transcript: &Starts,
+                letters: &Letters,
+                $($number: $kind),*
+            ) -> $answer;)*
+        }
+
+        $(
+            $(#[$words])*
+            #[inline]
+            pub fn $name(of: Reading<'_> $(, $given: $given_as)*) -> $answer {
+                let Reading { head, genome, transcript, letters } = of;
+                $entry(head, genome, transcript, letters $(, $from)*)
+            }
+        )*
+    };
+}
+
+questions! {
+    /// g. to n.
+    g_to_n(g: AskedG, strict: bool) -> Answer,
+    txc_g_to_n(start: i32 = g.start, end: i32 = g.end, missing: u32 = g.missing, strict: bool = strict);
+
+    /// g. to c.
+    g_to_c(g: AskedG, strict: bool) -> Answer,
+    txc_g_to_c(start: i32 = g.start, end: i32 = g.end, missing: u32 = g.missing, strict: bool = strict);
+
+    /// n. to g.
+    n_to_g(start: Asked, end: Asked, strict: bool) -> Answer,
+    txc_n_to_g(
+        start: i32 = start.base,
+        start_offset: i32 = start.offset,
+        end: i32 = end.base,
+        end_offset: i32 = end.offset,
+        strict: bool = strict
+    );
+
+    /// n. to c.
+    n_to_c(start: Asked, end: Asked, strict: bool) -> Answer,
+    txc_n_to_c(
+        start: i32 = start.base,
+        start_offset: i32 = start.offset,
+        end: i32 = end.base,
+        end_offset: i32 = end.offset,
+        strict: bool = strict
+    );
+
+    /// c. to n.
+    c_to_n(start: Asked, end: Asked, strict: bool) -> Answer,
+    txc_c_to_n(
+        start: i32 = start.base,
+        start_offset: i32 = start.offset,
+        start_star: bool = start.star,
+        end: i32 = end.base,
+        end_offset: i32 = end.offset,
+        end_star: bool = end.star,
+        strict: bool = strict
+    );
+
+    /// c. to g.
+    c_to_g(start: Asked, end: Asked, strict: bool) -> Answer,
+    txc_c_to_g(
+        start: i32 = start.base,
+        start_offset: i32 = start.offset,
+        start_star: bool = start.star,
+        end: i32 = end.base,
+        end_offset: i32 = end.offset,
+        end_star: bool = end.star,
+        strict: bool = strict
+    );
+
+    /// Whether a g. interval is in bounds.
+    in_bounds(g: AskedG) -> Said,
+    txc_in_bounds(start: i32 = g.start, end: i32 = g.end, missing: u32 = g.missing);
+
+    /// Whether the transcript codes.
+    is_coding() -> Said,
+    txc_is_coding();
+}
+
+// SAFETY: as above. Those with a pointer and a length read, or write, just that many bytes.
 unsafe extern "C" {
     fn txc_build(
         strand: i32,
@@ -97,95 +365,7 @@ unsafe extern "C" {
         transcript: &mut Starts,
         letters: &mut Letters,
     ) -> u32;
-    /// Builds a length-only transcript: its head.
-    pub safe fn txc_build_length(length: i32, cds: u32, cds_start: i32, cds_end: i32, head: &mut Head) -> u32;
-
-    /// g. to n.; `missing`: bit 0 the start, bit 1 the end.
-    pub safe fn txc_g_to_n(
-        head: &Head,
-        genome: &Starts,
-        transcript: &Starts,
-        letters: &Letters,
-        start: i32,
-        end: i32,
-        missing: u32,
-        strict: bool,
-    ) -> Answer;
-    /// g. to c.; `missing`: bit 0 the start, bit 1 the end.
-    pub safe fn txc_g_to_c(
-        head: &Head,
-        genome: &Starts,
-        transcript: &Starts,
-        letters: &Letters,
-        start: i32,
-        end: i32,
-        missing: u32,
-        strict: bool,
-    ) -> Answer;
-    /// n. to g.
-    pub safe fn txc_n_to_g(
-        head: &Head,
-        genome: &Starts,
-        transcript: &Starts,
-        letters: &Letters,
-        start: i32,
-        start_offset: i32,
-        end: i32,
-        end_offset: i32,
-        strict: bool,
-    ) -> Answer;
-    /// n. to c.
-    pub safe fn txc_n_to_c(
-        head: &Head,
-        genome: &Starts,
-        transcript: &Starts,
-        letters: &Letters,
-        start: i32,
-        start_offset: i32,
-        end: i32,
-        end_offset: i32,
-        strict: bool,
-    ) -> Answer;
-    /// c. to n.
-    pub safe fn txc_c_to_n(
-        head: &Head,
-        genome: &Starts,
-        transcript: &Starts,
-        letters: &Letters,
-        start: i32,
-        start_offset: i32,
-        start_star: bool,
-        end: i32,
-        end_offset: i32,
-        end_star: bool,
-        strict: bool,
-    ) -> Answer;
-    /// c. to g.
-    pub safe fn txc_c_to_g(
-        head: &Head,
-        genome: &Starts,
-        transcript: &Starts,
-        letters: &Letters,
-        start: i32,
-        start_offset: i32,
-        start_star: bool,
-        end: i32,
-        end_offset: i32,
-        end_star: bool,
-        strict: bool,
-    ) -> Answer;
-    /// Whether a g. interval is in bounds; `missing`: bit 0 the start, bit 1 the end.
-    pub safe fn txc_in_bounds(
-        head: &Head,
-        genome: &Starts,
-        transcript: &Starts,
-        letters: &Letters,
-        start: i32,
-        end: i32,
-        missing: u32,
-    ) -> Said;
-    /// Whether the transcript codes.
-    pub safe fn txc_is_coding(head: &Head, genome: &Starts, transcript: &Starts, letters: &Letters) -> Said;
+    safe fn txc_build_length(length: i32, cds: u32, cds_start: i32, cds_end: i32, head: &mut Head) -> u32;
 
     fn txc_read_cigar(text: *const u8, text_len: usize, counts: &mut Counts, letters: &mut Letters) -> Length;
     fn txc_write_cigar(number: usize, counts: &Counts, letters: &Letters, buffer: *mut u8, buffer_len: usize)
@@ -217,40 +397,19 @@ unsafe extern "C" {
     fn txc_changed(reference: *const u8, reference_len: usize, alternative: *const u8, alternative_len: usize) -> Part;
 }
 
-/// Building's input at the boundary. `records` are laid out as in a card.
-#[derive(Clone, Copy, Debug, PartialEq, Eq)]
-pub struct Laid<'a> {
-    /// 1 or -1.
-    pub strand: i32,
-    /// Bit 0 the CDS start is given, bit 1 its end.
-    pub cds: u32,
-    /// The CDS start, 0 where not given.
-    pub cds_start: i32,
-    /// The CDS end, 0 where not given.
-    pub cds_end: i32,
-    /// How many records there are.
-    pub count: usize,
-    /// Their bytes.
-    pub records: &'a [u8],
-}
-
-/// Builds a transcript from records.
-pub fn build(
-    from: Laid<'_>,
-    head: &mut Head,
-    genome: &mut Starts,
-    transcript: &mut Starts,
-    letters: &mut Letters,
-) -> u32 {
-    let records = from.records;
+/// Builds a transcript from records, and says the refusal's number.
+#[inline]
+pub fn build(from: Laid<'_>, into: Filling<'_>) -> u32 {
+    let Laid { strand, cds, count, records } = from;
+    let Filling { head, genome, transcript, letters } = into;
     // SAFETY: pointer and length are the slice's.
     unsafe {
         txc_build(
-            from.strand,
-            from.cds,
-            from.cds_start,
-            from.cds_end,
-            from.count,
+            strand,
+            cds.bits,
+            cds.start,
+            cds.end,
+            count,
             records.as_ptr(),
             records.len(),
             head,
@@ -261,41 +420,46 @@ pub fn build(
     }
 }
 
-/// Builds a transcript from a card.
-pub fn build_card(
-    card: &[u8],
-    head: &mut Head,
-    genome: &mut Starts,
-    transcript: &mut Starts,
-    letters: &mut Letters,
-) -> u32 {
+/// Builds a transcript from a card, and says the refusal's number.
+#[inline]
+pub fn build_card(card: &[u8], into: Filling<'_>) -> u32 {
+    let Filling { head, genome, transcript, letters } = into;
     // SAFETY: pointer and length are the slice's.
     unsafe { txc_build_card(card.as_ptr(), card.len(), head, genome, transcript, letters) }
 }
 
+/// Builds the head of a length-only transcript, and says the refusal's number.
+#[inline]
+pub fn build_length(length: i32, cds: Cds, head: &mut Head) -> u32 {
+    txc_build_length(length, cds.bits, cds.start, cds.end, head)
+}
+
 /// Reads CIGAR text into elements.
+#[inline]
 pub fn read_cigar(text: &[u8], counts: &mut Counts, letters: &mut Letters) -> Length {
     // SAFETY: pointer and length are the slice's.
     unsafe { txc_read_cigar(text.as_ptr(), text.len(), counts, letters) }
 }
 
 /// Writes the first `number` elements as CIGAR text.
+#[inline]
 pub fn write_cigar(number: usize, counts: &Counts, letters: &Letters, buffer: &mut [u8]) -> Length {
     // SAFETY: pointer and length are the slice's.
     unsafe { txc_write_cigar(number, counts, letters, buffer.as_mut_ptr(), buffer.len()) }
 }
 
 /// Writes a card from building's input.
+#[inline]
 pub fn write_card(from: Laid<'_>, buffer: &mut [u8]) -> Length {
-    let records = from.records;
+    let Laid { strand, cds, count, records } = from;
     // SAFETY: pointers and lengths are the slices'.
     unsafe {
         txc_write_card(
-            from.strand,
-            from.cds,
-            from.cds_start,
-            from.cds_end,
-            from.count,
+            strand,
+            cds.bits,
+            cds.start,
+            cds.end,
+            count,
             records.as_ptr(),
             records.len(),
             buffer.as_mut_ptr(),
@@ -305,18 +469,21 @@ pub fn write_card(from: Laid<'_>, buffer: &mut [u8]) -> Length {
 }
 
 /// The length of the longest common prefix.
+#[inline]
 pub fn trim_prefix(reference: &[u8], alternative: &[u8]) -> usize {
     // SAFETY: pointers and lengths are the slices'.
     unsafe { txc_trim_prefix(reference.as_ptr(), reference.len(), alternative.as_ptr(), alternative.len()) }
 }
 
 /// The length of the longest common suffix.
+#[inline]
 pub fn trim_suffix(reference: &[u8], alternative: &[u8]) -> usize {
     // SAFETY: pointers and lengths are the slices'.
     unsafe { txc_trim_suffix(reference.as_ptr(), reference.len(), alternative.as_ptr(), alternative.len()) }
 }
 
 /// What remains of the longer allele, the reference's when lengths tie.
+#[inline]
 pub fn changed(reference: &[u8], alternative: &[u8]) -> Part {
     // SAFETY: pointers and lengths are the slices'.
     unsafe { txc_changed(reference.as_ptr(), reference.len(), alternative.as_ptr(), alternative.len()) }

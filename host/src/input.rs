@@ -1,7 +1,7 @@
 //! Building's input: a strand, CDS bounds and exon records; and the card that holds them.
 
 use crate::{
-    boundary::{self, Laid},
+    boundary::{self, Cds, Laid},
     limits::MOST_CARD,
     Refusal,
 };
@@ -40,8 +40,8 @@ impl Input<'_> {
     /// Calls a function with the input as the boundary takes it.
     pub(crate) fn laid<T>(&self, f: impl FnOnce(Laid<'_>) -> T) -> T {
         let records = lay(self.exons);
-        let (cds, cds_start, cds_end) = cds_numbers(self.cds_start, self.cds_end);
-        f(Laid { strand: self.strand, cds, cds_start, cds_end, count: self.exons.len(), records: &records })
+        let cds = Cds::new(self.cds_start, self.cds_end);
+        f(Laid { strand: self.strand, cds, count: self.exons.len(), records: &records })
     }
 
     /// Writes the card into the front of a buffer, and says how many bytes it took.
@@ -69,11 +69,6 @@ impl Input<'_> {
         card.truncate(length);
         Ok(card)
     }
-}
-
-/// CDS bounds as the boundary takes them: which are given, and 0 for one that is not.
-pub(crate) fn cds_numbers(start: Option<i32>, end: Option<i32>) -> (u32, i32, i32) {
-    (u32::from(start.is_some()) | u32::from(end.is_some()) << 1, start.unwrap_or(0), end.unwrap_or(0))
 }
 
 /// Records laid out as in a card.

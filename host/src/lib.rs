@@ -1,7 +1,8 @@
 //! Maps genome positions (g.) to transcript (n.) and coding (c.) numbers and back, through entries that are proved.
 //!
 //! A [`Transcript`] is built from exon records, from a card or from a length alone, and is then asked. Positions are read
-//! and written as HGVS names. What cannot be answered is a [`Refusal`] with the number and the words of document 01.
+//! and written as HGVS names; those that are [`asked`] and those that are [`answered`] are types of their own, and an answer
+//! becomes a question by `into`. What cannot be answered is a [`Refusal`] with the number and the words of document 01.
 //!
 //! ```
 //! use pulindraxi::{Bounds, Exon, Input, Transcript};
@@ -15,7 +16,7 @@
 //!
 //! let c = transcript.g_to_c("g.24".parse()?, Bounds::Strict)?;
 //! assert_eq!(c.to_string(), "c.8-2");
-//! assert_eq!(transcript.c_to_g(c.interval(), Bounds::Strict)?.to_string(), "g.24");
+//! assert_eq!(transcript.c_to_g(c.interval().into(), Bounds::Strict)?.to_string(), "g.24");
 //! # Ok::<(), Box<dyn std::error::Error>>(())
 //! ```
 //!
@@ -23,18 +24,19 @@
 //! standard library. A host that keeps off the heap builds a [`Room`] from a card and asks it.
 
 pub mod alleles;
+pub mod answered;
+pub mod asked;
 pub mod boundary;
 pub mod cigar;
 mod input;
 pub mod limits;
 pub mod name;
-mod position;
 mod refusal;
 mod transcript;
 
+pub use answered::Mapped;
 pub use cigar::Element;
 pub use input::{Exon, Input};
 pub use name::{Named, NoName};
-pub use position::{CInterval, CPosition, GInterval, Mapped, NInterval, NPosition};
-pub use refusal::Refusal;
+pub use refusal::{Refusal, Unnamed};
 pub use transcript::{Bounds, Room, Segment, Transcript};

@@ -1,20 +1,20 @@
-//! HGVS names of positions: written by `Display`, read by `FromStr`.
+//! HGVS names of positions: written by `Display`, read by `FromStr` as they are asked.
 //!
 //! ```
-//! use pulindraxi::{CInterval, CPosition, Mapped, NInterval, NPosition};
+//! use pulindraxi::asked::{CInterval, CPosition};
 //!
 //! let c: CInterval = "c.7+3_*3".parse()?;
 //! assert_eq!(c, CInterval::new(CPosition::new(7, 3), CPosition::star(3, 0)));
 //! assert_eq!(c.to_string(), "c.7+3_*3");
-//!
-//! let n = NInterval::new(NPosition::new(4, 0), NPosition::new(5, 0));
-//! assert_eq!(Mapped::Uncertain(n).to_string(), "n.(4_5)");
 //! # Ok::<(), pulindraxi::NoName>(())
 //! ```
 
 use std::{error::Error, fmt, str::FromStr};
 
-use crate::position::{CInterval, CPosition, GInterval, Mapped, NInterval, NPosition};
+use crate::{
+    answered::{self, Mapped},
+    asked::{CInterval, CPosition, GInterval, NInterval, NPosition},
+};
 
 /// An interval that has an HGVS name.
 pub trait Named {
@@ -97,23 +97,32 @@ fn write_name<T: Named>(interval: &T, certain: bool, f: &mut fmt::Formatter<'_>)
     f.write_str(if certain { "" } else { ")" })
 }
 
-impl fmt::Display for GInterval {
-    fn fmt(&self, f: &mut fmt::Formatter<'_>) -> fmt::Result {
-        write_name(self, true, f)
-    }
+/// An interval's name, and an answer's, which is that of the same interval as it is asked.
+macro_rules! named {
+    ($($interval:ident)*) => {$(
+        impl fmt::Display for $interval {
+            fn fmt(&self, f: &mut fmt::Formatter<'_>) -> fmt::Result {
+                write_name(self, true, f)
+            }
+        }
+
+        impl Named for answered::$interval {
+            const KIND: char = $interval::KIND;
+
+            fn span(&self, f: &mut fmt::Formatter<'_>) -> fmt::Result {
+                $interval::from(*self).span(f)
+            }
+        }
+
+        impl fmt::Display for answered::$interval {
+            fn fmt(&self, f: &mut fmt::Formatter<'_>) -> fmt::Result {
+                write_name(self, true, f)
+            }
+        }
+    )*};
 }
 
-impl fmt::Display for NInterval {
-    fn fmt(&self, f: &mut fmt::Formatter<'_>) -> fmt::Result {
-        write_name(self, true, f)
-    }
-}
-
-impl fmt::Display for CInterval {
-    fn fmt(&self, f: &mut fmt::Formatter<'_>) -> fmt::Result {
-        write_name(self, true, f)
-    }
-}
+named! { GInterval NInterval CInterval }
 
 impl<T: Named> fmt::Display for Mapped<T> {
     fn fmt(&self, f: &mut fmt::Formatter<'_>) -> fmt::Result {

@@ -6,32 +6,59 @@ macro_rules! refusals {
     ($($number:literal $name:ident $words:literal)*) => {
         /// Why a question or a building was refused. The number and the words are document 01's.
         ///
+        /// Every number but 0 is a refusal: one that has no name here is kept as it came.
+        ///
         /// ```
         /// use pulindraxi::Refusal;
         ///
         /// assert_eq!(Refusal::Outside.number(), 14);
         /// assert_eq!(Refusal::from_number(14), Some(Refusal::Outside));
         /// assert_eq!(Refusal::Outside.to_string(), "refused 14: strict: place outside the from-table");
+        /// assert_eq!(Refusal::from_number(99).map(Refusal::number), Some(99));
         /// ```
-        #[derive(Clone, Copy, Debug, PartialEq, Eq, PartialOrd, Ord, Hash)]
-        #[repr(u32)]
+        #[derive(Clone, Copy, Debug, PartialEq, Eq, Hash)]
+        #[non_exhaustive]
         pub enum Refusal {
-            $(#[doc = $words] $name = $number,)*
+            $(#[doc = $words] $name,)*
+            /// A number that has no name here.
+            Unnamed(Unnamed),
         }
 
         impl Refusal {
-            /// Every refusal, in the order of the numbers.
-            pub const ALL: &'static [Refusal] = &[$(Refusal::$name,)*];
+            /// Every refusal that has a name, in the order of the numbers.
+            pub const NAMED: &'static [Refusal] = &[$(Refusal::$name,)*];
+
+            /// The number.
+            pub const fn number(self) -> u32 {
+                match self {
+                    $(Refusal::$name => $number,)*
+                    Refusal::Unnamed(Unnamed(number)) => number,
+                }
+            }
 
             /// Document 01's words: it is given exactly when these hold.
             pub const fn words(self) -> &'static str {
                 match self {
                     $(Refusal::$name => $words,)*
+                    Refusal::Unnamed(_) => "a refusal that has no name here",
+                }
+            }
+
+            /// The refusal of a number; none for 0.
+            pub const fn from_number(number: u32) -> Option<Refusal> {
+                match number {
+                    0 => None,
+                    $($number => Some(Refusal::$name),)*
+                    _ => Some(Refusal::Unnamed(Unnamed(number))),
                 }
             }
         }
     };
 }
+
+/// The number of a refusal that has no name here. Only [`Refusal::from_number`] makes one, so that a number is one refusal.
+#[derive(Clone, Copy, Debug, PartialEq, Eq, Hash)]
+pub struct Unnamed(u32);
 
 refusals! {
     1 NoRecords "no exon records"
@@ -60,21 +87,11 @@ refusals! {
 }
 
 impl Refusal {
-    /// Document 01's number.
-    pub const fn number(self) -> u32 {
-        self as u32
-    }
-
-    /// The refusal of a number; none for 0 and above 23.
-    pub fn from_number(number: u32) -> Option<Refusal> {
-        Refusal::ALL.get((number as usize).checked_sub(1)?).copied()
-    }
-
     /// What an entry's number says: answered, or refused.
-    pub(crate) fn check(number: u32) -> Result<(), Refusal> {
-        match number {
-            0 => Ok(()),
-            _ => Err(Refusal::from_number(number).expect("the entries give no number above 23")),
+    pub const fn check(number: u32) -> Result<(), Refusal> {
+        match Refusal::from_number(number) {
+            None => Ok(()),
+            Some(refusal) => Err(refusal),
         }
     }
 }
@@ -92,13 +109,19 @@ mod tests {
     use super::*;
 
     #[test]
-    fn numbers_run_from_1_to_23() {
-        for (index, refusal) in Refusal::ALL.iter().enumerate() {
-            assert_eq!(refusal.number() as usize, index + 1);
-            assert_eq!(Refusal::from_number(refusal.number()), Some(*refusal));
+    fn document_01_has_1_to_23() {
+        let numbers: Vec<_> = Refusal::NAMED.iter().map(|refusal| refusal.number()).collect();
+        assert!(numbers.is_sorted() && numbers.starts_with(&(1..=23).collect::<Vec<_>>()));
+    }
+
+    #[test]
+    fn every_number_but_0_is_one_refusal() {
+        assert_eq!(Refusal::check(0), Ok(()));
+        for number in (1..1_000).chain([u32::MAX - 1, u32::MAX]) {
+            let refusal = Refusal::check(number).unwrap_err();
+            assert_eq!(refusal.number(), number);
+            assert_eq!(matches!(refusal, Refusal::Unnamed(_)), !Refusal::NAMED.contains(&refusal));
+            assert!(refusal.to_string().starts_with(&format!("refused {number}: ")));
         }
-        assert_eq!(Refusal::ALL.len(), 23);
-        assert_eq!(Refusal::from_number(0), None);
-        assert_eq!(Refusal::from_number(24), None);
     }
 }

@@ -3,10 +3,11 @@
 use std::ops::Deref;
 
 use crate::{
-    boundary::{self, Head, Letters, Starts},
-    input::{cds_numbers, Input},
+    answered::{self, Mapped},
+    asked,
+    boundary::{self, Cds, Filling, Head, Letters, Reading, Starts},
+    input::Input,
     limits::{MOST_SEGMENTS, MOST_STARTS},
-    position::{CInterval, CPosition, GInterval, Mapped, NInterval, NPosition},
     Refusal,
 };
 
@@ -54,7 +55,7 @@ pub struct Segment {
 /// ```
 #[derive(Clone, Debug, PartialEq, Eq)]
 pub struct Room {
-    /// Kind, strand, first start, segment count, CDS bits, CDS start, CDS end, length of a length-only transcript.
+    /// The numbers that stand beside the tables.
     pub head: Head,
     /// The segments' starts on the genome, and the total.
     pub genome: Starts,
@@ -73,143 +74,82 @@ impl Default for Room {
 impl Room {
     /// A room in which nothing is built yet.
     pub const fn new() -> Room {
-        Room { head: [0; 8], genome: [0; MOST_STARTS], transcript: [0; MOST_STARTS], letters: [0; MOST_SEGMENTS] }
+        Room {
+            head: Head::filled(0),
+            genome: [0; MOST_STARTS],
+            transcript: [0; MOST_STARTS],
+            letters: [0; MOST_SEGMENTS],
+        }
+    }
+
+    fn reading(&self) -> Reading<'_> {
+        let Room { head, genome, transcript, letters } = self;
+        Reading { head, genome, transcript, letters }
+    }
+
+    fn filling(&mut self) -> Filling<'_> {
+        let Room { head, genome, transcript, letters } = self;
+        Filling { head, genome, transcript, letters }
     }
 
     /// Builds a transcript from records.
     pub fn build(&mut self, input: &Input<'_>) -> Result<(), Refusal> {
-        let Room { head, genome, transcript, letters } = self;
-        Refusal::check(input.laid(|laid| boundary::build(laid, head, genome, transcript, letters)))
+        Refusal::check(input.laid(|laid| boundary::build(laid, self.filling())))
     }
 
     /// Builds a transcript from a card.
     pub fn build_card(&mut self, card: &[u8]) -> Result<(), Refusal> {
-        let Room { head, genome, transcript, letters } = self;
-        Refusal::check(boundary::build_card(card, head, genome, transcript, letters))
+        Refusal::check(boundary::build_card(card, self.filling()))
     }
 
     /// Builds a length-only transcript, which knows n. and c. only. The tables stay as they were.
     pub fn build_length(&mut self, length: i32, cds_start: Option<i32>, cds_end: Option<i32>) -> Result<(), Refusal> {
-        let (cds, cds_start, cds_end) = cds_numbers(cds_start, cds_end);
-        Refusal::check(boundary::txc_build_length(length, cds, cds_start, cds_end, &mut self.head))
+        Refusal::check(boundary::build_length(length, Cds::new(cds_start, cds_end), &mut self.head))
     }
 
     /// The n. interval of a g. interval.
-    pub fn g_to_n(&self, g: GInterval, bounds: Bounds) -> Result<Mapped<NInterval>, Refusal> {
-        let (start, end, missing) = g_numbers(g);
-        let Room { head, genome, transcript, letters } = self;
-        marked(
-            boundary::txc_g_to_n(head, genome, transcript, letters, start, end, missing, bounds.strict()),
-            n_interval,
-        )
+    pub fn g_to_n(&self, g: asked::GInterval, bounds: Bounds) -> Result<Mapped<answered::NInterval>, Refusal> {
+        boundary::g_to_n(self.reading(), g.into(), bounds.strict()).try_into()
     }
 
     /// The c. interval of a g. interval.
-    pub fn g_to_c(&self, g: GInterval, bounds: Bounds) -> Result<Mapped<CInterval>, Refusal> {
-        let (start, end, missing) = g_numbers(g);
-        let Room { head, genome, transcript, letters } = self;
-        marked(
-            boundary::txc_g_to_c(head, genome, transcript, letters, start, end, missing, bounds.strict()),
-            c_interval,
-        )
+    pub fn g_to_c(&self, g: asked::GInterval, bounds: Bounds) -> Result<Mapped<answered::CInterval>, Refusal> {
+        boundary::g_to_c(self.reading(), g.into(), bounds.strict()).try_into()
     }
 
     /// The g. interval of an n. interval.
-    pub fn n_to_g(&self, n: NInterval, bounds: Bounds) -> Result<Mapped<GInterval>, Refusal> {
-        let NInterval { start: a, end: b } = n;
-        let Room { head, genome, transcript, letters } = self;
-        marked(
-            boundary::txc_n_to_g(
-                head,
-                genome,
-                transcript,
-                letters,
-                a.base,
-                a.offset,
-                b.base,
-                b.offset,
-                bounds.strict(),
-            ),
-            g_interval,
-        )
+    pub fn n_to_g(&self, n: asked::NInterval, bounds: Bounds) -> Result<Mapped<answered::GInterval>, Refusal> {
+        boundary::n_to_g(self.reading(), n.start.into(), n.end.into(), bounds.strict()).try_into()
     }
 
     /// The c. interval of an n. interval.
-    pub fn n_to_c(&self, n: NInterval, bounds: Bounds) -> Result<CInterval, Refusal> {
-        let NInterval { start: a, end: b } = n;
-        let Room { head, genome, transcript, letters } = self;
-        let answer = boundary::txc_n_to_c(
-            head,
-            genome,
-            transcript,
-            letters,
-            a.base,
-            a.offset,
-            b.base,
-            b.offset,
-            bounds.strict(),
-        );
-        unmarked(answer, c_interval)
+    pub fn n_to_c(&self, n: asked::NInterval, bounds: Bounds) -> Result<answered::CInterval, Refusal> {
+        boundary::n_to_c(self.reading(), n.start.into(), n.end.into(), bounds.strict()).try_into()
     }
 
     /// The n. interval of a c. interval.
-    pub fn c_to_n(&self, c: CInterval, bounds: Bounds) -> Result<NInterval, Refusal> {
-        let CInterval { start: a, end: b } = c;
-        let Room { head, genome, transcript, letters } = self;
-        let answer = boundary::txc_c_to_n(
-            head,
-            genome,
-            transcript,
-            letters,
-            a.base,
-            a.offset,
-            a.star,
-            b.base,
-            b.offset,
-            b.star,
-            bounds.strict(),
-        );
-        unmarked(answer, n_interval)
+    pub fn c_to_n(&self, c: asked::CInterval, bounds: Bounds) -> Result<answered::NInterval, Refusal> {
+        boundary::c_to_n(self.reading(), c.start.into(), c.end.into(), bounds.strict()).try_into()
     }
 
     /// The g. interval of a c. interval.
-    pub fn c_to_g(&self, c: CInterval, bounds: Bounds) -> Result<Mapped<GInterval>, Refusal> {
-        let CInterval { start: a, end: b } = c;
-        let Room { head, genome, transcript, letters } = self;
-        marked(
-            boundary::txc_c_to_g(
-                head,
-                genome,
-                transcript,
-                letters,
-                a.base,
-                a.offset,
-                a.star,
-                b.base,
-                b.offset,
-                b.star,
-                bounds.strict(),
-            ),
-            g_interval,
-        )
+    pub fn c_to_g(&self, c: asked::CInterval, bounds: Bounds) -> Result<Mapped<answered::GInterval>, Refusal> {
+        boundary::c_to_g(self.reading(), c.start.into(), c.end.into(), bounds.strict()).try_into()
     }
 
     /// Whether a g. interval is in bounds: its start place at 0 or above, its end place at most the genome length.
-    pub fn is_in_bounds(&self, g: GInterval) -> Result<bool, Refusal> {
-        let (start, end, missing) = g_numbers(g);
-        let Room { head, genome, transcript, letters } = self;
-        said(boundary::txc_in_bounds(head, genome, transcript, letters, start, end, missing))
+    pub fn is_in_bounds(&self, g: asked::GInterval) -> Result<bool, Refusal> {
+        said(boundary::in_bounds(self.reading(), g.into()))
     }
 
     /// Whether the transcript codes.
     pub fn is_coding(&self) -> Result<bool, Refusal> {
-        let Room { head, genome, transcript, letters } = self;
-        said(boundary::txc_is_coding(head, genome, transcript, letters))
+        said(boundary::is_coding(self.reading()))
     }
 
     /// How many segments the head counts, at most those that have a place. A length-only transcript has none.
     pub fn segment_count(&self) -> usize {
-        usize::try_from(self.head[3]).unwrap_or(0).min(MOST_SEGMENTS)
+        usize::try_from(self.head.segment_count).unwrap_or(0).min(MOST_SEGMENTS)
     }
 
     /// The segments in genomic order.
@@ -225,7 +165,7 @@ impl Room {
 
     /// 1 or -1.
     pub fn strand(&self) -> i32 {
-        self.head[1]
+        self.head.strand
     }
 
     /// How many bases the segments span on the genome.
@@ -242,7 +182,7 @@ impl Room {
 /// A transcript in memory of its own. Its questions are those of [`Room`].
 ///
 /// ```
-/// use pulindraxi::{Bounds, Exon, GInterval, Input, Refusal, Transcript};
+/// use pulindraxi::{asked::GInterval, Bounds, Exon, Input, Refusal, Transcript};
 ///
 /// let exons = [
 ///     Exon { alt_start_i: 10, alt_end_i: 20, tx_start_i: 0, tx_end_i: 10, ord: 0, cigar: b"10M" },
@@ -281,7 +221,7 @@ impl Transcript {
     /// Builds a length-only transcript, which knows n. and c. only.
     ///
     /// ```
-    /// use pulindraxi::{Bounds, GInterval, Refusal, Transcript};
+    /// use pulindraxi::{asked::GInterval, Bounds, Refusal, Transcript};
     ///
     /// let transcript = Transcript::of_length(18, Some(3), Some(15))?;
     /// assert_eq!(transcript.n_to_c("n.16".parse()?, Bounds::Strict)?.to_string(), "c.*1");
@@ -305,41 +245,6 @@ impl Deref for Transcript {
     fn deref(&self) -> &Room {
         &self.room
     }
-}
-
-/// The numbers of a g. interval, and which are missing.
-fn g_numbers(g: GInterval) -> (i32, i32, u32) {
-    let missing = u32::from(g.start.is_none()) | u32::from(g.end.is_none()) << 1;
-    (g.start.unwrap_or(0), g.end.unwrap_or(0), missing)
-}
-
-fn g_interval(answer: &boundary::Answer) -> GInterval {
-    GInterval::new(answer.start.base, answer.end.base)
-}
-
-fn n_interval(answer: &boundary::Answer) -> NInterval {
-    let position = |p: boundary::Position| NPosition::new(p.base, p.offset);
-    NInterval::new(position(answer.start), position(answer.end))
-}
-
-fn c_interval(answer: &boundary::Answer) -> CInterval {
-    let position = |p: boundary::Position| CPosition { base: p.base, offset: p.offset, star: p.star != 0 };
-    CInterval::new(position(answer.start), position(answer.end))
-}
-
-/// An answer that bears a mark.
-fn marked<T>(answer: boundary::Answer, read: fn(&boundary::Answer) -> T) -> Result<Mapped<T>, Refusal> {
-    Refusal::check(answer.number)?;
-    Ok(match answer.mark {
-        1 => Mapped::Certain(read(&answer)),
-        _ => Mapped::Uncertain(read(&answer)),
-    })
-}
-
-/// An answer that bears none.
-fn unmarked<T>(answer: boundary::Answer, read: fn(&boundary::Answer) -> T) -> Result<T, Refusal> {
-    Refusal::check(answer.number)?;
-    Ok(read(&answer))
 }
 
 fn said(answer: boundary::Said) -> Result<bool, Refusal> {

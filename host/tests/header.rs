@@ -2,7 +2,14 @@
 
 use std::{collections::BTreeSet, fs, mem::size_of};
 
-use pulindraxi::boundary::{Answer, Length, Part, Position, Said};
+use pulindraxi::{
+    boundary::{Answer, Head, Length, Part, Position, Said},
+    limits::{MOST_SEGMENTS, MOST_STARTS},
+};
+
+fn header() -> String {
+    fs::read_to_string(concat!(env!("CARGO_MANIFEST_DIR"), "/../include/txc.h")).unwrap()
+}
 
 /// The names that begin with `txc_` and are followed by a parenthesis.
 fn entries(text: &str) -> BTreeSet<&str> {
@@ -17,7 +24,7 @@ fn entries(text: &str) -> BTreeSet<&str> {
 
 #[test]
 fn the_entries_are_the_headers() {
-    let header = fs::read_to_string(concat!(env!("CARGO_MANIFEST_DIR"), "/../include/txc.h")).unwrap();
+    let header = header();
     let declared = entries(&header);
     assert_eq!(declared.len(), 17);
     assert_eq!(entries(include_str!("../src/boundary.rs")), declared);
@@ -27,4 +34,26 @@ fn the_entries_are_the_headers() {
 fn the_structs_are_the_headers() {
     let sizes = [size_of::<Position>(), size_of::<Answer>(), size_of::<Said>(), size_of::<Length>(), size_of::<Part>()];
     assert_eq!(sizes, [12, 32, 8, 16, 24]);
+}
+
+#[test]
+fn the_lent_memory_is_the_headers() {
+    let head = Head::COUNT;
+    let lent = format!(
+        "int32_t head[{head}], uint32_t genome[{MOST_STARTS}], uint32_t transcript[{MOST_STARTS}], uint8_t letters[{MOST_SEGMENTS}]"
+    );
+    let read = lent.split(", ").map(|table| format!("const {table}")).collect::<Vec<_>>().join(", ");
+    for line in [format!("#define TXC_LENT {lent}"), format!("#define TXC_READ {read}")] {
+        assert!(header().lines().any(|declared| declared == line), "{line}");
+    }
+}
+
+#[test]
+fn the_heads_numbers_keep_their_order() {
+    let numbers = std::array::from_fn(|index| index as i32);
+    let head = Head::from(numbers);
+    assert_eq!(head.numbers(), numbers);
+    let Head { kind, strand, first_start, segment_count, cds_bits, cds_start, cds_end, length } = head;
+    let named = [kind, strand, first_start, segment_count, cds_bits, cds_start, cds_end, length];
+    assert_eq!(named, numbers);
 }

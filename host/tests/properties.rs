@@ -3,7 +3,10 @@
 
 use proptest::{collection::vec, prelude::*, sample::select};
 use pulindraxi::{
-    alleles, cigar, Bounds, Element, Exon, GInterval, Input, Mapped, NInterval, Refusal, Room, Transcript,
+    alleles,
+    asked::{CInterval, CPosition, GInterval, NInterval, NPosition},
+    boundary::Head,
+    cigar, Bounds, Element, Exon, Input, Refusal, Room, Transcript,
 };
 
 /// Elements with counts from 0 on.
@@ -89,13 +92,16 @@ proptest! {
         let matched: Vec<_> = room.segments().filter(|s| b"=MX".contains(&s.letter) && s.count > 0).collect();
         prop_assume!(!matched.is_empty());
         let segment = matched[at as usize % matched.len()];
-        let g = GInterval::at(room.head[2] + 1 + (segment.genome + at % segment.count) as i32);
+        let g = GInterval::at(room.head.first_start + 1 + (segment.genome + at % segment.count) as i32);
         let n = room.g_to_n(g, Bounds::Strict).unwrap();
-        prop_assert!(n.is_certain());
-        prop_assert_eq!(room.n_to_g(n.interval(), Bounds::Strict), Ok(Mapped::Certain(g)));
+        let back = room.n_to_g(n.interval().into(), Bounds::Strict).unwrap();
+        prop_assert!(n.is_certain() && back.is_certain());
+        prop_assert_eq!(GInterval::from(back.interval()), g);
         if coding {
             let c = room.g_to_c(g, Bounds::Strict).unwrap();
-            prop_assert_eq!(room.c_to_g(c.interval(), Bounds::Strict), Ok(Mapped::Certain(g)));
+            let back = room.c_to_g(c.interval().into(), Bounds::Strict).unwrap();
+            prop_assert!(c.is_certain() && back.is_certain());
+            prop_assert_eq!(GInterval::from(back.interval()), g);
         }
     }
 
@@ -117,7 +123,7 @@ proptest! {
             *byte = *mark;
         }
         let mut room = Box::new(Room::new());
-        room.head = [7; 8];
+        room.head = Head::filled(7);
         let before = room.clone();
         if room.build_card(&card).is_err() {
             prop_assert!(room == before);
@@ -142,10 +148,15 @@ proptest! {
     fn damaged_memory_is_asked((strand, first, parts, coding) in transcripts(), wounds in vec((0..4u8, 0..12usize, number()), 0..3),
                                a in number(), ao in number(), b in number(), bo in number(), bounds in bounds()) {
         let mut room = Box::new(Room::new());
-        let _ = with_input(strand, first, &parts, coding, |input| room.build(input));
+        let built = with_input(strand, first, &parts, coding, |input| room.build(input));
+        let whole = built.is_ok() && wounds.is_empty();
         for (table, index, number) in wounds {
             match table {
-                0 => room.head[index % 8] = number,
+                0 => {
+                    let mut numbers = room.head.numbers();
+                    numbers[index % Head::COUNT] = number;
+                    room.head = numbers.into();
+                }
                 1 => room.genome[index] = number as u32,
                 2 => room.transcript[index] = number as u32,
                 _ => room.letters[index] = number as u8,
@@ -153,8 +164,9 @@ proptest! {
         }
         let before = room.clone();
         let together = room.is_coding() != Err(Refusal::NotTogether);
-        let n = NInterval::new(pulindraxi::NPosition::new(a, ao), pulindraxi::NPosition::new(b, bo));
-        let c = pulindraxi::CInterval::new(pulindraxi::CPosition::new(a, ao), pulindraxi::CPosition::star(b, bo));
+        prop_assert!(together || !whole);
+        let n = NInterval::new(NPosition::new(a, ao), NPosition::new(b, bo));
+        let c = CInterval::new(CPosition::new(a, ao), CPosition::star(b, bo));
         let g = GInterval::new(a, b);
         let refused = [
             room.g_to_n(g, bounds).err(),
@@ -177,9 +189,10 @@ proptest! {
         let before = room.clone();
         match room.build_length(length, Some(start), Some(end)) {
             Ok(()) => {
-                let n = NInterval::at(pulindraxi::NPosition::new(n, 0));
+                let n = NInterval::at(NPosition::new(n, 0));
                 if let Ok(c) = room.n_to_c(n, Bounds::Strict) {
-                    prop_assert_eq!(room.c_to_n(c, Bounds::Strict), Ok(n));
+                    let back = room.c_to_n(c.into(), Bounds::Strict).unwrap();
+                    prop_assert_eq!(NInterval::from(back), n);
                 }
                 prop_assert_eq!(room.n_to_g(n, Bounds::Lenient), Err(Refusal::NoGenome));
             }

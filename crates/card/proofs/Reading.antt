@@ -9,12 +9,12 @@ use Prim.Native.Nat.{ℕ, _≤_}
 use borrow.Author.Tests.{le-leb, leb-true}
 use lib.Dec.{leb}
 use lib.ListN.{length, getD, drop}
-use Rattle.segments.specs.Meaning.{both}
+use Rattle.whole.specs.Whole.{both}
 use Rattle.records.specs.Records.{exactly}
-use Rattle.transcript.specs.Judging.{bothBits}
+use Rattle.transcript.specs.Heads.{bothBits}
 use Rattle.card.specs.Layout.{strandAt, recordsAt}
 use Rattle.card.specs.Card.{isMarked, numbersIn, arePlain, isCard}
-use Rattle.card.specs.declared.Numbers.{Numbers}
+use Rattle.transcript.specs.declared.Numbers.{Numbers}
 
 pub card-is : (s : List ℕ) {m : Numbers} → m ≡ numbersIn s → recordsAt ≤ length s → getD s strandAt 0 ≤ 1
     → isCard s ≡ (leb (m .cds) bothBits && (arePlain (m .cds) (m .start) (m .end) && exactly (m .count) (drop recordsAt s) 0))

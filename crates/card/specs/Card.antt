@@ -6,24 +6,18 @@ use lib.Dec.{eqb, ltb, leb}
 use lib.IntN.{ℤ, pos}
 use lib.ListN.{length, getD, drop}
 use Rattle.refusals.specs.Numbers.{tooMuch, noCard, badVersion, mostCard}
+use Rattle.refusals.specs.Outcome.{Outcome, answered, refused}
 use Rattle.whole.specs.Whole.{if_then_else_, eqZ}
 use Rattle.fields.specs.Fields.{le16, bytes16, bytes32, bits32}
-use Rattle.records.specs.Records.{Record, fieldAt, laid, exactly, recordsFrom}
-use Rattle.transcript.specs.Judging.{bothBits, startOf, endOf}
-use Rattle.transcript.specs.Outcome.{strandOf, numberOf}
+use Rattle.records.specs.Records.{Record, fieldAt, laid, exactly}
+use Rattle.transcript.specs.Heads.{bothBits, startOf, endOf, strandOf, numberOf}
 use Rattle.transcript.specs.declared.Bound.{Bound}
 use Rattle.transcript.specs.declared.Bound.the-variants.{Given, Absent}
+use Rattle.transcript.specs.declared.Numbers.{Numbers}
+use Rattle.judging.specs.Input.{Input, inputOf}
 use Rattle.card.specs.Layout.{mark, version, versionAt, strandAt, cdsAt, startAt, endAt, countAt, recordsAt}
-use Rattle.card.specs.declared.Numbers.{Numbers}
 use Rattle.card.specs.declared.ReadCard.{ReadCard}
 use Rattle.card.specs.declared.ReadCard.the-variants as read
-
--- building's input: the strand, the CDS bounds, each given or not, and the records
-pub record Input : Type 0 where
-  pub strand : ℤ
-  pub start : Bound
-  pub end : Bound
-  pub records : List Record
 
 -- ---- writing
 
@@ -97,24 +91,16 @@ readCard s =
     else if not (isCard s) then read.Refused noCard
     else read.Card (numbersIn s)
 
--- ---- the input that numbers and bytes stand for
+-- ---- what a card says
 
--- n records in bytes, with the numbers that building is handed
-abbrev pub inputOf : ℤ → ℕ → ℤ → ℤ → ℕ → List ℕ → Input
-inputOf strand cds start end n s = record { strand = strand; start = startOf cds start; end = endOf cds end; records = recordsFrom n s 0 }
-
--- the same of a card's own
+-- the input of a card's numbers and of the bytes behind them
 abbrev pub inputIn : List ℕ → Numbers → Input
-inputIn s m = inputOf (m .strand) (m .cds) (m .start) (m .end) (m .count) (drop recordsAt s)
+inputIn s n = inputOf n (drop recordsAt s)
 
--- what a card says: an input, or the number of a refusal
-pub data Said : Type 0 where
-  input : Input → Said
-  refused : ℕ → Said
-
-abbrev pub said : List ℕ → ReadCard → Said
-said s (read.Card m) = input (inputIn s m)
+-- an input, or the number of a refusal
+abbrev pub said : List ℕ → ReadCard → Outcome Input
+said s (read.Card m) = answered (inputIn s m)
 said s (read.Refused k) = refused k
 
-abbrev pub cardSays : List ℕ → Said
+abbrev pub cardSays : List ℕ → Outcome Input
 cardSays s = said s (readCard s)

@@ -2,9 +2,18 @@
 use Prim.Native.Nat.{ℕ}
 use mathlib.Core.List.{List, [], _∷_}
 
--- `TXC`
+-- `TXC`, by its letters' bytes
+abbrev pub letterT : ℕ
+letterT = 84
+
+abbrev pub letterX : ℕ
+letterX = 88
+
+abbrev pub letterC : ℕ
+letterC = 67
+
 abbrev pub mark : List ℕ
-mark = 84 ∷ 88 ∷ 67 ∷ []
+mark = letterT ∷ letterX ∷ letterC ∷ []
 
 abbrev pub version : ℕ
 version = 1

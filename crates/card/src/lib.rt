@@ -9,13 +9,17 @@ ghost use lib.Seq.{sets};
 ghost use Rattle.refusals.specs.Numbers.{mostRecords};
 ghost use Rattle.cigar.specs.Write.{answerOf, bufferAfter};
 ghost use Rattle.records.specs.Records.{exactly};
-ghost use Rattle.transcript.specs.Outcome.{strandOf, answerOf as builtOf, genomeAfter, transcriptAfter, lettersAfter};
+ghost use Rattle.transcript.specs.Heads.{strandOf};
+ghost use Rattle.segments.specs.Tables.{tables};
+ghost use Rattle.building.specs.Afterwards.{answerOf as builtOf, tablesAfter};
 ghost use Rattle.card.specs.Layout.{mark, version, startAt, recordsAt};
 ghost use Rattle.whole.specs.Whole.{eqZ};
 ghost use Rattle.fields.specs.Fields.{bytes16};
-ghost use Rattle.card.specs.Card.{strandByte, givenBit, cdsByte, headerText, cardText, isMarked, numbersIn, arePlain, isCard, readCard, inputOf};
+ghost use Rattle.card.specs.Card.{strandByte, givenBit, cdsByte, headerText, cardText, isMarked, numbersIn, arePlain, isCard, readCard};
+ghost use Rattle.judging.specs.Input.{inputOf};
 ghost use Rattle.card.specs.Writing.{judgeCard, fitted, cardWriting};
 use cigar::write::Written;
+use reading::Tally;
 use refusals::BAD_VERSION;
 use refusals::MOST_CARD;
 use refusals::MOST_SEGMENTS;
@@ -23,12 +27,10 @@ use refusals::MOST_STARTS;
 use refusals::NO_CARD;
 use refusals::NO_ROOM;
 use refusals::TOO_MUCH;
+use transcript::BOTH_BITS;
 use transcript::Bound;
 use transcript::Built;
-use transcript::building;
-use transcript::judging;
-use transcript::judging::BOTH_BITS;
-use transcript::reading::Tally;
+use transcript::Numbers;
 
 const VERSION: u32 = 1;
 
@@ -47,16 +49,7 @@ const COUNT_AT: usize = 15;
 
 pub const RECORDS_AT: usize = 17;
 
-// The numbers of building's input as a card holds them. Its records are the card's bytes from RECORDS_AT on.
-pub struct Numbers {
-    pub strand: i32,
-    pub cds: u32,
-    pub start: i32,
-    pub end: i32,
-    pub count: usize,
-}
-
-// What bytes read as.
+// What bytes read as: the numbers of building's input, whose records are the card's bytes from RECORDS_AT on.
 pub enum ReadCard {
     Card(Numbers),
     // 3, 21 or 22.
@@ -132,8 +125,8 @@ fn is_same(a: i64, b: i64) -> bool
 fn are_plain(cds: u32, start: i32, end: i32) -> bool
     ensures { λ r. ⌜ r ≡ arePlain cds start end ⌝ }
 {
-    let from = judging::number_of(judging::start_of(cds, start));
-    let to = judging::number_of(judging::end_of(cds, end));
+    let from = transcript::number_of(transcript::start_of(cds, start));
+    let to = transcript::number_of(transcript::end_of(cds, end));
     if is_same(from as i64, start as i64) {
         return is_same(to as i64, end as i64);
     }
@@ -187,22 +180,12 @@ pub fn build_card(
     letters: &mut [u8; MOST_SEGMENTS],
 ) -> Built
     ensures { λ r. ⌜ r ≡ builtOf (judgeCard (now (card .entry))) ⌝ }
-    ensures { λ _. ⌜ now (genome .exit) ≡ genomeAfter (judgeCard (now (card .entry))) (now (genome .entry)) ⌝ }
-    ensures { λ _. ⌜ now (transcript .exit) ≡ transcriptAfter (judgeCard (now (card .entry))) (now (transcript .entry)) ⌝ }
-    ensures { λ _. ⌜ now (letters .exit) ≡ lettersAfter (judgeCard (now (card .entry))) (now (letters .entry)) ⌝ }
+    ensures { λ _. ⌜ tables (now (genome .exit)) (now (transcript .exit)) (now (letters .exit)) ≡ tablesAfter (judgeCard (now (card .entry))) (tables (now (genome .entry)) (now (transcript .entry)) (now (letters .entry))) ⌝ }
 {
     match read_card(card) {
-        ReadCard::Card(n) => building::build(
-            n.strand,
-            n.cds,
-            n.start,
-            n.end,
-            n.count,
-            &card[RECORDS_AT..],
-            genome,
-            transcript,
-            letters,
-        ),
+        ReadCard::Card(n) => {
+            building::build(n, &card[RECORDS_AT..], genome, transcript, letters)
+        }
         ReadCard::Refused(k) => Built::Refused(k),
     }
 }
@@ -263,24 +246,16 @@ fn put_header(buffer: &mut [u8], strand: i32, start: Bound, end: Bound, count: u
     ensures { λ _. ⌜ now (buffer .exit) ≡ sets (now (buffer .entry)) 0 (headerText strand start end count) ⌝ }
 {
     put_front(buffer, strand_byte(strand as i64), cds_byte(start, end));
-    fields::put_i32(buffer, START_AT, judging::number_of(start));
-    fields::put_i32(buffer, END_AT, judging::number_of(end));
+    fields::put_i32(buffer, START_AT, transcript::number_of(start));
+    fields::put_i32(buffer, END_AT, transcript::number_of(end));
     fields::put_u16(buffer, COUNT_AT, count);
 }
 
 // The card of records that stand in bytes, unless it is too large (3) or too long for the buffer (20).
-fn write_taken(
-    strand: i32,
-    cds: u32,
-    start: i32,
-    end: i32,
-    count: usize,
-    records: &[u8],
-    buffer: &mut [u8],
-) -> Written
-    requires { ⌜ (count ≤ mostRecords) × (exactly count (now records) 0 ≡ true) ⌝ }
-    ensures { λ r. ⌜ r ≡ answerOf (fitted (length (now (buffer .entry))) (cardText (inputOf strand cds start end count (now (records .entry))))) ⌝ }
-    ensures { λ _. ⌜ now (buffer .exit) ≡ bufferAfter (now (buffer .entry)) (fitted (length (now (buffer .entry))) (cardText (inputOf strand cds start end count (now (records .entry))))) ⌝ }
+fn write_taken(numbers: Numbers, records: &[u8], buffer: &mut [u8]) -> Written
+    requires { ⌜ (numbers .count ≤ mostRecords) × (exactly (numbers .count) (now records) 0 ≡ true) ⌝ }
+    ensures { λ r. ⌜ r ≡ answerOf (fitted (length (now (buffer .entry))) (cardText (inputOf numbers (now (records .entry))))) ⌝ }
+    ensures { λ _. ⌜ now (buffer .exit) ≡ bufferAfter (now (buffer .entry)) (fitted (length (now (buffer .entry))) (cardText (inputOf numbers (now (records .entry))))) ⌝ }
 {
     let size = RECORDS_AT + records.len();
     if MOST_CARD < size {
@@ -289,28 +264,20 @@ fn write_taken(
     if buffer.len() < size {
         return Written::Refused(NO_ROOM);
     }
-    let from = judging::start_of(cds, start);
-    let to = judging::end_of(cds, end);
-    put_header(buffer, strand, from, to, count as u32);
+    let from = transcript::start_of(numbers.cds, numbers.start);
+    let to = transcript::end_of(numbers.cds, numbers.end);
+    put_header(buffer, numbers.strand, from, to, numbers.count as u32);
     put_bytes(buffer, RECORDS_AT, records);
     Written::Text(size)
 }
 
 // The card of building's input at the front of a lent buffer, or a refusal, which leaves the buffer as it is.
-pub fn write_card(
-    strand: i32,
-    cds: u32,
-    start: i32,
-    end: i32,
-    count: usize,
-    records: &[u8],
-    buffer: &mut [u8],
-) -> Written
-    ensures { λ r. ⌜ r ≡ answerOf (cardWriting strand cds start end count (now (records .entry)) (length (now (buffer .entry)))) ⌝ }
-    ensures { λ _. ⌜ now (buffer .exit) ≡ bufferAfter (now (buffer .entry)) (cardWriting strand cds start end count (now (records .entry)) (length (now (buffer .entry)))) ⌝ }
+pub fn write_card(numbers: Numbers, records: &[u8], buffer: &mut [u8]) -> Written
+    ensures { λ r. ⌜ r ≡ answerOf (cardWriting numbers (now (records .entry)) (length (now (buffer .entry)))) ⌝ }
+    ensures { λ _. ⌜ now (buffer .exit) ≡ bufferAfter (now (buffer .entry)) (cardWriting numbers (now (records .entry)) (length (now (buffer .entry)))) ⌝ }
 {
-    match judging::judge(strand, cds, start, end, count, records) {
-        Tally::Sums(_) => write_taken(strand, cds, start, end, count, records, buffer),
+    match judging::judge(numbers, records) {
+        Tally::Sums(_) => write_taken(numbers, records, buffer),
         Tally::Refused(k) => Written::Refused(k),
     }
 }

@@ -7,24 +7,25 @@ use native.Mathlib.Omega.{arith}
 use lib.ListN.{length, drop}
 use borrow.Author.Tests.{eq-eqb, ne-eqb}
 use Rattle.refusals.specs.Numbers.{tooMuch, mostSegments}
+use Rattle.refusals.specs.Outcome.{answered, refused}
 use Rattle.cigar.specs.Elements.{Element}
-use Rattle.cigar.specs.Text.{stepAt, Reading, elements, refused, before, element, readAll, countedOf}
-use Rattle.cigar.specs.Steps.{goOn, goes-on}
+use Rattle.cigar.specs.Text.{stepAt, Reading, before, element, readAll, countedOf}
+use Rattle.cigar.specs.laws.Steps.{goOn, goes-on}
 use Rattle.cigar.specs.declared.Step.the-variants as step
 use Rattle.cigar.specs.declared.Counted.{Counted}
 use Rattle.cigar.specs.declared.Counted.the-variants as counted
 
 -- n elements, and then those of a reading
 abbrev pub countedFrom : ℕ → Reading → Counted
-countedFrom n (elements es) = counted.Count (n + length es)
+countedFrom n (answered es) = counted.Count (n + length es)
 countedFrom n (refused k) = counted.Refused k
 
 pub counted-none : (r : Reading) → countedOf r ≡ countedFrom 0 r
-counted-none (elements es) = ap counted.Count (sym (zero-add (length es)))
+counted-none (answered es) = ap counted.Count (sym (zero-add (length es)))
 counted-none (refused k) = refl
 
 counted-more : (n : ℕ) (e : Element) (r : Reading) → countedFrom n (before e r) ≡ countedFrom (n + 1) r
-counted-more n e (elements es) = ap {A = ℕ} counted.Count (omega arith)
+counted-more n e (answered es) = ap {A = ℕ} counted.Count (omega arith)
 counted-more n e (refused k) = refl
 
 -- the four ways in which a step goes on, after n elements

@@ -17,10 +17,11 @@ use lib.Signed.{ltZ}
 use borrow.Author.Tests.{lt-ltb, le-ltb}
 use Rattle.whole.specs.Whole.{by-test}
 use Rattle.refusals.specs.Numbers.{tooMuch, noRoom, mostSegments, mostText}
+use Rattle.refusals.specs.Outcome.{answered, refused, Answered}
 use Rattle.cigar.specs.Elements.{Element, isLetter}
-use Rattle.cigar.specs.Text.{Reading, elements, refused, before, element, elementsIn, Answered}
-use Rattle.cigar.specs.Steps.{answered-before}
-use Rattle.cigar.specs.Write.{elementText, elementsText, judged, given, givenFrom, written, denied, fitted, textOf, writing, sizeOf}
+use Rattle.cigar.specs.Text.{Reading, before, element, elementsIn}
+use Rattle.cigar.specs.laws.Steps.{answered-before}
+use Rattle.cigar.specs.Write.{elementText, elementsText, judged, given, givenFrom, fitted, textOf, writing, sizeOf}
 use Rattle.cigar.specs.declared.write.Written.{Written}
 use Rattle.cigar.specs.declared.write.Written.the-variants as answer
 
@@ -38,7 +39,7 @@ module _ (counts : List ℤ) (letters : List ℕ) (number i : ℕ) where
       let one : number - i ≡ suc (number - (i + 1)) = omega arith in
       rw one
 
-  pub left-none : number ≤ i → leftOf counts letters number i ≡ elements []
+  pub left-none : number ≤ i → leftOf counts letters number i ≡ answered []
   unfolding givenFrom
   left-none h =
       let none : number - i ≡ 0 = omega arith in
@@ -46,20 +47,20 @@ module _ (counts : List ℤ) (letters : List ℕ) (number i : ℕ) where
 
 -- n bytes, and then those of a reading's text
 abbrev pub sizeFrom : ℕ → Reading → Written
-sizeFrom n (elements es) = answer.Text (n + length (elementsText es))
+sizeFrom n (answered es) = answer.Text (n + length (elementsText es))
 sizeFrom n (refused k) = answer.Refused k
 
 pub size-all : (r : Reading) → sizeOf r ≡ sizeFrom 0 r
-size-all (elements es) = ap answer.Text {x = length (elementsText es)} {y = 0 + length (elementsText es)} (omega arith)
+size-all (answered es) = ap answer.Text {x = length (elementsText es)} {y = 0 + length (elementsText es)} (omega arith)
 size-all (refused k) = refl
 
-pub size-none : (n : ℕ) → sizeFrom n (elements []) ≡ answer.Text n
+pub size-none : (n : ℕ) → sizeFrom n (answered []) ≡ answer.Text n
 unfolding elementsText
 size-none n = ap answer.Text (add-zero n)
 
 size-before : (n : ℕ) (x : Element) (r : Reading) → sizeFrom n (before x r) ≡ sizeFrom (n + length (elementText (x .count) (x .letter))) r
 unfolding elementsText
-size-before n x (elements es) =
+size-before n x (answered es) =
     let both = length-append (elementText (x .count) (x .letter)) (elementsText es) in
     ap {A = ℕ} answer.Text (omega arith)
 size-before n x (refused k) = refl
@@ -77,7 +78,7 @@ unfolding elementsText
 alone-long n letter = length-append (elementText n letter) [] ∙ add-zero (length (elementText n letter))
 
 module _ (n : ℕ) (z : ℤ) (letter : ℕ) (r : Reading) where
-  pub size-more : {m : ℕ} → sizeOf (judged z letter (elements [])) ≡ answer.Text m → sizeFrom n (judged z letter r) ≡ sizeFrom (n + m) r
+  pub size-more : {m : ℕ} → sizeOf (judged z letter (answered [])) ≡ answer.Text m → sizeFrom n (judged z letter r) ≡ sizeFrom (n + m) r
   size-more {m} e =
       by-test (isLetter letter)
       (λ l.
@@ -87,7 +88,7 @@ module _ (n : ℕ) (z : ℤ) (letter : ℕ) (r : Reading) where
       rw (l, b) (size-before n (element (natAbs z) letter) r ∙ ap (λ (k : ℕ). sizeFrom (n + k) r) same)))
       (λ l. absurd (clash (rw l at e)))
 
-  pub size-refused : {k : ℕ} → sizeOf (judged z letter (elements [])) ≡ answer.Refused k → sizeFrom n (judged z letter r) ≡ answer.Refused k
+  pub size-refused : {k : ℕ} → sizeOf (judged z letter (answered [])) ≡ answer.Refused k → sizeFrom n (judged z letter r) ≡ answer.Refused k
   size-refused {k} e =
       by-test (isLetter letter)
       (λ l. by-test (ltZ z (pos 0)) (λ b. rw (l, b) (rw (l, b) at e)) (λ b. absurd (clash (sym (rw (l, b) at e)))))
@@ -111,23 +112,23 @@ judged-answered z letter r h =
 
 -- elements that have a size are not refused
 pub record Sized (r : Reading) (size : ℕ) : Type 0 where
-  pub answered : Answered r
-  pub is : r ≡ elements (elementsIn r)
+  pub granted : Answered r
+  pub is : r ≡ answered (elementsIn r)
   pub long : size ≡ length (elementsText (elementsIn r))
 
 pub sized : (r : Reading) {size : ℕ} → sizeOf r ≡ answer.Text size → Sized r size
-sized (elements es) e = record { answered = tt; is = refl; long = sym (size-is e) }
+sized (answered es) e = record { granted = tt; is = refl; long = sym (size-is e) }
 sized (refused k) e = absurd (clash e)
 
 refusal-is : (r : Reading) {k : ℕ} → sizeOf r ≡ answer.Refused k → r ≡ refused k
-refusal-is (elements es) e = absurd (clash (sym e))
+refusal-is (answered es) e = absurd (clash (sym e))
 refusal-is (refused j) {k} e = let same : j ≡ k = cc in ap refused same
 
 module _ (number : ℕ) (counts : List ℤ) (letters : List ℕ) (room : ℕ) where
   abbrev all : Reading
   all = given counts letters number
 
-  pub many-written : mostSegments < number → writing number counts letters room ≡ denied tooMuch
+  pub many-written : mostSegments < number → writing number counts letters room ≡ refused tooMuch
   unfolding writing
   many-written h = rw (lt-ltb mostSegments number h)
 
@@ -135,17 +136,17 @@ module _ (number : ℕ) (counts : List ℤ) (letters : List ℕ) (room : ℕ) wh
   unfolding writing
   few-written h = rw (le-ltb mostSegments number h)
 
-  pub refused-written : {k : ℕ} → number ≤ mostSegments → sizeOf all ≡ answer.Refused k → writing number counts letters room ≡ denied k
+  pub refused-written : {k : ℕ} → number ≤ mostSegments → sizeOf all ≡ answer.Refused k → writing number counts letters room ≡ refused k
   refused-written h e = few-written h ∙ ap (textOf room) (refusal-is all e)
 
   module _ {size : ℕ} (few : number ≤ mostSegments) (e : sizeOf all ≡ answer.Text size) where
     fits-written : writing number counts letters room ≡ fitted room (elementsText (elementsIn all))
     fits-written = few-written few ∙ ap (textOf room) (sized all e .is)
 
-    pub large-written : mostText < size → writing number counts letters room ≡ denied tooMuch
+    pub large-written : mostText < size → writing number counts letters room ≡ refused tooMuch
     large-written h = fits-written ∙ rw (lt-ltb mostText (length (elementsText (elementsIn all))) (omega (arith, sized all e .long)))
 
-    pub full-written : size ≤ mostText → room < size → writing number counts letters room ≡ denied noRoom
+    pub full-written : size ≤ mostText → room < size → writing number counts letters room ≡ refused noRoom
     full-written h k =
         fits-written
         ∙ rw (
@@ -153,7 +154,7 @@ module _ (number : ℕ) (counts : List ℤ) (letters : List ℕ) (room : ℕ) wh
           lt-ltb room (length (elementsText (elementsIn all))) (omega (arith, sized all e .long)),
         )
 
-    pub text-written : size ≤ mostText → size ≤ room → writing number counts letters room ≡ written (elementsText (elementsIn all))
+    pub text-written : size ≤ mostText → size ≤ room → writing number counts letters room ≡ answered (elementsText (elementsIn all))
     text-written h k =
         fits-written
         ∙ rw (

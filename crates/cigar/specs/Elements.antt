@@ -10,9 +10,28 @@ pub record Element : Type 0 where
   pub count : ℕ
   pub letter : ℕ
 
+-- the bytes of the six letters
+abbrev pub letterEqual : ℕ
+letterEqual = 61
+
+abbrev pub letterD : ℕ
+letterD = 68
+
+abbrev pub letterI : ℕ
+letterI = 73
+
+abbrev pub letterM : ℕ
+letterM = 77
+
+abbrev pub letterN : ℕ
+letterN = 78
+
+abbrev pub letterX : ℕ
+letterX = 88
+
 -- one of = D I M N X
 unfoldable pub isLetter : ℕ → Bool
-isLetter b = eqb b 61 || eqb b 68 || eqb b 73 || eqb b 77 || eqb b 78 || eqb b 88
+isLetter b = eqb b letterEqual || eqb b letterD || eqb b letterI || eqb b letterM || eqb b letterN || eqb b letterX
 
 -- what a letter does: `=`, `M`, `X` match, `I` inserts, `D` deletes, `N` skips
 pub data Kind : Type 0 where
@@ -24,9 +43,9 @@ pub data Kind : Type 0 where
 -- the kind of a letter's byte. The reader lets no letter through but the six
 unfoldable pub kindOf : ℕ → Kind
 kindOf c =
-    if eqb c 78 then skips
-    else if eqb c 73 then inserts
-    else if eqb c 68 then deletes
+    if eqb c letterN then skips
+    else if eqb c letterI then inserts
+    else if eqb c letterD then deletes
     else matches
 
 abbrev pub kind : Element → Kind

@@ -8,8 +8,9 @@ use lib.ListN.{length}
 use lib.Seq.{sets}
 use Rattle.whole.specs.Whole.{if_then_else_}
 use Rattle.refusals.specs.Numbers.{tooMuch, mostText, mostSegments}
+use Rattle.refusals.specs.Outcome.{answered, refused}
 use Rattle.cigar.specs.Elements.{Element}
-use Rattle.cigar.specs.Text.{Reading, elements, refused, readAll}
+use Rattle.cigar.specs.Text.{Reading, readAll}
 use Rattle.cigar.specs.Lent.{atFront}
 
 -- 3 where the text has too many bytes, and then its elements, with room for the most segments
@@ -25,11 +26,11 @@ lettersOf es = map (λ (x : Element). x .letter) es
 
 -- the lent tables afterwards: the elements are at the front and the rest stays, and where the text is refused all stays
 abbrev pub countsAfter : List ℤ → Reading → List ℤ
-countsAfter counts (elements es) = atFront (countsOf es) counts
+countsAfter counts (answered es) = atFront (countsOf es) counts
 countsAfter counts (refused k) = counts
 
 abbrev pub lettersAfter : List ℕ → Reading → List ℕ
-lettersAfter letters (elements es) = atFront (lettersOf es) letters
+lettersAfter letters (answered es) = atFront (lettersOf es) letters
 lettersAfter letters (refused k) = letters
 
 -- both tables have a place for each segment

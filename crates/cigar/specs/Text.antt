@@ -6,6 +6,7 @@ use lib.ListN.{drop, length}
 use lib.Dec.{leb, ltb, eqb}
 use Rattle.whole.specs.Whole.{if_then_else_}
 use Rattle.refusals.specs.Numbers.{noElement, badCount, tooMuch, mostCount}
+use Rattle.refusals.specs.Outcome.{Outcome, answered, refused, through}
 use Rattle.cigar.specs.Elements.{Element, isLetter}
 use Rattle.cigar.specs.declared.Step.{Step}
 use Rattle.cigar.specs.declared.Step.the-variants as step
@@ -42,14 +43,12 @@ abbrev pub stepAt : List ℕ → ℕ → Step
 stepAt text at = stepOf at (drop at text)
 
 -- what a whole text reads as: its elements, or the number of its refusal
-pub data Reading : Type 0 where
-  elements : List Element → Reading
-  refused : ℕ → Reading
+abbrev pub Reading : Type 0
+Reading = Outcome (List Element)
 
 -- one element more in front
 abbrev pub before : Element → Reading → Reading
-before e (elements es) = elements (e ∷ es)
-before e (refused k) = refused k
+before e = through (λ (es : List Element). e ∷ es)
 
 -- an element of a count and a letter
 abbrev pub element : ℕ → ℕ → Element
@@ -64,7 +63,7 @@ taken room e rest =
 
 -- The rest of a text, inside an element or between two, with room for that many segments. The digits so far are worth n, and `given` says whether there were any.
 unfoldable pub readFrom : ℕ → Bool → ℕ → List ℕ → Reading
-readFrom room given n [] = if given then refused noElement else elements []
+readFrom room given n [] = if given then refused noElement else answered []
 readFrom room given n (b ∷ s) =
     let further : Reading = readFrom room true (n * 10 + (b - 48)) s in
     let whole : Reading = taken room (element (countOf given n) b) (readFrom (room - 1) false 0 s) in
@@ -77,15 +76,10 @@ readAll room text = readFrom room false 0 text
 
 -- the elements of a reading, none where it refuses
 abbrev pub elementsIn : Reading → List Element
-elementsIn (elements es) = es
+elementsIn (answered es) = es
 elementsIn (refused k) = []
-
--- it does not refuse
-abbrev pub Answered : Reading → Type 0
-Answered (elements es) = Unit
-Answered (refused k) = ⊥
 
 -- how many elements there are
 abbrev pub countedOf : Reading → Counted
-countedOf (elements es) = counted.Count (length es)
+countedOf (answered es) = counted.Count (length es)
 countedOf (refused k) = counted.Refused k

@@ -1,9 +1,12 @@
 // The questions for the host, over a lent head and the three lent tables.
 ghost use mathlib.Core.Path.{_≡_};
-ghost use Rattle.mapper.specs.Asking.{answerGToN, answerNToG, answerNToC, answerCToN, answerGToC, answerCToG, answerCoding, answerInBounds};
-ghost use Rattle.entry.specs.Boundary.{headAt, askedOf, nAsked, cAsked, gLaid, nLaid, cLaid, nPlainLaid, cPlainLaid, saidLaid};
-use crate::lay::Answer;
-use crate::lay::Said;
+ghost use Rattle.holding.specs.Holding.{checked};
+ghost use Rattle.mapper.specs.Asking.{askGToN, askNToG, askNToC, askCToN, askGToC, askCToG, askCoding, askInBounds};
+ghost use Rattle.layout.specs.Layout.{lentAt, gAsked, nAsked, cAsked, gLaid, nLaid, cLaid, laid, saidLaid};
+use layout::lay;
+use layout::lay::Answer;
+use layout::lay::Said;
+use layout::take;
 use refusals::MOST_SEGMENTS;
 use refusals::MOST_STARTS;
 
@@ -18,17 +21,10 @@ pub extern "C" fn txc_g_to_n(
     missing: u32,
     strict: bool,
 ) -> Answer
-    ensures { λ r. ⌜ r ≡ nLaid (answerGToN strict (headAt (now (head .entry))) (now (genome .entry)) (now (transcript .entry)) (now (letters .entry)) (askedOf start end missing)) ⌝ }
+    ensures { λ r. ⌜ r ≡ laid nLaid (checked (lentAt (now (head .entry)) (now (genome .entry)) (now (transcript .entry)) (now (letters .entry))) (askGToN strict (gAsked start end missing))) ⌝ }
 {
-    let g = crate::take::g_asked(start, end, missing);
-    crate::lay::lay_n(mapper::g_to_n(
-        crate::take::head_of(head),
-        genome,
-        transcript,
-        letters,
-        g,
-        strict,
-    ))
+    let g = take::g_asked(start, end, missing);
+    lay::lay_n(mapper::g_to_n(take::head_of(head), genome, transcript, letters, g, strict))
 }
 
 #[no_mangle]
@@ -42,17 +38,10 @@ pub extern "C" fn txc_g_to_c(
     missing: u32,
     strict: bool,
 ) -> Answer
-    ensures { λ r. ⌜ r ≡ cLaid (answerGToC strict (headAt (now (head .entry))) (now (genome .entry)) (now (transcript .entry)) (now (letters .entry)) (askedOf start end missing)) ⌝ }
+    ensures { λ r. ⌜ r ≡ laid cLaid (checked (lentAt (now (head .entry)) (now (genome .entry)) (now (transcript .entry)) (now (letters .entry))) (askGToC strict (gAsked start end missing))) ⌝ }
 {
-    let g = crate::take::g_asked(start, end, missing);
-    crate::lay::lay_c(mapper::g_to_c(
-        crate::take::head_of(head),
-        genome,
-        transcript,
-        letters,
-        g,
-        strict,
-    ))
+    let g = take::g_asked(start, end, missing);
+    lay::lay_c(mapper::g_to_c(take::head_of(head), genome, transcript, letters, g, strict))
 }
 
 #[no_mangle]
@@ -67,17 +56,10 @@ pub extern "C" fn txc_n_to_g(
     end_offset: i32,
     strict: bool,
 ) -> Answer
-    ensures { λ r. ⌜ r ≡ gLaid (answerNToG strict (headAt (now (head .entry))) (now (genome .entry)) (now (transcript .entry)) (now (letters .entry)) (nAsked start «start_offset» end «end_offset»)) ⌝ }
+    ensures { λ r. ⌜ r ≡ laid gLaid (checked (lentAt (now (head .entry)) (now (genome .entry)) (now (transcript .entry)) (now (letters .entry))) (askNToG strict (nAsked start «start_offset» end «end_offset»))) ⌝ }
 {
-    let n = crate::take::n_asked(start, start_offset, end, end_offset);
-    crate::lay::lay_g(mapper::n_to_g(
-        crate::take::head_of(head),
-        genome,
-        transcript,
-        letters,
-        n,
-        strict,
-    ))
+    let n = take::n_asked(start, start_offset, end, end_offset);
+    lay::lay_g(mapper::n_to_g(take::head_of(head), genome, transcript, letters, n, strict))
 }
 
 #[no_mangle]
@@ -92,17 +74,10 @@ pub extern "C" fn txc_n_to_c(
     end_offset: i32,
     strict: bool,
 ) -> Answer
-    ensures { λ r. ⌜ r ≡ cPlainLaid (answerNToC strict (headAt (now (head .entry))) (now (genome .entry)) (now (transcript .entry)) (now (letters .entry)) (nAsked start «start_offset» end «end_offset»)) ⌝ }
+    ensures { λ r. ⌜ r ≡ laid cLaid (checked (lentAt (now (head .entry)) (now (genome .entry)) (now (transcript .entry)) (now (letters .entry))) (askNToC strict (nAsked start «start_offset» end «end_offset»))) ⌝ }
 {
-    let n = crate::take::n_asked(start, start_offset, end, end_offset);
-    crate::lay::lay_c_plain(mapper::n_to_c(
-        crate::take::head_of(head),
-        genome,
-        transcript,
-        letters,
-        n,
-        strict,
-    ))
+    let n = take::n_asked(start, start_offset, end, end_offset);
+    lay::lay_c_plain(mapper::n_to_c(take::head_of(head), genome, transcript, letters, n, strict))
 }
 
 #[no_mangle]
@@ -119,17 +94,10 @@ pub extern "C" fn txc_c_to_n(
     end_star: bool,
     strict: bool,
 ) -> Answer
-    ensures { λ r. ⌜ r ≡ nPlainLaid (answerCToN strict (headAt (now (head .entry))) (now (genome .entry)) (now (transcript .entry)) (now (letters .entry)) (cAsked start «start_offset» «start_star» end «end_offset» «end_star»)) ⌝ }
+    ensures { λ r. ⌜ r ≡ laid nLaid (checked (lentAt (now (head .entry)) (now (genome .entry)) (now (transcript .entry)) (now (letters .entry))) (askCToN strict (cAsked start «start_offset» «start_star» end «end_offset» «end_star»))) ⌝ }
 {
-    let c = crate::take::c_asked(start, start_offset, start_star, end, end_offset, end_star);
-    crate::lay::lay_n_plain(mapper::c_to_n(
-        crate::take::head_of(head),
-        genome,
-        transcript,
-        letters,
-        c,
-        strict,
-    ))
+    let c = take::c_asked(start, start_offset, start_star, end, end_offset, end_star);
+    lay::lay_n_plain(mapper::c_to_n(take::head_of(head), genome, transcript, letters, c, strict))
 }
 
 #[no_mangle]
@@ -146,17 +114,10 @@ pub extern "C" fn txc_c_to_g(
     end_star: bool,
     strict: bool,
 ) -> Answer
-    ensures { λ r. ⌜ r ≡ gLaid (answerCToG strict (headAt (now (head .entry))) (now (genome .entry)) (now (transcript .entry)) (now (letters .entry)) (cAsked start «start_offset» «start_star» end «end_offset» «end_star»)) ⌝ }
+    ensures { λ r. ⌜ r ≡ laid gLaid (checked (lentAt (now (head .entry)) (now (genome .entry)) (now (transcript .entry)) (now (letters .entry))) (askCToG strict (cAsked start «start_offset» «start_star» end «end_offset» «end_star»))) ⌝ }
 {
-    let c = crate::take::c_asked(start, start_offset, start_star, end, end_offset, end_star);
-    crate::lay::lay_g(mapper::c_to_g(
-        crate::take::head_of(head),
-        genome,
-        transcript,
-        letters,
-        c,
-        strict,
-    ))
+    let c = take::c_asked(start, start_offset, start_star, end, end_offset, end_star);
+    lay::lay_g(mapper::c_to_g(take::head_of(head), genome, transcript, letters, c, strict))
 }
 
 // Whether a g. interval lies in the bounds of the alignment.
@@ -170,11 +131,11 @@ pub extern "C" fn txc_in_bounds(
     end: i32,
     missing: u32,
 ) -> Said
-    ensures { λ r. ⌜ r ≡ saidLaid (answerInBounds (headAt (now (head .entry))) (now (genome .entry)) (now (transcript .entry)) (now (letters .entry)) (askedOf start end missing)) ⌝ }
+    ensures { λ r. ⌜ r ≡ saidLaid (checked (lentAt (now (head .entry)) (now (genome .entry)) (now (transcript .entry)) (now (letters .entry))) (askInBounds (gAsked start end missing))) ⌝ }
 {
-    let g = crate::take::g_asked(start, end, missing);
-    crate::lay::lay_said(mapper::is_g_interval_in_bounds(
-        crate::take::head_of(head),
+    let g = take::g_asked(start, end, missing);
+    lay::lay_said(mapper::is_g_interval_in_bounds(
+        take::head_of(head),
         genome,
         transcript,
         letters,
@@ -190,12 +151,7 @@ pub extern "C" fn txc_is_coding(
     transcript: &[u32; MOST_STARTS],
     letters: &[u8; MOST_SEGMENTS],
 ) -> Said
-    ensures { λ r. ⌜ r ≡ saidLaid (answerCoding (headAt (now (head .entry))) (now (genome .entry)) (now (transcript .entry)) (now (letters .entry))) ⌝ }
+    ensures { λ r. ⌜ r ≡ saidLaid (checked (lentAt (now (head .entry)) (now (genome .entry)) (now (transcript .entry)) (now (letters .entry))) askCoding) ⌝ }
 {
-    crate::lay::lay_said(mapper::is_coding_transcript(
-        crate::take::head_of(head),
-        genome,
-        transcript,
-        letters,
-    ))
+    lay::lay_said(mapper::is_coding_transcript(take::head_of(head), genome, transcript, letters))
 }

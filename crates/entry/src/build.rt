@@ -2,16 +2,19 @@
 ghost use mathlib.Core.Path.{_≡_};
 ghost use lib.ListN.{length};
 ghost use Rattle.cigar.specs.Write.{answerOf as writtenOf, bufferAfter};
-ghost use Rattle.transcript.specs.Judging.{judge, judgeLength};
-ghost use Rattle.transcript.specs.Outcome.{answerOf, lengthAnswer, genomeAfter, transcriptAfter, lettersAfter};
+ghost use Rattle.segments.specs.Tables.{tables};
+ghost use Rattle.judging.specs.Judging.{judge, judgeLength};
+ghost use Rattle.building.specs.Afterwards.{answerOf, lengthAnswer, tablesAfter};
 ghost use Rattle.card.specs.Writing.{cardWriting, judgeCard};
-ghost use Rattle.entry.specs.Boundary.{headRow, builtNumber, builtHead, writtenLaid};
-use crate::lay::Length;
+ghost use Rattle.layout.specs.Layout.{headRow};
+ghost use Rattle.entry.specs.Boundary.{numbersOf, builtNumber, builtHead, writtenLaid};
 use cigar::write::Written;
+use layout::lay::Length;
 use refusals::MOST_SEGMENTS;
 use refusals::MOST_STARTS;
 use transcript::Built;
 use transcript::Head;
+use transcript::Numbers;
 
 // The eight numbers of a head, laid out in lent memory.
 fn lay_head(h: Head, head: &mut [i32; 8])
@@ -43,6 +46,19 @@ fn lay_built(b: Built, head: &mut [i32; 8]) -> u32
     }
 }
 
+// What building is handed beside the records' bytes.
+fn numbers_of(strand: i32, cds: u32, start: i32, end: i32, count: usize) -> Numbers
+    ensures { λ r. ⌜ r ≡ numbersOf strand cds start end count ⌝ }
+{
+    Numbers {
+        strand,
+        cds,
+        start,
+        end,
+        count,
+    }
+}
+
 // A transcript from records that are laid out as in a card: 0, or a refusal's number.
 #[no_mangle]
 pub extern "C" fn txc_build(
@@ -57,23 +73,12 @@ pub extern "C" fn txc_build(
     transcript: &mut [u32; MOST_STARTS],
     letters: &mut [u8; MOST_SEGMENTS],
 ) -> u32
-    ensures { λ r. ⌜ r ≡ builtNumber (answerOf (judge strand cds «cds_start» «cds_end» count (now (records .entry)))) ⌝ }
-    ensures { λ _. ⌜ now (head .exit) ≡ builtHead (answerOf (judge strand cds «cds_start» «cds_end» count (now (records .entry)))) (now (head .entry)) ⌝ }
-    ensures { λ _. ⌜ now (genome .exit) ≡ genomeAfter (judge strand cds «cds_start» «cds_end» count (now (records .entry))) (now (genome .entry)) ⌝ }
-    ensures { λ _. ⌜ now (transcript .exit) ≡ transcriptAfter (judge strand cds «cds_start» «cds_end» count (now (records .entry))) (now (transcript .entry)) ⌝ }
-    ensures { λ _. ⌜ now (letters .exit) ≡ lettersAfter (judge strand cds «cds_start» «cds_end» count (now (records .entry))) (now (letters .entry)) ⌝ }
+    ensures { λ r. ⌜ r ≡ builtNumber (answerOf (judge (numbersOf strand cds «cds_start» «cds_end» count) (now (records .entry)))) ⌝ }
+    ensures { λ _. ⌜ now (head .exit) ≡ builtHead (answerOf (judge (numbersOf strand cds «cds_start» «cds_end» count) (now (records .entry)))) (now (head .entry)) ⌝ }
+    ensures { λ _. ⌜ tables (now (genome .exit)) (now (transcript .exit)) (now (letters .exit)) ≡ tablesAfter (judge (numbersOf strand cds «cds_start» «cds_end» count) (now (records .entry))) (tables (now (genome .entry)) (now (transcript .entry)) (now (letters .entry))) ⌝ }
 {
-    let built = transcript::building::build(
-        strand,
-        cds,
-        cds_start,
-        cds_end,
-        count,
-        records,
-        genome,
-        transcript,
-        letters,
-    );
+    let numbers = numbers_of(strand, cds, cds_start, cds_end, count);
+    let built = building::build(numbers, records, genome, transcript, letters);
     lay_built(built, head)
 }
 
@@ -88,9 +93,7 @@ pub extern "C" fn txc_build_card(
 ) -> u32
     ensures { λ r. ⌜ r ≡ builtNumber (answerOf (judgeCard (now (card .entry)))) ⌝ }
     ensures { λ _. ⌜ now (head .exit) ≡ builtHead (answerOf (judgeCard (now (card .entry)))) (now (head .entry)) ⌝ }
-    ensures { λ _. ⌜ now (genome .exit) ≡ genomeAfter (judgeCard (now (card .entry))) (now (genome .entry)) ⌝ }
-    ensures { λ _. ⌜ now (transcript .exit) ≡ transcriptAfter (judgeCard (now (card .entry))) (now (transcript .entry)) ⌝ }
-    ensures { λ _. ⌜ now (letters .exit) ≡ lettersAfter (judgeCard (now (card .entry))) (now (letters .entry)) ⌝ }
+    ensures { λ _. ⌜ tables (now (genome .exit)) (now (transcript .exit)) (now (letters .exit)) ≡ tablesAfter (judgeCard (now (card .entry))) (tables (now (genome .entry)) (now (transcript .entry)) (now (letters .entry))) ⌝ }
 {
     let built = card::build_card(card, genome, transcript, letters);
     lay_built(built, head)
@@ -108,7 +111,7 @@ pub extern "C" fn txc_build_length(
     ensures { λ r. ⌜ r ≡ builtNumber (lengthAnswer (judgeLength length cds «cds_start» «cds_end»)) ⌝ }
     ensures { λ _. ⌜ now (head .exit) ≡ builtHead (lengthAnswer (judgeLength length cds «cds_start» «cds_end»)) (now (head .entry)) ⌝ }
 {
-    let built = transcript::length_only::build_length(length, cds, cds_start, cds_end);
+    let built = building::length_only::build_length(length, cds, cds_start, cds_end);
     lay_built(built, head)
 }
 
@@ -123,10 +126,11 @@ pub extern "C" fn txc_write_card(
     records: &[u8],
     buffer: &mut [u8],
 ) -> Length
-    ensures { λ r. ⌜ r ≡ writtenLaid (writtenOf (cardWriting strand cds «cds_start» «cds_end» count (now (records .entry)) (length (now (buffer .entry))))) ⌝ }
-    ensures { λ _. ⌜ now (buffer .exit) ≡ bufferAfter (now (buffer .entry)) (cardWriting strand cds «cds_start» «cds_end» count (now (records .entry)) (length (now (buffer .entry)))) ⌝ }
+    ensures { λ r. ⌜ r ≡ writtenLaid (writtenOf (cardWriting (numbersOf strand cds «cds_start» «cds_end» count) (now (records .entry)) (length (now (buffer .entry))))) ⌝ }
+    ensures { λ _. ⌜ now (buffer .exit) ≡ bufferAfter (now (buffer .entry)) (cardWriting (numbersOf strand cds «cds_start» «cds_end» count) (now (records .entry)) (length (now (buffer .entry)))) ⌝ }
 {
-    match card::write_card(strand, cds, cds_start, cds_end, count, records, buffer) {
+    let numbers = numbers_of(strand, cds, cds_start, cds_end, count);
+    match card::write_card(numbers, records, buffer) {
         Written::Text(n) => Length {
             number: 0,
             length: n,

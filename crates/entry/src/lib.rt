@@ -2,6 +2,4 @@
 // below and lays its answer out; no rule lives here.
 pub mod ask;
 pub mod build;
-pub mod lay;
-mod take;
 pub mod text;

@@ -6,9 +6,9 @@ ghost use Rattle.cigar.specs.Read.{readText, countsAfter, lettersAfter};
 ghost use Rattle.cigar.specs.Write.{writing, answerOf, bufferAfter};
 ghost use Rattle.sequences.specs.Alleles.{prefixLen, suffixLen, changedPart};
 ghost use Rattle.entry.specs.Boundary.{countedLaid, writtenLaid, partLaid};
-use crate::lay::Length;
 use cigar::Counted;
 use cigar::write::Written;
+use layout::lay::Length;
 use refusals::MOST_SEGMENTS;
 
 // Where the changed part stands: of the reference (0) or of the alternative (1).
@@ -87,7 +87,7 @@ pub extern "C" fn txc_changed(reference: &[u8], alternative: &[u8]) -> Part
     ensures { λ r. ⌜ r ≡ partLaid (changedPart (now (reference .entry)) (now (alternative .entry))) ⌝ }
 {
     let part = sequences::changed_part(reference, alternative);
-    let alternative = crate::lay::star_number(part.alternative);
+    let alternative = layout::lay::star_number(part.alternative);
     Part {
         alternative,
         from: part.from,

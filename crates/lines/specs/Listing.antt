@@ -3,11 +3,11 @@ use Prim.Native.Nat.{ℕ, _+_}
 use mathlib.Core.Bool.{Bool}
 use mathlib.Core.List.{List, [], _∷_, _++_}
 use lib.ListN.{length}
+use Rattle.refusals.specs.Outcome.{Outcome, answered, refused}
 use Rattle.whole.specs.Whole.{if_then_else_}
 use Rattle.cigar.specs.Elements.{Element, genome, transcript, total}
 use Rattle.cigar.specs.Write.{decimal}
-use Rattle.transcript.specs.Judging.{Judged, Made, refused, accepted}
-use Rattle.transcript.specs.Outcome.{elementsMade}
+use Rattle.judging.specs.Judging.{Made, elementsMade}
 use Rattle.card.specs.Layout.{mark}
 
 -- a space and a number
@@ -44,6 +44,6 @@ unfoldable pub refusalText : ℕ → List ℕ
 refusalText k = 114 ∷ 101 ∷ 102 ∷ 117 ∷ 115 ∷ 101 ∷ 100 ∷ (numberText k ++ 10 ∷ [])
 
 -- what is written of building's judgment
-abbrev pub judgmentText : Judged Made → List ℕ
+abbrev pub judgmentText : Outcome Made → List ℕ
 judgmentText (refused k) = refusalText k
-judgmentText (accepted m) = listingText (m .forward) (elementsMade m)
+judgmentText (answered m) = listingText (m .forward) (elementsMade m)

@@ -10,8 +10,8 @@ ghost use Rattle.refusals.specs.Numbers.{mostSegments};
 ghost use Rattle.lines.specs.Listing.{numberText, numbersText, signOf, headerText, listingText, refusalText, judgmentText};
 ghost use Rattle.lines.specs.Tables.{lineAt, linesFrom};
 ghost use Rattle.cigar.specs.Lent.{atFront};
-ghost use Rattle.segments.specs.Tables.{Holds, read};
-ghost use Rattle.transcript.specs.Outcome.{genomeAfter, transcriptAfter, lettersAfter};
+ghost use Rattle.segments.specs.Tables.{tables, Holds, read};
+ghost use Rattle.building.specs.Afterwards.{tablesAfter};
 ghost use Rattle.card.specs.Putting.{Put};
 ghost use Rattle.card.specs.Writing.{judgeCard};
 ghost use Rattle.lines.specs.Lengths.{mostNumber, mostNumbers, mostHeader, mostLine, mostListing};
@@ -87,7 +87,7 @@ fn put_line(
     i: usize,
 ) -> usize
     requires { ⌜ (i < mostSegments) × (at + mostLine ≤ length (now buffer)) ⌝ }
-    ensures { λ r. ⌜ Put (now (buffer .entry)) (now (buffer .exit)) at r (lineAt (now (genome .entry)) (now (transcript .entry)) (now (letters .entry)) i) ⌝ }
+    ensures { λ r. ⌜ Put (now (buffer .entry)) (now (buffer .exit)) at r (lineAt (tables (now (genome .entry)) (now (transcript .entry)) (now (letters .entry))) i) ⌝ }
     ensures within { λ r. ⌜ r ≤ at + mostLine ⌝ }
 {
     let count = count_at(genome, transcript, i);
@@ -105,7 +105,7 @@ fn put_lines(
     letters: &[u8; MOST_SEGMENTS],
 ) -> usize
     requires { ⌜ (count ≤ mostSegments) × (from + mostLine * count ≤ length (now buffer)) ⌝ }
-    ensures { λ r. ⌜ Put (now (buffer .entry)) (now (buffer .exit)) from r (linesFrom (now (genome .entry)) (now (transcript .entry)) (now (letters .entry)) 0 count) ⌝ }
+    ensures { λ r. ⌜ Put (now (buffer .entry)) (now (buffer .exit)) from r (linesFrom (tables (now (genome .entry)) (now (transcript .entry)) (now (letters .entry))) 0 count) ⌝ }
     ensures within { λ r. ⌜ r ≤ from + mostLine * count ⌝ }
 {
     let mut at = from;
@@ -146,8 +146,8 @@ fn put_listing(
     letters: &[u8; MOST_SEGMENTS],
 ) -> usize
     requires { ⌜ (count ≤ mostSegments) × (mostListing ≤ length (now buffer)) ⌝ }
-    requires { ⌜ Holds (now genome) (now transcript) (now letters) count ⌝ }
-    ensures { λ r. ⌜ Put (now (buffer .entry)) (now (buffer .exit)) 0 r (listingText forward (read (now (genome .entry)) (now (transcript .entry)) (now (letters .entry)) count)) ⌝ }
+    requires { ⌜ Holds (tables (now genome) (now transcript) (now letters)) count ⌝ }
+    ensures { λ r. ⌜ Put (now (buffer .entry)) (now (buffer .exit)) 0 r (listingText forward (read (tables (now (genome .entry)) (now (transcript .entry)) (now (letters .entry))) count)) ⌝ }
     ensures within { λ r. ⌜ r ≤ mostListing ⌝ }
 {
     let header = put_header(
@@ -209,9 +209,7 @@ pub fn list_card(
     ensures { λ r. ⌜ r ≡ length (judgmentText (judgeCard (now (card .entry)))) ⌝ }
     ensures within { λ r. ⌜ r ≤ mostListing ⌝ }
     ensures { λ _. ⌜ now (buffer .exit) ≡ atFront (judgmentText (judgeCard (now (card .entry)))) (now (buffer .entry)) ⌝ }
-    ensures { λ _. ⌜ now (genome .exit) ≡ genomeAfter (judgeCard (now (card .entry))) (now (genome .entry)) ⌝ }
-    ensures { λ _. ⌜ now (transcript .exit) ≡ transcriptAfter (judgeCard (now (card .entry))) (now (transcript .entry)) ⌝ }
-    ensures { λ _. ⌜ now (letters .exit) ≡ lettersAfter (judgeCard (now (card .entry))) (now (letters .entry)) ⌝ }
+    ensures { λ _. ⌜ tables (now (genome .exit)) (now (transcript .exit)) (now (letters .exit)) ≡ tablesAfter (judgeCard (now (card .entry))) (tables (now (genome .entry)) (now (transcript .entry)) (now (letters .entry))) ⌝ }
 {
     match card::build_card(card, genome, transcript, letters) {
         Built::Transcript(head) => {

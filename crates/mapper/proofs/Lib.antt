@@ -1,6 +1,3 @@
--- Laws on plain values, for the proofs of this crate.
-mod Wide
-mod Ends
-mod Sizes
-mod Spans
-mod Sources
+-- What the proofs of several functions use.
+--     Known    what is known of what is lent, and what each question then is
+pub mod Known

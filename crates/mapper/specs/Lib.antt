@@ -1,11 +1,8 @@
 -- The root of the crate's specs.
-pub mod Answers
-pub mod Mapping
+--     Chains     g. to c. and c. to g., of a transcript built from records
+--     Asking     the questions to a transcript of either kind
+--     Knowing    what is known of what is lent, as the code holds it
+pub mod Chains
 pub mod Asking
-pub mod Paper
-pub mod Aligned
-pub mod Refusing
-pub mod Occurring
-pub mod Lenient
-pub mod Marks
-pub mod Same
+pub mod Knowing
+pub mod laws

@@ -1,93 +1,26 @@
-// The g., n. and c. questions to a transcript, and what they are answered with.
+// The g., n. and c. questions to a transcript that a host lends. What is lent is known once, and each question is one match over it.
 ghost use mathlib.Core.Path.{_≡_};
-ghost use Rattle.mapper.specs.Asking.{answerGToN, answerNToG, answerNToC, answerCToN, answerGToC, answerCToG, answerCoding, answerInBounds};
-ghost use Rattle.mapper.specs.Paper.{paperAsked, paperNInterval, paperCInterval, paperG, paperN, paperC, paperNPlain, paperCPlain, paperSaid};
+ghost use Rattle.holding.specs.Holding.{lent, checked};
+ghost use Rattle.positions.specs.Paper.{paperGQuestion, paperNQuestion, paperCQuestion, paperG, paperN, paperC, paperNPlain, paperCPlain, paperSaid};
+ghost use Rattle.mapper.specs.Asking.{askGToN, askNToG, askNToC, askCToN, askGToC, askCToG, askCoding, askInBounds};
+use knowing::Known;
+use positions::CAnswer;
+use positions::CPlain;
+use positions::CQuestion;
+use positions::GAnswer;
+use positions::GQuestion;
+use positions::NAnswer;
+use positions::NPlain;
+use positions::NQuestion;
+use positions::Said;
 use refusals::MOST_SEGMENTS;
 use refusals::MOST_STARTS;
+use refusals::NO_GENOME;
+use refusals::NOT_TOGETHER;
 use transcript::Head;
-use transcript::holding;
 
-mod asking;
-mod coding;
-mod fitting;
-mod genome;
-
-// The start or the end of a g. interval as it is asked: a number, or none.
-pub enum Bound {
-    At(i32),
-    Missing,
-}
-
-// A g. interval as it is asked.
-pub struct GAsked {
-    pub from: Bound,
-    pub to: Bound,
-}
-
-pub struct GInterval {
-    pub from: i32,
-    pub to: i32,
-}
-
-// An n. number with an intron offset, 0 for none.
-pub struct NPosition {
-    pub base: i32,
-    pub offset: i32,
-}
-
-pub struct NInterval {
-    pub from: NPosition,
-    pub to: NPosition,
-}
-
-// A c. number, whether it bears a star, and an intron offset, 0 for none.
-pub struct CPosition {
-    pub base: i32,
-    pub star: bool,
-    pub offset: i32,
-}
-
-pub struct CInterval {
-    pub from: CPosition,
-    pub to: CPosition,
-}
-
-// What a question across the genome is answered with: an interval with its mark, or a refusal.
-pub enum GAnswer {
-    Certain(GInterval),
-    Uncertain(GInterval),
-    Refused(u8),
-}
-
-pub enum NAnswer {
-    Certain(NInterval),
-    Uncertain(NInterval),
-    Refused(u8),
-}
-
-pub enum CAnswer {
-    Certain(CInterval),
-    Uncertain(CInterval),
-    Refused(u8),
-}
-
-// What n. to c. and back are answered with: they bear no mark.
-pub enum NPlain {
-    Told(NInterval),
-    Refused(u8),
-}
-
-pub enum CPlain {
-    Told(CInterval),
-    Refused(u8),
-}
-
-// What a question of yes or no is answered with.
-pub enum Said {
-    Yes,
-    No,
-    Refused(u8),
-}
+mod knowing;
+mod steps;
 
 // g. to n.: 23, 18, 19, 14, 17.
 pub fn g_to_n(
@@ -95,15 +28,15 @@ pub fn g_to_n(
     genome: &[u32; MOST_STARTS],
     transcript: &[u32; MOST_STARTS],
     letters: &[u8; MOST_SEGMENTS],
-    g: GAsked,
+    q: GQuestion,
     strict: bool,
 ) -> NAnswer
-    ensures { λ r. ⌜ paperN r ≡ answerGToN strict head (now (genome .entry)) (now (transcript .entry)) (now (letters .entry)) (paperAsked g) ⌝ }
+    ensures { λ r. ⌜ paperN r ≡ checked (lent head (now (genome .entry)) (now (transcript .entry)) (now (letters .entry))) (askGToN strict (paperGQuestion q)) ⌝ }
 {
-    if holding::check(head, genome, transcript, letters) {
-        asking::g_to_n(head, genome, transcript, letters, g, strict)
-    } else {
-        NAnswer::Refused(refusals::NOT_TOGETHER)
+    match knowing::known_of(head, genome, transcript, letters) {
+        Known::Aligned(at, _) => steps::g_to_n(at, genome, transcript, letters, q, strict),
+        Known::OfLength(_, _) => NAnswer::Refused(NO_GENOME),
+        Known::Broken => NAnswer::Refused(NOT_TOGETHER),
     }
 }
 
@@ -113,15 +46,15 @@ pub fn n_to_g(
     genome: &[u32; MOST_STARTS],
     transcript: &[u32; MOST_STARTS],
     letters: &[u8; MOST_SEGMENTS],
-    n: NInterval,
+    q: NQuestion,
     strict: bool,
 ) -> GAnswer
-    ensures { λ r. ⌜ paperG r ≡ answerNToG strict head (now (genome .entry)) (now (transcript .entry)) (now (letters .entry)) (paperNInterval n) ⌝ }
+    ensures { λ r. ⌜ paperG r ≡ checked (lent head (now (genome .entry)) (now (transcript .entry)) (now (letters .entry))) (askNToG strict (paperNQuestion q)) ⌝ }
 {
-    if holding::check(head, genome, transcript, letters) {
-        asking::n_to_g(head, genome, transcript, letters, n, strict)
-    } else {
-        GAnswer::Refused(refusals::NOT_TOGETHER)
+    match knowing::known_of(head, genome, transcript, letters) {
+        Known::Aligned(at, _) => places::to_g(at, genome, transcript, letters, q, strict),
+        Known::OfLength(_, _) => GAnswer::Refused(NO_GENOME),
+        Known::Broken => GAnswer::Refused(NOT_TOGETHER),
     }
 }
 
@@ -131,15 +64,18 @@ pub fn n_to_c(
     genome: &[u32; MOST_STARTS],
     transcript: &[u32; MOST_STARTS],
     letters: &[u8; MOST_SEGMENTS],
-    n: NInterval,
+    q: NQuestion,
     strict: bool,
 ) -> CPlain
-    ensures { λ r. ⌜ paperCPlain r ≡ answerNToC strict head (now (genome .entry)) (now (transcript .entry)) (now (letters .entry)) (paperNInterval n) ⌝ }
+    ensures { λ r. ⌜ paperCPlain r ≡ checked (lent head (now (genome .entry)) (now (transcript .entry)) (now (letters .entry))) (askNToC strict (paperNQuestion q)) ⌝ }
 {
-    if holding::check(head, genome, transcript, letters) {
-        asking::n_to_c(head, genome, transcript, letters, n, strict)
-    } else {
-        CPlain::Refused(refusals::NOT_TOGETHER)
+    match knowing::known_of(head, genome, transcript, letters) {
+        Known::Aligned(at, cds) => {
+            let count = at.count;
+            steps::n_to_c(places::last(transcript, count), cds, q, strict)
+        }
+        Known::OfLength(length, cds) => steps::n_to_c(length, cds, q, strict),
+        Known::Broken => CPlain::Refused(NOT_TOGETHER),
     }
 }
 
@@ -149,15 +85,18 @@ pub fn c_to_n(
     genome: &[u32; MOST_STARTS],
     transcript: &[u32; MOST_STARTS],
     letters: &[u8; MOST_SEGMENTS],
-    c: CInterval,
+    q: CQuestion,
     strict: bool,
 ) -> NPlain
-    ensures { λ r. ⌜ paperNPlain r ≡ answerCToN strict head (now (genome .entry)) (now (transcript .entry)) (now (letters .entry)) (paperCInterval c) ⌝ }
+    ensures { λ r. ⌜ paperNPlain r ≡ checked (lent head (now (genome .entry)) (now (transcript .entry)) (now (letters .entry))) (askCToN strict (paperCQuestion q)) ⌝ }
 {
-    if holding::check(head, genome, transcript, letters) {
-        asking::c_to_n(head, genome, transcript, letters, c, strict)
-    } else {
-        NPlain::Refused(refusals::NOT_TOGETHER)
+    match knowing::known_of(head, genome, transcript, letters) {
+        Known::Aligned(at, cds) => {
+            let count = at.count;
+            steps::c_to_n(places::last(transcript, count), cds, q, strict)
+        }
+        Known::OfLength(length, cds) => steps::c_to_n(length, cds, q, strict),
+        Known::Broken => NPlain::Refused(NOT_TOGETHER),
     }
 }
 
@@ -167,15 +106,20 @@ pub fn g_to_c(
     genome: &[u32; MOST_STARTS],
     transcript: &[u32; MOST_STARTS],
     letters: &[u8; MOST_SEGMENTS],
-    g: GAsked,
+    q: GQuestion,
     strict: bool,
 ) -> CAnswer
-    ensures { λ r. ⌜ paperC r ≡ answerGToC strict head (now (genome .entry)) (now (transcript .entry)) (now (letters .entry)) (paperAsked g) ⌝ }
+    ensures { λ r. ⌜ paperC r ≡ checked (lent head (now (genome .entry)) (now (transcript .entry)) (now (letters .entry))) (askGToC strict (paperGQuestion q)) ⌝ }
 {
-    if holding::check(head, genome, transcript, letters) {
-        asking::g_to_c(head, genome, transcript, letters, g, strict)
-    } else {
-        CAnswer::Refused(refusals::NOT_TOGETHER)
+    match knowing::known_of(head, genome, transcript, letters) {
+        Known::Aligned(at, cds) => {
+            let count = at.count;
+            let length = places::last(transcript, count);
+            let n = steps::g_to_n(at, genome, transcript, letters, q, strict);
+            steps::then_n_to_c(n, length, cds, strict)
+        }
+        Known::OfLength(_, _) => CAnswer::Refused(NO_GENOME),
+        Known::Broken => CAnswer::Refused(NOT_TOGETHER),
     }
 }
 
@@ -185,15 +129,25 @@ pub fn c_to_g(
     genome: &[u32; MOST_STARTS],
     transcript: &[u32; MOST_STARTS],
     letters: &[u8; MOST_SEGMENTS],
-    c: CInterval,
+    q: CQuestion,
     strict: bool,
 ) -> GAnswer
-    ensures { λ r. ⌜ paperG r ≡ answerCToG strict head (now (genome .entry)) (now (transcript .entry)) (now (letters .entry)) (paperCInterval c) ⌝ }
+    ensures { λ r. ⌜ paperG r ≡ checked (lent head (now (genome .entry)) (now (transcript .entry)) (now (letters .entry))) (askCToG strict (paperCQuestion q)) ⌝ }
 {
-    if holding::check(head, genome, transcript, letters) {
-        asking::c_to_g(head, genome, transcript, letters, c, strict)
-    } else {
-        GAnswer::Refused(refusals::NOT_TOGETHER)
+    match knowing::known_of(head, genome, transcript, letters) {
+        Known::Aligned(at, cds) => {
+            let count = at.count;
+            let length = places::last(transcript, count);
+            let n = steps::c_to_n(length, cds, q, strict);
+            steps::then_n_to_g(n, at, genome, transcript, letters, strict)
+        }
+        Known::OfLength(length, cds) => steps::then_no_genome(steps::c_to_n(
+            length,
+            cds,
+            q,
+            strict,
+        )),
+        Known::Broken => GAnswer::Refused(NOT_TOGETHER),
     }
 }
 
@@ -204,12 +158,12 @@ pub fn is_coding_transcript(
     transcript: &[u32; MOST_STARTS],
     letters: &[u8; MOST_SEGMENTS],
 ) -> Said
-    ensures { λ r. ⌜ paperSaid r ≡ answerCoding head (now (genome .entry)) (now (transcript .entry)) (now (letters .entry)) ⌝ }
+    ensures { λ r. ⌜ paperSaid r ≡ checked (lent head (now (genome .entry)) (now (transcript .entry)) (now (letters .entry))) askCoding ⌝ }
 {
-    if holding::check(head, genome, transcript, letters) {
-        asking::is_coding(head, genome, transcript, letters)
-    } else {
-        Said::Refused(refusals::NOT_TOGETHER)
+    match knowing::known_of(head, genome, transcript, letters) {
+        Known::Aligned(_, cds) => steps::is_coding(cds),
+        Known::OfLength(_, cds) => steps::is_coding(cds),
+        Known::Broken => Said::Refused(NOT_TOGETHER),
     }
 }
 
@@ -219,13 +173,13 @@ pub fn is_g_interval_in_bounds(
     genome: &[u32; MOST_STARTS],
     transcript: &[u32; MOST_STARTS],
     letters: &[u8; MOST_SEGMENTS],
-    g: GAsked,
+    q: GQuestion,
 ) -> Said
-    ensures { λ r. ⌜ paperSaid r ≡ answerInBounds head (now (genome .entry)) (now (transcript .entry)) (now (letters .entry)) (paperAsked g) ⌝ }
+    ensures { λ r. ⌜ paperSaid r ≡ checked (lent head (now (genome .entry)) (now (transcript .entry)) (now (letters .entry))) (askInBounds (paperGQuestion q)) ⌝ }
 {
-    if holding::check(head, genome, transcript, letters) {
-        asking::is_in_bounds(head, genome, transcript, letters, g)
-    } else {
-        Said::Refused(refusals::NOT_TOGETHER)
+    match knowing::known_of(head, genome, transcript, letters) {
+        Known::Aligned(at, _) => steps::is_in_bounds(at, genome, q),
+        Known::OfLength(_, _) => Said::Refused(NO_GENOME),
+        Known::Broken => Said::Refused(NOT_TOGETHER),
     }
 }

@@ -6,14 +6,15 @@ use mathlib.Core.List.{List, [], _∷_, _++_}
 use mathlib.Core.Path.{_≡_, refl, ap, _∙_}
 use lib.Dec.{eqb}
 use lib.IntN.{pos}
+use lib.ListN.{length}
 use borrow.Author.Tests.{eqb-true}
 use Rattle.whole.specs.Whole.{by-test}
-use Rattle.cigar.specs.Elements.{Element, Side, Kind, kindOf, kind, genome, transcript, total, alongGenome, alongTranscript}
+use Rattle.cigar.specs.Elements.{Element, Side, Kind, letterEqual, letterM, letterX, kindOf, kind, genome, transcript, total, alongGenome, alongTranscript}
 use Rattle.cigar.specs.Elements.Kind.{matches, inserts, deletes, skips}
-use Rattle.segments.specs.Places.{segmentFrom, surely, End, spotIn, mapPlace}
+use Rattle.segments.specs.Places.{surely, End, spotIn, mapPlace}
 use Rattle.promises.specs.Bases.{isMatch}
-use Rattle.transcript.specs.Totals.{total-append}
-use Rattle.promises.proofs.Spots.{slid, amid-place}
+use Rattle.segments.specs.laws.Totals.{total-append}
+use Rattle.segments.specs.laws.Amid.{slid, place-amid, one-place}
 
 -- the place p on the one side and the place q on the other are one column of a matching element
 pub record Column (from to : Side) (es : List Element) (p q : ℕ) : Type 0 where
@@ -32,14 +33,14 @@ pub match-kind : (x : Element) → isMatch x ≡ true → kind x ≡ matches
 unfolding isMatch kindOf
 match-kind x =
     let c = x .letter in
-    by-test (eqb c 61)
-    (λ t. rw (eqb-true c 61 t) (λ h. refl))
+    by-test (eqb c letterEqual)
+    (λ t. rw (eqb-true c letterEqual t) (λ h. refl))
     (λ t.
-    by-test (eqb c 77)
-    (λ u. rw (eqb-true c 77 u) (λ h. refl))
+    by-test (eqb c letterM)
+    (λ u. rw (eqb-true c letterM u) (λ h. refl))
     (λ u.
-    by-test (eqb c 88)
-    (λ v. rw (eqb-true c 88 v) (λ h. refl))
+    by-test (eqb c letterX)
+    (λ v. rw (eqb-true c letterX v) (λ h. refl))
     (λ v. rw (t, u, v) (λ h. absurd (false≢true h)))))
 
 -- how far an element goes, by its kind
@@ -85,11 +86,11 @@ abbrev pub Counts : Side → Type 0
 Counts side = (x : Element) → kind x ≡ matches → side x ≡ x .count
 
 -- one element alone
-alone : (from to : Side) (x : Element) (k : ℕ) (e : End) (forward : Bool) → kind x ≡ matches → mapPlace from to (x ∷ []) (pos k) e forward ≡ surely (pos k) (pos 0)
-unfolding mapPlace segmentFrom spotIn
+alone : (from to : Side) (x : Element) (k : ℕ) (e : End) (forward : Bool) → kind x ≡ matches → mapPlace from to (x ∷ []) (pos k) e forward ≡ surely 0 (pos k) (pos 0)
+unfolding spotIn
 alone from to x k e forward m =
     let u : 0 + (k + 0) ≡ k = omega arith in
-    rw (m, u)
+    rw (one-place from to x (pos k) e forward, m, u)
 
 pub total-one : (side : Side) (x : Element) → total side (x ∷ []) ≡ side x
 unfolding total
@@ -97,12 +98,12 @@ total-one side x = omega arith
 
 module _ (from to : Side) (from-counts : Counts from) where
   pub column-maps : {es : List Element} {p q : ℕ} (c : Column from to es p q) (e : End) (forward : Bool)
-      → mapPlace from to es (pos p) e forward ≡ surely (pos q) (pos 0)
+      → mapPlace from to es (pos p) e forward ≡ surely (length (c .before) + 0) (pos q) (pos 0)
   column-maps c e forward =
       let x = c .element in
       rw (c .stands, c .on-from, c .on-to)
-      (amid-place from to (c .before) (x ∷ []) (c .after) (c .at) e forward (omega (arith, total-one from x, from-counts x (c .match), c .within))
-      ∙ ap (slid (total to (c .before))) (alone from to x (c .at) e forward (c .match)))
+      (place-amid from to (c .before) (x ∷ []) (c .after) (c .at) e forward (omega (arith, total-one from x, from-counts x (c .match), c .within))
+      ∙ ap (slid (length (c .before)) (total to (c .before))) (alone from to x (c .at) e forward (c .match)))
 
   pub column-within : {es : List Element} {p q : ℕ} → Column from to es p q → p < total from es
   unfolding total

@@ -5,18 +5,19 @@ use mathlib.Core.Bool.{Bool, true, false}
 use mathlib.Core.List.{List, [], _∷_, _++_, append-assoc}
 use mathlib.Core.Path.{_≡_, refl, sym, ap, _∙_}
 use lib.IntN.{ℤ, pos, negℤ, negℤ-negℤ, _+ℤ_, _-ℤ_}
+use lib.ListN.{length}
 use borrow.Author.Tests.{leb-true, leb-false}
 use Rattle.whole.specs.Whole.{if_then_else_, by-test, order, sum, dif, neg}
 use Rattle.cigar.specs.Elements.{Element, kindOf, kind, genome, transcript, total}
 use Rattle.cigar.specs.Elements.Kind.{matches, skips}
-use Rattle.segments.specs.Places.{segmentFrom, End, leftNearer, nearer, spotIn, mapPlace}
+use Rattle.segments.specs.Places.{End, leftNearer, nearer, spotIn, mapPlace}
 use Rattle.transcript.specs.Transcript.{Transcript, genomeLength, transcriptLength}
-use Rattle.mapper.specs.Mapping.{signed}
+use Rattle.places.specs.Mapping.{signed}
 use Rattle.promises.specs.Bases.{Lies, Matched, upstreamIn, upstreamOf, exonName, InIntron, placeBefore, placeAfter, apart, upstreamNearer, intronName}
 use Rattle.promises.specs.Demands.{ours, Named, FromNearest, BasesNamed}
 use Rattle.promises.proofs.Sound.{Sound}
-use Rattle.transcript.specs.Totals.{total-append}
-use Rattle.promises.proofs.Spots.{slid, amid-place}
+use Rattle.segments.specs.laws.Totals.{total-append}
+use Rattle.segments.specs.laws.Amid.{slid, place-amid, one-place}
 use Rattle.promises.proofs.Turns.{across}
 use Rattle.promises.proofs.Columns.{Column, match-kind, match-genome, match-transcript, skip-genome, skip-transcript, column-maps, column-within, across-column, total-one}
 use Rattle.promises.proofs.Edges.{edge-before, edge-after}
@@ -69,7 +70,9 @@ module _ {t : Transcript} {p : ℕ} (b : Matched t p) where
 
   reaches-column : Reaches t p other p (pos 0)
   reaches-column = record {
+    segment = _;
     there = λ e. column-maps genome transcript match-genome column e (t .forward);
+    exon-segment = _;
     here = λ e. column-maps transcript genome match-transcript (across-column column) e true;
     sums = omega (order, sum (pos p) (pos 0));
     p-in = omega (arith, column-within genome transcript match-genome column);
@@ -165,19 +168,19 @@ module _ {t : Transcript} {p : ℕ} (b : InIntron t p) where
       omega (arith, total-append transcript xs (x ∷ e .left), n .on-transcript, skip-transcript x skip-is)
 
   -- the base at k of the intron, as the finder and the rule have it
-  alone : (e : End) (forward : Bool) → mapPlace genome transcript (x ∷ []) (pos k) e forward ≡ nearer forward 0 (pos (k + 1)) (pos (x .count - k))
-  unfolding mapPlace segmentFrom spotIn
+  alone : (e : End) (forward : Bool) → mapPlace genome transcript (x ∷ []) (pos k) e forward ≡ nearer 0 forward 0 (pos (k + 1)) (pos (x .count - k))
+  unfolding spotIn
   alone e forward =
       let l : pos k -ℤ pos 0 +ℤ pos 1 ≡ pos (k + 1) = omega (order, dif (pos k) (pos 0), sum (pos k -ℤ pos 0) (pos 1)) in
-      let r : pos (0 + genome x) -ℤ pos k ≡ pos (x .count - k) = omega (order, dif (pos (0 + genome x)) (pos k), skip-genome x skip-is, k-in) in
-      rw (skip-is, l, r)
+      let r : pos (genome x) -ℤ pos k ≡ pos (x .count - k) = omega (order, dif (pos (genome x)) (pos k), skip-genome x skip-is, k-in) in
+      rw (one-place genome transcript x (pos k) e forward, skip-is, l, r)
 
-  skip-maps : (e : End) (forward : Bool) → mapPlace genome transcript (t .elements) (pos p) e forward ≡ slid (total transcript xs) (nearer forward 0 (pos (k + 1)) (pos (x .count - k)))
+  skip-maps : (e : End) (forward : Bool) → mapPlace genome transcript (t .elements) (pos p) e forward ≡ slid (length xs) (total transcript xs) (nearer 0 forward 0 (pos (k + 1)) (pos (x .count - k)))
   skip-maps e forward =
       ap (λ (l : List Element). mapPlace genome transcript l (pos p) e forward) (b .lies .stands)
       ∙ ap (λ (q : ℕ). mapPlace genome transcript (xs ++ x ∷ ys) (pos q) e forward) (b .lies .place)
-      ∙ (amid-place genome transcript xs (x ∷ []) ys k e forward (omega (arith, total-one genome x, b .lies .within))
-      ∙ ap (slid (total transcript xs)) (alone e forward))
+      ∙ (place-amid genome transcript xs (x ∷ []) ys k e forward (omega (arith, total-one genome x, b .lies .within))
+      ∙ ap (slid (length xs) (total transcript xs)) (alone e forward))
 
   -- it is an inner place
   inner : total genome xs + x .count < genomeLength t
@@ -188,7 +191,9 @@ module _ {t : Transcript} {p : ℕ} (b : InIntron t p) where
   from-left near =
       let one : pos (total transcript xs) +ℤ (pos 0 -ℤ pos 1) ≡ pos (other left) = omega (order, sum (pos (total transcript xs)) (pos 0 -ℤ pos 1), before-is .1) in
       record {
+        segment = length xs + 0;
         there = λ e. skip-maps e (t .forward) ∙ (rw (near, one));
+        exon-segment = _;
         here = λ e. column-maps transcript genome match-transcript (across-column (column left)) e true;
         sums = omega (order, before-is .0, b .lies .place);
         p-in = omega (arith, inner, k-in, b .lies .place);
@@ -201,7 +206,9 @@ module _ {t : Transcript} {p : ℕ} (b : InIntron t p) where
   from-right far =
       let none : total transcript xs + 0 ≡ other right = omega (arith, after-is) in
       record {
+        segment = length xs + 0;
         there = λ e. skip-maps e (t .forward) ∙ (rw (far, none));
+        exon-segment = _;
         here = λ e. column-maps transcript genome match-transcript (across-column (column right)) e true;
         sums = omega (order, sum (pos (placeAfter b)) (negℤ (pos (x .count - k))), neg (pos (x .count - k)), k-in, b .lies .place);
         p-in = omega (arith, inner, k-in, b .lies .place);

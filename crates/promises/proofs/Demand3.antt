@@ -1,35 +1,34 @@
 -- Demand 3: records added at either end, or both, with the CDS moved up by the bases added upstream, change no c. answer to a g. interval on bases of the shorter span and no g. answer to a c. interval, in strict mode, on either strand. Assumes nothing.
 use Prim.Native.Nat.{ℕ, _+_}
+use native.Mathlib.Omega.{arith}
 use mathlib.Core.Bool.{Bool, true, cond}
 use mathlib.Core.List.{List, _∷_, _++_}
 use mathlib.Core.Path.{_≡_, refl}
 use lib.IntN.{pos}
-use Rattle.refusals.specs.Numbers.{notCoding}
+use Rattle.refusals.specs.Outcome.{answered, refused, Answered}
 use Rattle.cigar.specs.Elements.{Element, genome, total}
 use Rattle.transcript.specs.Transcript.{Transcript, Cds, transcriptLength}
 use Rattle.transcript.specs.Transcript.Cds.{noCds, cds}
 use Rattle.transcript.specs.Building.{Exon, elementsOf, firstStart, build}
-use Rattle.mapper.specs.Answers.{Answer, Plain, andThen, Answered}
-use Rattle.mapper.specs.Answers.Answer.{certain, uncertain, refused}
-use Rattle.mapper.specs.Answers.Plain.{denied}
-use Rattle.mapper.specs.Mapping.{nToC, cOfInterval, cToN, gToN, gToC, cToG}
+use Rattle.judging.specs.laws.Accepted.{InOrder}
+use Rattle.positions.specs.Positions.{NPosition, asksN}
+use Rattle.positions.specs.Answers.{Answer, chain}
+use Rattle.coding.specs.Coding.{nToC, cOfInterval, cToN}
+use Rattle.places.specs.Mapping.{gToN}
+use Rattle.mapper.specs.Chains.{gToC, cToG}
 use Rattle.promises.specs.Demands.{ours, Keeps}
 use Rattle.promises.proofs.Sound.{Sound}
 use Rattle.promises.proofs.Lengthening.{short, long, g-to-c-kept, c-to-g-kept}
-use Rattle.promises.proofs.Records.{Spans, InOrder, exonBases, lead, trail, split, lead-bases, trail-bases, lead-span}
+use Rattle.promises.proofs.Records.{Spans, exonBases, lead, trail, split, lead-bases, trail-bases, lead-span}
 
 -- with no CDS there is no c. answer
-nothing : {A B : Type 0} (a : Answer A) (f : A → Plain B) → ((x : A) → f x ≡ denied notCoding) → Answered (andThen a f) → ⊥
-nothing (certain x) f h = rw (h x) (λ bad. bad)
-nothing (uncertain x) f h = rw (h x) (λ bad. bad)
-nothing (refused k) f h = λ bad. bad
-
 uncoded : (t u : Transcript) → t .coding ≡ noCds → Keeps ours t u
 unfolding gToC cToG cToN nToC cOfInterval
-uncoded t u e = record {
-  g-to-c = λ i h k ok. absurd (nothing (gToN true t i) (nToC true (transcriptLength t) (t .coding)) (λ x. rw e) ok);
-  c-to-g = λ i. rw e (λ bad. absurd bad);
-}
+uncoded t u e = record { g-to-c = λ i h k. nothing (gToN true t i); c-to-g = λ i. rw e (λ bad. absurd bad) }
+  where
+    nothing : {P : Type 0} (a : Answer NPosition) → Answered (chain asksN a (nToC true (transcriptLength t) (t .coding))) → P
+    nothing (answered x) = rw e (λ bad. absurd bad)
+    nothing (refused k) = λ bad. absurd bad
 
 -- over elements
 module _ (forward : Bool) (first : ℕ) (xs ys zs : List Element) (s e : ℕ) where
@@ -37,7 +36,7 @@ module _ (forward : Bool) (first : ℕ) (xs ys zs : List Element) (s e : ℕ) wh
   keeps sound = record {
     g-to-c = λ i (p, a, p-in) (q, b, q-in).
         let same : i ≡ record { from = pos (p + (first + total genome xs) + 1); to = pos (q + (first + total genome xs) + 1) } = λ j. record { from = a j; to = b j } in
-        rw same (g-to-c-kept forward first xs ys zs s e p q p-in q-in (sound .transcript-small));
+        rw same (g-to-c-kept forward first xs ys zs s e (sound .transcript-small) p q (omega arith) (omega arith));
     c-to-g = c-to-g-kept forward first xs ys zs s e (sound .transcript-small);
   }
 

@@ -1,7 +1,7 @@
 -- The matched element next to an intron: between the two there are elements of count 0 only. Assumes nothing.
 use Prim.Native.Nat.{_<_}
 use native.Mathlib.Omega.{arith}
-use mathlib.Core.Bool.{true, false, false≢true}
+use mathlib.Core.Bool.{true, false≢true}
 use mathlib.Core.List.{List, [], _∷_, _++_, reverse, reverse-cons, reverse-append, reverse-reverse, append-assoc}
 use mathlib.Core.Path.{_≡_, refl, sym, ap, _∙_}
 use lib.Dec.{eqb}
@@ -9,7 +9,7 @@ use borrow.Author.Tests.{eqb-true, eqb-false}
 use Rattle.whole.specs.Whole.{by-test}
 use Rattle.cigar.specs.Elements.{Element, genome, transcript, total}
 use Rattle.promises.specs.Bases.{isMatch, nextMatches}
-use Rattle.transcript.specs.Totals.{total-reverse}
+use Rattle.segments.specs.laws.Totals.{total-reverse}
 use Rattle.promises.proofs.Columns.{none-genome, none-transcript}
 
 -- a matched element of a list, with what stands on its two sides

@@ -3,32 +3,22 @@ use Prim.Native.Nat.{ℕ, _+_, _≤_, _<_}
 use native.Mathlib.Omega.{arith}
 use mathlib.Core.Bool.{Bool, true, false}
 use mathlib.Core.Path.{_≡_}
-use lib.IntN.{ℤ, pos, negsuc, _+ℤ_, _-ℤ_}
+use lib.IntN.{ℤ, pos, _+ℤ_, _-ℤ_}
 use lib.Signed.{leZ, ltZ}
 use Rattle.refusals.specs.Numbers.{mostBases}
 use Rattle.whole.specs.Whole.{by-test, order, sum, dif, neg, up, dn}
+use Rattle.whole.specs.Fits.{fits}
 use Rattle.numbering.specs.Numbers.{nOfPlace, cOfN}
-use Rattle.segments.specs.Meaning.{both}
-use Rattle.mapper.specs.Answers.{fits}
-use Rattle.mapper.specs.Mapping.{signed}
+use Rattle.positions.specs.laws.Fits.{fits-by, fits-says}
+use Rattle.places.specs.Mapping.{signed}
 
 -- z is at most m in size
 pub record Within (m : ℕ) (z : ℤ) : Type 0 where
   pub high : up z ≤ m + dn z
   pub low : dn z ≤ m + up z
 
-pub fits-by : (z : ℤ) → Within (mostBases + 1) z → fits z ≡ true
-unfolding fits
-fits-by z h =
-    let a : leZ (negsuc 2147483647) z ≡ true = omega order in
-    let b : leZ z (pos 2147483647) ≡ true = omega order in
-    rw (a, b)
-
-pub fits-says : (z : ℤ) → fits z ≡ true → (up z ≤ 2147483647 + dn z) × (dn z ≤ 2147483648 + up z)
-unfolding fits
-fits-says z h =
-    let (a, b) = both (leZ (negsuc 2147483647) z) (leZ z (pos 2147483647)) h in
-    (omega order, omega order)
+pub within-fits : (m : ℕ) (z : ℤ) → m ≤ mostBases + 1 → Within m z → fits z ≡ true
+within-fits m z small h = fits-by z (omega (arith, h .high)) (omega (arith, h .low))
 
 pub signed-within : (forward : Bool) (m : ℕ) (o : ℤ) → Within m o → Within m (signed forward o)
 signed-within true m o h = h
@@ -48,24 +38,12 @@ c-within s e b m ordered e-in some b-in =
 
 -- an n. number still fits when its place goes up within the transcript
 pub n-fits-up : (n len long : ℕ) (z : ℤ) → n + len ≤ long → long ≤ mostBases → leZ z (pos len) ≡ true → fits (nOfPlace z) ≡ true → fits (nOfPlace (pos n +ℤ z)) ≡ true
-unfolding nOfPlace fits
+unfolding nOfPlace
 n-fits-up n len long z in-long small high h =
     let w = pos n +ℤ z in
-    let low : dn z ≤ 2147483648 + up z = n-low z h in
     by-test (leZ (pos 0) w)
+    (λ t. rw t (fits-by (w +ℤ pos 1) (omega (order, sum (pos n) z, sum w (pos 1))) (omega (order, sum w (pos 1)))))
     (λ t.
-    let a : leZ (negsuc 2147483647) (w +ℤ pos 1) ≡ true = omega (order, sum w (pos 1)) in
-    let b : leZ (w +ℤ pos 1) (pos 2147483647) ≡ true = omega (order, sum (pos n) z, sum w (pos 1)) in
-    rw (t, a, b))
-    (λ t.
-    let a : leZ (negsuc 2147483647) w ≡ true = omega (order, sum (pos n) z) in
-    let b : leZ w (pos 2147483647) ≡ true = omega order in
-    rw (t, a, b))
-  where
-    n-low : (z : ℤ) → fits (nOfPlace z) ≡ true → dn z ≤ 2147483648 + up z
-    n-low z h =
-        by-test (leZ (pos 0) z)
-        (λ t. omega order)
-        (λ t.
-        let k : fits z ≡ true = rw t at h in
-        fits-says z k .1)
+    let below : leZ (pos 0) z ≡ false = omega (order, sum (pos n) z) in
+    let (_, low) = fits-says z (rw below at h) in
+    rw t (fits-by w (omega order) (omega (order, sum (pos n) z))))

@@ -1,5 +1,4 @@
 -- The promises' proofs, from the bottom up. The promises are `demand-2` and `demand-3` of Promises and `table-of-places` of Table; specs/ says what they state.
---     Finding, Spots                a place in the middle part ys of xs ++ (ys ++ zs) is found in ys, and its spot is ys's own, slid along (`amid-place`): over any two sides
 --     Turns, Fits, Bounds, Sound    the turn of strand -1; 17; a spot lies in -1 to the length; what the proofs ask of a transcript
 --     Columns, Edges                matched columns, and the one next to an intron
 --     Naming, Demand2               demand 2 of a sound transcript
@@ -10,8 +9,6 @@
 --     Reach                         what the code answers of a lent transcript is what the promises speak of
 --     Covers                        each place lies in an element
 --     Examples, Against             transcripts that meet every premise, and mappers that the promises shut out
-pub mod Finding
-pub mod Spots
 pub mod Turns
 pub mod Fits
 pub mod Bounds

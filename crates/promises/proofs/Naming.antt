@@ -2,27 +2,30 @@
 use Prim.Native.Nat.{ℕ, _+_, _-_, _≤_, _<_}
 use native.Mathlib.Omega.{arith}
 use mathlib.Core.Bool.{Bool, true, false}
-use mathlib.Core.Path.{_≡_}
+use mathlib.Core.Path.{_≡_, ap}
 use lib.IntN.{ℤ, pos, negℤ, _+ℤ_, _-ℤ_}
 use lib.Signed.{ltZ, _≤ℤ_}
 use lib.Dec.{leb, ltb}
 use borrow.Author.Tests.{lt-leb, le-leb, le-ltb, ltb-true, ltb-false}
-use Rattle.whole.specs.Whole.{by-test, order, sum, dif, neg}
-use Rattle.numbering.specs.Numbers.{nOfPlace, placeOfN, cOfN}
-use Rattle.numbering.specs.RoundTrips.{place-back, above-back}
+use Rattle.whole.specs.Whole.{by-test, order, sum, dif, neg, up, dn}
+use Rattle.whole.specs.Fits.{fits}
+use Rattle.numbering.specs.Numbers.{nOfPlace, placeOfN, plainC, starC, cOfN}
+use Rattle.numbering.specs.laws.RoundTrips.{place-back, above-back}
 use Rattle.cigar.specs.Elements.{genome, transcript}
 use Rattle.segments.specs.Places.{surely, End, mapPlace}
 use Rattle.segments.specs.Places.End.{start, stop}
 use Rattle.transcript.specs.Transcript.{Transcript, genomeLength, transcriptLength}
 use Rattle.transcript.specs.Transcript.Cds.{cds}
-use Rattle.mapper.specs.Answers.{fits}
-use Rattle.mapper.specs.Answers.Answer.{certain}
-use Rattle.mapper.specs.Answers.Plain.{told}
-use Rattle.mapper.specs.Mapping.{turned, signed, nOfSpot, gOfSpot, wholeN, gToN, gOfEnds, nToG, refuses15, cPosition, cOfInterval, nToC, refuses16, nPosition, cToN, gToC, cToG}
+use Rattle.positions.specs.Positions.{each, asksN, asksC}
+use Rattle.positions.specs.Answers.{certainly, plainly}
+use Rattle.positions.specs.laws.Fits.{fits-by}
+use Rattle.coding.specs.Coding.{beyond, cPosition, cOfInterval, nToC, nPosition, cToN}
+use Rattle.places.specs.Mapping.{turned, signed, nOfSpot, gOfSpot, wholeN, gToN, gOfEnds, nToG}
+use Rattle.mapper.specs.Chains.{gToC, cToG}
 use Rattle.promises.specs.Bases.{Name, nName, cNumber}
-use Rattle.promises.specs.Demands.{ours, gAt, nAt, cAt, Named}
+use Rattle.promises.specs.Demands.{ours, gNumber, gAsked, gAt, nAt, cAt, Named}
 use Rattle.promises.proofs.Sound.{Sound}
-use Rattle.promises.proofs.Fits.{Within, fits-by, signed-within, c-within}
+use Rattle.promises.proofs.Fits.{Within, within-fits, signed-within, c-within}
 use Rattle.promises.proofs.Turns.{turn-turn, sign-sign, across, turned-within, across-within, inside-within, n-of-place, place-of-base, same-either}
 
 -- the n. number of a place below the length, and back
@@ -32,6 +35,10 @@ number-of forward len q h = rw (turned-within forward len q h, n-of-place (acros
 place-of : (forward : Bool) (len q : ℕ) → q < len → turned forward len (placeOfN (pos (across forward len q + 1))) ≡ pos q
 place-of forward len q h = rw (← number-of forward len q h, place-back (turned forward len (pos q)), turn-turn forward len (pos q))
 
+-- a number that is n below 0
+below-zero : (z : ℤ) (n : ℕ) → up z + n ≡ dn z → z ≡ negℤ (pos n)
+below-zero z n h = omega (order, neg (pos n))
+
 -- the c. number of the n. number that is one more than m, counted
 c-counted : (s e m : ℕ) → s ≤ e → cOfN (pos s) (pos e) (pos (m + 1)) ≡ cNumber s e m
 unfolding cOfN cNumber
@@ -40,23 +47,22 @@ c-counted s e m ordered =
     by-test (ltb m s)
     (λ t.
     let low : leb (m + 1) s ≡ true = le-leb (m + 1) s (omega (arith, ltb-true)) in
-    let v : pos (m + 1) -ℤ pos s -ℤ pos 1 ≡ negℤ (pos (s - m)) = omega (order, dif (pos (m + 1)) (pos s), dif (pos (m + 1) -ℤ pos s) (pos 1), neg (pos (s - m)), ltb-true) in
-    rw (t, low, above, v))
+    rw (t, low, above) (ap plainC (omega (arith, below-zero, dif (pos (m + 1)) (pos s), dif (pos (m + 1) -ℤ pos s) (pos 1), ltb-true))))
     (λ t.
     let low : leb (m + 1) s ≡ false = lt-leb (m + 1) s (omega (arith, ltb-false)) in
     by-test (ltb m e)
     (λ u.
     let high : leb (m + 1) e ≡ true = le-leb (m + 1) e (omega (arith, ltb-true)) in
-    let v : pos (m + 1) -ℤ pos s ≡ pos (m - s + 1) = omega (order, dif (pos (m + 1)) (pos s), ltb-false m s t) in
-    rw (t, low, u, high, v))
+    rw (t, low, u, high) (ap plainC (omega (order, dif (pos (m + 1)) (pos s), ltb-false m s t))))
     (λ u.
     let high : leb (m + 1) e ≡ false = lt-leb (m + 1) e (omega (arith, ltb-false)) in
-    let v : pos (m + 1) -ℤ pos e ≡ pos (m - e + 1) = omega (order, dif (pos (m + 1)) (pos e), ltb-false m e u) in
-    rw (t, low, u, high, v)))
+    rw (t, low, u, high) (ap starC (omega (order, dif (pos (m + 1)) (pos e), ltb-false m e u)))))
 
 pub record Reaches (t : Transcript) (p q a : ℕ) (o : ℤ) : Type 0 where
-  pub there : (e : End) → mapPlace genome transcript (t .elements) (pos p) e (t .forward) ≡ surely (pos q) o
-  pub here : (e : End) → mapPlace transcript genome (t .elements) (pos q) e true ≡ surely (pos a) (pos 0)
+  pub segment : ℕ
+  pub there : (e : End) → mapPlace genome transcript (t .elements) (pos p) e (t .forward) ≡ surely segment (pos q) o
+  pub exon-segment : ℕ
+  pub here : (e : End) → mapPlace transcript genome (t .elements) (pos q) e true ≡ surely exon-segment (pos a) (pos 0)
   pub sums : pos a +ℤ o ≡ pos p
   pub p-in : p ≤ genomeLength t
   pub q-in : q < transcriptLength t
@@ -74,60 +80,56 @@ module _ (t : Transcript) (sound : Sound t) (p q a : ℕ) (o : ℤ) (r : Reaches
   m-in = across-within (t .forward) (transcriptLength t) q (r .q-in)
 
   number-fits : fits (pos (m + 1)) ≡ true
-  number-fits = fits-by (pos (m + 1)) (record { high = omega (arith, m-in, sound .transcript-small); low = omega arith })
+  number-fits = fits-by (pos (m + 1)) (omega (arith, m-in, sound .transcript-small)) (omega arith)
 
   offset-fits : fits (x .offset) ≡ true
-  offset-fits =
-      let h = signed-within (t .forward) (genomeLength t) o (r .o-in) in
-      fits-by (signed (t .forward) o) (record { high = omega (arith, h .high, sound .genome-small); low = omega (arith, h .low, sound .genome-small) })
+  offset-fits = within-fits (genomeLength t) (x .offset) (omega (arith, sound .genome-small)) (signed-within (t .forward) (genomeLength t) o (r .o-in))
 
-  base-fits : fits (pos (p + t .first + 1)) ≡ true
-  base-fits = fits-by (pos (p + t .first + 1)) (record { high = omega (arith, r .p-in, sound .genome-small); low = omega arith })
+  base-fits : fits (gNumber t p) ≡ true
+  base-fits = fits-by (gNumber t p) (omega (arith, r .p-in, sound .genome-small)) (omega arith)
 
-  whole-n : wholeN true t (gAt t p) ≡ certain (nAt x)
-  unfolding wholeN nOfSpot
-  whole-n = rw (place-of-base t p, inside-within (genomeLength t) p (r .p-in), r .there start, r .there stop, same-either (t .forward) (surely (pos q) o), number-of (t .forward) (transcriptLength t) q (r .q-in))
+  to-n : gToN true t (gAsked t p) ≡ certainly (nAt x)
+  unfolding gToN wholeN nOfSpot
+  to-n = rw (place-of-base (t .first) p, inside-within (genomeLength t) p (r .p-in), r .there start, r .there stop, same-either (t .forward) (surely (r .segment) (pos q) o), number-of (t .forward) (transcriptLength t) q (r .q-in), number-fits, offset-fits)
 
-  to-n : gToN true t (gAt t p) ≡ certain (nAt x)
-  unfolding gToN
-  to-n = rw (whole-n, number-fits, offset-fits)
-
-  n-back : nToG true t (nAt x) ≡ certain (gAt t p)
+  n-back : nToG true t (each asksN (nAt x)) ≡ certainly (gAt t p)
   unfolding nToG gOfEnds gOfSpot
   n-back =
-      let e : pos (a + t .first + 1) +ℤ o ≡ pos (p + t .first + 1) = omega (order, sum (pos (a + t .first + 1)) o, sum (pos a) o, r .sums) in
-      rw (same-either (t .forward) (nName x), place-of (t .forward) (transcriptLength t) q (r .q-in), inside-within (transcriptLength t) q (omega (arith, r .q-in)), r .here start, r .here stop, sign-sign (t .forward) o, e, base-fits)
+      let e : pos (a + t .first + 1) +ℤ o ≡ gNumber t p = omega (order, sum (pos (a + t .first + 1)) o, sum (pos a) o, r .sums) in
+      rw (same-either (t .forward) (asksN (nName x)), place-of (t .forward) (transcriptLength t) q (r .q-in), inside-within (transcriptLength t) q (omega (arith, r .q-in)), r .here start, r .here stop, sign-sign (t .forward) o, e, base-fits)
 
   module _ (s e : ℕ) (coding : t .coding ≡ cds s e) where
+    inside : (s ≤ e) × (e ≤ transcriptLength t)
+    inside = rw coding at (sound .cds-inside)
+
     counted : cOfN (pos s) (pos e) (pos (m + 1)) ≡ cNumber s e m
-    counted = c-counted s e m (sound .cds-inside s e coding .0)
+    counted = c-counted s e m (inside .0)
 
     c-fits : fits ((cNumber s e m) .0) ≡ true
-    c-fits =
-        let (ordered, e-in) = sound .cds-inside s e coding in
-        let h = rw counted at (c-within s e (m + 1) (transcriptLength t) ordered e-in (omega arith) (omega (arith, m-in))) in
-        fits-by _ (record { high = omega (arith, h .high, sound .transcript-small); low = omega (arith, h .low, sound .transcript-small) })
+    c-fits = rw (← counted) (within-fits (transcriptLength t + 1) _ (omega (arith, sound .transcript-small)) (c-within s e (m + 1) (transcriptLength t) (inside .0) (inside .1) (omega arith) (omega (arith, m-in))))
 
-    to-c : gToC true t (gAt t p) ≡ certain (cAt s e x)
-    unfolding gToC nToC cOfInterval refuses15 cPosition
-    to-c =
-        let low : leb (m + 1) 0 ≡ false = lt-leb (m + 1) 0 (omega arith) in
-        let high : ltb (transcriptLength t) (m + 1) ≡ false = le-ltb (transcriptLength t) (m + 1) (omega (arith, m-in)) in
-        rw (to-n, coding, low, high, counted, c-fits, offset-fits)
+    -- neither 15 nor 16 refuses the number
+    low : leb (m + 1) 0 ≡ false
+    low = lt-leb (m + 1) 0 (omega arith)
 
-    c-to-n : cToN true (transcriptLength t) (t .coding) (cAt s e x) ≡ told (nAt x)
-    unfolding cToN nPosition refuses16
+    high : ltb (transcriptLength t) (m + 1) ≡ false
+    high = le-ltb (transcriptLength t) (m + 1) (omega (arith, m-in))
+
+    to-c : gToC true t (gAsked t p) ≡ certainly (cAt s e x)
+    unfolding gToC nToC cOfInterval beyond cPosition
+    to-c = rw (to-n, coding, low, high, counted, c-fits, offset-fits)
+
+    c-to-n : cToN true (transcriptLength t) (t .coding) (each asksC (cAt s e x)) ≡ plainly (nAt x)
+    unfolding cToN nPosition beyond
     c-to-n =
-        let low : leb (m + 1) 0 ≡ false = lt-leb (m + 1) 0 (omega arith) in
-        let high : ltb (transcriptLength t) (m + 1) ≡ false = le-ltb (transcriptLength t) (m + 1) (omega (arith, m-in)) in
         let at-0 : pos 0 ≤ℤ pos s = omega order in
-        let up : pos s ≤ℤ pos e = omega (order, sound .cds-inside s e coding .0) in
+        let up : pos s ≤ℤ pos e = omega (order, inside .0) in
         let above : pos 1 ≤ℤ pos (m + 1) = omega order in
         rw (coding, ← counted, above-back (pos s) (pos e) (pos (m + 1)) at-0 up above, low, high, number-fits, offset-fits)
 
-    c-back : cToG true t (cAt s e x) ≡ certain (gAt t p)
+    c-back : cToG true t (each asksC (cAt s e x)) ≡ certainly (gAt t p)
     unfolding cToG
-    c-back = rw c-to-n n-back
+    c-back = rw (c-to-n, n-back)
 
   pub has-name : Named ours t p x
   has-name = record { g-to-n = to-n; n-to-g = n-back; g-to-c = to-c; c-to-g = c-back }

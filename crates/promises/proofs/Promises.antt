@@ -1,43 +1,54 @@
 -- The promises kept: demand 2 and demand 3 hold of the definitions, from whatever input a transcript builds. Assumes nothing.
-use Prim.Native.Nat.{ℕ, _+_}
+use Prim.Native.Nat.{ℕ, _+_, _<_}
 use native.Mathlib.Omega.{arith}
-use mathlib.Core.Bool.{Bool, true, false, cond, true≢false}
+use mathlib.Core.Bool.{Bool, true, false, cond}
 use mathlib.Core.List.{List, [], _∷_, _++_, map, map-map, map-append}
 use mathlib.Core.Path.{_≡_, refl, sym, ap, _∙_, subst}
-use lib.Dec.{eqb, ltb}
+use lib.Dec.{ltb}
 use lib.IntN.{ℤ, pos, negsuc, natAbs, _+ℤ_}
 use lib.ListN.{length}
+use Rattle.refusals.specs.Outcome.{answered, through}
+use Rattle.refusals.specs.laws.Outcomes.{clash}
 use Rattle.whole.specs.Whole.{eqZ, by-test, order}
 use Rattle.cigar.specs.Text.{elementsIn}
 use Rattle.cigar.specs.Read.{readText}
 use Rattle.records.specs.Records.{Record, exactly}
-use Rattle.transcript.specs.Transcript.{Transcript, Cds}
+use Rattle.transcript.specs.Transcript.{Transcript, Cds, transcriptLength}
 use Rattle.transcript.specs.Building.{Exon, build}
-use Rattle.transcript.specs.Judging.{Made, bothBits, cdsOf, judge}
-use Rattle.transcript.specs.Judging.Judged.{accepted}
+use Rattle.judging.specs.Input.{Input, inputOf}
+use Rattle.judging.specs.Judging.{Made, cdsOf, judge}
+use Rattle.judging.specs.laws.Accepted.{InOrder, CdsPass}
+use Rattle.transcript.specs.Heads.{bothBits}
+use Rattle.transcript.specs.declared.Numbers.{Numbers}
 use Rattle.transcript.specs.declared.Bound.{Bound}
 use Rattle.transcript.specs.declared.Bound.the-variants.{Given, Absent}
-use Rattle.promises.specs.Demands.{ours, Input, madeOf, inputOf, Builds, AllSpan, basesOf, addedUpstream, movedUp, Kept, kept, Lengthens, Keeps, Demand-2, Demand-3}
-use Rattle.promises.proofs.Sound.{Sound}
-use Rattle.promises.proofs.Records.{Spans, InOrder, exonBases}
-use Rattle.promises.proofs.Built.{clash, exonIn, WholeBounds, From, built-from, in-order, all-span}
+use Rattle.promises.specs.Demands.{Mapper, ours, madeOf, Builds, AllSpan, basesOf, addedUpstream, movedUp, Kept, kept, Lengthens, Keeps, Demand-2, Demand-2-built, Demand-3}
+use Rattle.promises.proofs.Sound.{Sound, held-sound}
+use Rattle.promises.proofs.Records.{Spans, exonBases}
+use Rattle.promises.proofs.Built.{exonIn, From, built-from}
 use Rattle.promises.proofs.Demand2.{bases-named}
 use Rattle.promises.proofs.Demand3.{cdsUp, lengthened, lengthened-keeps}
 
--- what a host hands over and is not refused builds from the records that it lays out
-pub host-builds : (strand : ℤ) (bits : ℕ) (start end : ℤ) (n : ℕ) (s : List ℕ) (made : Made) → judge strand bits start end n s ≡ accepted made
-    → Builds (inputOf strand bits start end n s) (build (made .forward) (made .exon-list) (made .coding))
+-- what is handed over and not refused builds from the records that it lays out
+pub host-builds : (n : Numbers) (bytes : List ℕ) (made : Made) → judge n bytes ≡ answered made → Builds (inputOf n bytes) (madeOf made)
 unfolding judge
-host-builds strand bits start end n s made =
-    by-test (ltb bothBits bits)
+host-builds n bytes made =
+    by-test (ltb bothBits (n .cds))
     (λ t. rw t (λ h. absurd (clash h)))
     (λ t.
-    by-test (exactly n s 0)
-    (λ u. rw (t, u) (λ h. ap madeOf h))
+    by-test (exactly (n .count) bytes 0)
+    (λ u. rw (t, u) (λ h. ap (through madeOf) h))
     (λ u. rw (t, u) (λ h. absurd (clash h))))
 
 pub demand-2 : Demand-2 ours
-demand-2 x t builds = bases-named t (built-from x t builds .sound)
+demand-2 x t held stands = bases-named t (held-sound x t held stands)
+
+-- what builds can be lent, and holds together
+pub built-too : (m : Mapper) → Demand-2 m → Demand-2-built m
+built-too m d x t builds = let f = built-from x t builds in d (f .lent) t (f .held) (f .stands)
+
+pub demand-2-built : Demand-2-built ours
+demand-2-built = built-too ours demand-2
 
 -- ---- a lengthened input makes a lengthened transcript
 
@@ -54,25 +65,24 @@ unfolding basesOf exonBases
 bases-are [] = refl
 bases-are (r ∷ rs) = omega (arith, bases-are rs)
 
-abs-up : (a : ℤ) (n : ℕ) → pos (natAbs a) ≡ a → natAbs (a +ℤ pos n) ≡ natAbs a + n
+abs-up : (a : ℤ) (n : ℕ) → a ≡ pos (natAbs a) → natAbs (a +ℤ pos n) ≡ natAbs a + n
 abs-up (pos m) n h = refl
 abs-up (negsuc m) n h = absurd (omega order)
 
-cds-moved : (start end : Bound) (n : ℕ) → WholeBounds start end → cdsOf (movedUp n start) (movedUp n end) ≡ cdsUp n (cdsOf start end)
-cds-moved (Given a) (Given b) n (a-whole, b-whole) = rw (abs-up a n a-whole, abs-up b n b-whole)
-cds-moved (Given a) Absent n h = refl
-cds-moved Absent (Given b) n h = refl
-cds-moved Absent Absent n h = refl
+cds-moved : (start end : Bound) (n len : ℕ) → CdsPass start end len → cdsOf (movedUp n start) (movedUp n end) ≡ cdsUp n (cdsOf start end)
+cds-moved (Given a) (Given b) n len h = rw (abs-up a n (h .start-is), abs-up b n (h .end-is))
+cds-moved (Given a) Absent n len h = refl
+cds-moved Absent end n len h = refl
 
 added-is : (forward : Bool) (left right : List Record) → addedUpstream forward left right ≡ cond forward (exonBases (map exonIn left)) (exonBases (map exonIn right))
-added-is true left right = bases-are left
-added-is false left right = bases-are right
+added-is true left right = omega (arith, bases-are left)
+added-is false left right = omega (arith, bases-are right)
 
 -- over records, of which there is one at least
-some-keep : (forward : Bool) (left : List Exon) (rs : List Record) (right : List Exon) (c : Cds) → eqb (length rs) 0 ≡ false
+some-keep : (forward : Bool) (left : List Exon) (rs : List Record) (right : List Exon) (c : Cds) → 0 < length rs
     → Spans (left ++ (map exonIn rs ++ right)) → InOrder 0 (left ++ (map exonIn rs ++ right)) → Sound (lengthened forward left (map exonIn rs) right c)
     → Keeps ours (build forward (map exonIn rs) c) (lengthened forward left (map exonIn rs) right c)
-some-keep forward left [] right c some spans order sound = absurd (true≢false some)
+some-keep forward left [] right c some spans order sound = absurd (omega arith)
 some-keep forward left (r ∷ rs) right c some spans order sound = lengthened-keeps forward left (exonIn r) (map exonIn rs) right spans order c sound
 
 module _ (x y : Input) (t u : Transcript) (from-x : From x t) (from-y : From y u) (l : Lengthens x y) where
@@ -97,7 +107,7 @@ module _ (x y : Input) (t u : Transcript) (from-x : From x t) (from-y : From y u
   coding-is : cdsOf (y .start) (y .end) ≡ cdsUp (cond forward (exonBases left) (exonBases right)) (cdsOf (x .start) (x .end))
   coding-is =
       rw (l .start-moved, l .end-moved)
-      (cds-moved (x .start) (x .end) (l .added) (from-x .bounds)
+      (cds-moved (x .start) (x .end) (l .added) (transcriptLength t) (from-x .bounds)
       ∙ ap (λ (n : ℕ). cdsUp n (cdsOf (x .start) (x .end))) (l .upstream ∙ added-is forward (l .left) (l .right)))
 
   longer-is : u ≡ lengthened forward left own right (cdsOf (x .start) (x .end))
@@ -107,9 +117,9 @@ module _ (x y : Input) (t u : Transcript) (from-x : From x t) (from-y : From y u
   kept-all spans =
       rw (from-x .is, longer-is)
       (some-keep forward left (x .records) right (cdsOf (x .start) (x .end)) (from-x .some)
-      (subst Spans exons-are (all-span 0 (y .records) (from-y .by-one) spans))
-      (subst (InOrder 0) exons-are (in-order 0 (y .records) (from-y .by-one)))
-      (subst Sound longer-is (from-y .sound)))
+      (subst Spans exons-are (from-y .spans spans))
+      (subst (InOrder 0) exons-are (from-y .in-order))
+      (subst Sound longer-is (held-sound (from-y .lent) u (from-y .held) (from-y .stands))))
 
 pub demand-3 : Demand-3 ours
 demand-3 x y t u builds-x builds-y l spans = kept-all x y t u (built-from x t builds-x) (built-from y u builds-y) l spans

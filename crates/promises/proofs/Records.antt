@@ -1,12 +1,13 @@
 -- The elements of lengthened records: what is added before, the records' own, what is added after. Assumes nothing.
-use Prim.Native.Nat.{ℕ, _+_, _-_, _≤_}
+use Prim.Native.Nat.{ℕ, _+_, _-_}
 use native.Mathlib.Omega.{arith}
 use mathlib.Core.Bool.{Bool, true, false}
 use mathlib.Core.List.{List, [], _∷_, _++_, append-assoc}
 use mathlib.Core.Path.{_≡_, refl}
 use Rattle.cigar.specs.Elements.{Element, Side, kindOf, genome, transcript, total}
 use Rattle.transcript.specs.Building.{Exon, gap, partsOf, elementsAfter, elementsOf, firstStart}
-use Rattle.transcript.specs.Totals.{total-append, total-reverse}
+use Rattle.segments.specs.laws.Totals.{total-append, total-reverse}
+use Rattle.judging.specs.laws.Accepted.{InOrder}
 
 -- ---- records whose CIGARs were read
 
@@ -14,11 +15,6 @@ use Rattle.transcript.specs.Totals.{total-append, total-reverse}
 abbrev pub Spans : List Exon → Type 0
 Spans [] = Unit {0}
 Spans (r ∷ rs) = (r .alt-start + total genome (r .parts) ≡ r .alt-end) × Spans rs
-
--- none starts below the end of the one before it, and the first not below e
-abbrev pub InOrder : ℕ → List Exon → Type 0
-InOrder e [] = Unit {0}
-InOrder e (r ∷ rs) = (e ≤ r .alt-start) × InOrder (r .alt-end) rs
 
 -- their transcript bases
 unfoldable pub exonBases : List Exon → ℕ

@@ -7,13 +7,13 @@ use mathlib.Core.Path.{_≡_, refl, ap}
 use lib.Dec.{ltb, eqb}
 use borrow.Author.Tests.{eqb-false, ne-eqb}
 use Rattle.refusals.specs.Numbers.{mostCount}
+use Rattle.refusals.specs.Outcome.{answered, refused, Answered}
 use Rattle.whole.specs.Whole.{by-test}
 use Rattle.cigar.specs.Elements.{Element, isLetter}
-use Rattle.cigar.specs.Text.{Reading, Answered, isDigit, countOf, element, before, taken, readFrom}
-use Rattle.cigar.specs.Text.Reading.{elements, refused}
+use Rattle.cigar.specs.Text.{Reading, isDigit, countOf, element, before, taken, readFrom}
 
 rest-read : (e : Element) (r : Reading) → Answered (before e r) → Answered r
-rest-read e (elements es) ok = ok
+rest-read e (answered es) ok = ok
 rest-read e (refused k) ok = ok
 
 module _ (room more : ℕ) (enough : room ≤ more) where

@@ -7,7 +7,7 @@ use lib.Signed.{leZ, ltZ}
 use Rattle.whole.specs.Whole.{if_then_else_, by-test, order, sum, dif}
 use Rattle.numbering.specs.Numbers.{nOfPlace, plainC, starC, cOfN, nOfC, skipZero}
 use Rattle.numbering.specs.declared.CNumber.{CNumber}
-use Rattle.mapper.specs.Mapping.{turned}
+use Rattle.places.specs.Mapping.{turned}
 
 -- ---- the c. number of a place: it goes by the distances to the CDS's bounds alone
 

@@ -1,11 +1,44 @@
--- What the proofs ask of a transcript: none of 9 and 12 applies. Assumes nothing.
+-- What the proofs ask of a transcript, that none of 9 and 12 applies; and a transcript that is lent and holds together is so. Assumes nothing.
 use Prim.Native.Nat.{ℕ, _+_, _≤_}
-use mathlib.Core.Path.{_≡_}
+use native.Mathlib.Omega.{arith}
+use mathlib.Core.Bool.{true}
+use mathlib.Core.Path.{_≡_, sym, _∙_, subst}
 use Rattle.refusals.specs.Numbers.{mostBases}
-use Rattle.transcript.specs.Transcript.{Transcript, genomeLength, transcriptLength}
-use Rattle.transcript.specs.Transcript.Cds.{cds}
+use Rattle.whole.specs.Whole.{by-test}
+use Rattle.transcript.specs.Transcript.{Transcript, Cds, genomeLength, transcriptLength}
+use Rattle.transcript.specs.Transcript.Source.{aligned, lengthOnly}
+use Rattle.transcript.specs.declared.Head.{Head}
+use Rattle.judging.specs.laws.Accepted.{CdsInside}
+use Rattle.holding.specs.Holding.{Lent, ofRecords, bothGiven, holds, headCds, transcriptOf, sourceOf}
+use Rattle.holding.specs.laws.Held.{CdsRight, cds-bounds, together, source-of-records, source-of-length, genome-length, transcript-length}
 
 pub record Sound (t : Transcript) : Type 0 where
   pub transcript-small : transcriptLength t ≤ mostBases
   pub genome-small : t .first + genomeLength t ≤ mostBases
-  pub cds-inside : (s e : ℕ) → t .coding ≡ cds s e → (s ≤ e) × (e ≤ transcriptLength t)
+  pub cds-inside : CdsInside (t .coding) (transcriptLength t)
+
+-- the CDS of a head
+head-inside : (h : Head) (len : ℕ) → CdsRight h len → len ≤ mostBases → CdsInside (headCds h) len
+head-inside h len right small =
+    by-test (bothGiven h)
+    (λ given. let b = cds-bounds h len right given small in rw given (b .ordered, b .within))
+    (λ given. rw given tt)
+
+pub held-sound : (x : Lent) (t : Transcript) → holds x ≡ true → sourceOf x ≡ aligned t → Sound t
+held-sound x t held stands =
+    by-test (ofRecords (x .head))
+    (λ r.
+    let w = together x held r in
+    let is : transcriptOf x ≡ t = same (sym (source-of-records x r) ∙ stands) in
+    subst Sound is (record {
+      transcript-small = rw (transcript-length x w) (w .transcript-within);
+      genome-small = rw (genome-length x w) (w .genome-within);
+      cds-inside = rw (transcript-length x w) (head-inside (x .head) _ (w .cds) (w .transcript-within));
+    }))
+    (λ r. absurd (clash (sym (source-of-length x r) ∙ stands)))
+  where
+    same : {t u : Transcript} → aligned t ≡ aligned u → t ≡ u
+    same e = cc
+
+    clash : {n : ℕ} {c : Cds} {t : Transcript} → lengthOnly n c ≡ aligned t → ⊥
+    clash e = let z : _≡_ {A = ℕ} 0 1 = cc in omega arith

@@ -6,14 +6,17 @@ use Rattle.cigar.specs.Elements.{isLetter, kindOf, genome, transcript, total}
 use Rattle.cigar.specs.Text.{readFrom}
 use Rattle.cigar.specs.Read.{readText}
 use Rattle.cigar.specs.Write.{digitsBy, decimal, elementText, elementsText}
-use Rattle.segments.specs.Places.{segmentFrom, spotIn, nearer, mapPlace}
+use Rattle.segments.specs.Tables.{entriesFrom}
+use Rattle.segments.specs.Places.{firstBelow, indexOf, spotIn, nearer, mapByTables, mapPlace}
 use Rattle.transcript.specs.Building.{partsOf, elementsAfter, elementsOf, firstStart, build}
-use Rattle.mapper.specs.Answers.{fits}
-use Rattle.mapper.specs.Mapping.{inside, turned, placeOfG, nOfSpot, gOfSpot, wholeN, gToN, gOfEnds, nToG, refuses15, cPosition, cOfInterval, nToC, refuses16, nPosition, cToN, gToC, cToG}
+use Rattle.whole.specs.Fits.{fitOf, fits}
+use Rattle.coding.specs.Coding.{beyond, cPosition, cOfInterval, nToC, nPosition, cToN}
+use Rattle.places.specs.Mapping.{inside, turned, nOfSpot, gOfSpot, wholeN, gToN, gOfEnds, nToG}
+use Rattle.mapper.specs.Chains.{gToC, cToG}
 use Rattle.mapper.specs.Asking.{askGToN, askInBounds}
 use Rattle.promises.specs.Demands.{ours}
 use Rattle.promises.specs.Table.{TableOfPlaces}
 
 pub table-of-places : TableOfPlaces ours
-unfolding kindOf genome transcript total segmentFrom spotIn nearer mapPlace nOfPlace placeOfN cOfN nOfC skipZero inside turned placeOfG nOfSpot gOfSpot fits wholeN gToN gOfEnds nToG refuses15 cPosition cOfInterval nToC refuses16 nPosition cToN gToC cToG partsOf elementsAfter elementsOf firstStart build askGToN askInBounds isLetter readFrom readText digitsBy decimal elementText elementsText prefixLen suffixLen changedOf
+unfolding kindOf genome transcript total entriesFrom firstBelow indexOf spotIn nearer mapByTables mapPlace nOfPlace placeOfN cOfN nOfC skipZero inside turned nOfSpot gOfSpot fitOf fits wholeN gToN gOfEnds nToG beyond cPosition cOfInterval nToC nPosition cToN gToC cToG partsOf elementsAfter elementsOf firstStart build askGToN askInBounds isLetter readFrom readText digitsBy decimal elementText elementsText prefixLen suffixLen changedOf
 table-of-places = refl

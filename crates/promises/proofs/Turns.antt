@@ -8,8 +8,7 @@ use lib.IntN.{ℤ, pos, negℤ-negℤ, _-ℤ_}
 use borrow.Author.Tests.{le-leb}
 use Rattle.whole.specs.Whole.{order, dif}
 use Rattle.numbering.specs.Numbers.{nOfPlace}
-use Rattle.transcript.specs.Transcript.{Transcript}
-use Rattle.mapper.specs.Mapping.{inside, turned, signed, placeOfG}
+use Rattle.places.specs.Mapping.{inside, turned, signed, placeOfG}
 
 pub turn-turn : (forward : Bool) (len : ℕ) (z : ℤ) → turned forward len (turned forward len z) ≡ z
 unfolding turned
@@ -41,9 +40,8 @@ pub n-of-place : (p : ℕ) → nOfPlace (pos p) ≡ pos (p + 1)
 unfolding nOfPlace
 n-of-place p = rw (leb·zero p)
 
-pub place-of-base : (t : Transcript) (p : ℕ) → placeOfG t (pos (p + t .first + 1)) ≡ pos p
-unfolding placeOfG
-place-of-base t p = omega (order, dif (pos (p + t .first + 1)) (pos 1), dif (pos (p + t .first + 1) -ℤ pos 1) (pos (t .first)))
+pub place-of-base : (first p : ℕ) → placeOfG first (pos (p + first + 1)) ≡ pos p
+place-of-base first p = omega (order, dif (pos (p + first + 1)) (pos 1), dif (pos (p + first + 1) -ℤ pos 1) (pos first))
 
 pub same-either : {A : Type 0} (forward : Bool) (a : A) → cond forward a a ≡ a
 same-either true a = refl

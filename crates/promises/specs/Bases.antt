@@ -8,9 +8,9 @@ use lib.IntN.{ℤ, pos, negℤ}
 use Rattle.whole.specs.Whole.{if_then_else_}
 use Rattle.numbering.specs.Numbers.{plainC, starC}
 use Rattle.numbering.specs.declared.CNumber.{CNumber}
-use Rattle.cigar.specs.Elements.{Element, genome, transcript, total}
+use Rattle.cigar.specs.Elements.{Element, letterEqual, letterM, letterN, letterX, genome, transcript, total}
 use Rattle.transcript.specs.Transcript.{Transcript}
-use Rattle.mapper.specs.Answers.{NPosition, CPosition}
+use Rattle.positions.specs.Positions.{NPosition, CPosition}
 
 -- ---- names
 
@@ -48,7 +48,7 @@ pub record Lies (es : List Element) (p : ℕ) : Type 0 where
 
 -- = M X: a matched column on each base
 unfoldable pub isMatch : Element → Bool
-isMatch x = eqb (x .letter) 61 || eqb (x .letter) 77 || eqb (x .letter) 88
+isMatch x = eqb (x .letter) letterEqual || eqb (x .letter) letterM || eqb (x .letter) letterX
 
 -- the base at place p is in a matched column
 pub record Matched (t : Transcript) (p : ℕ) : Type 0 where
@@ -73,10 +73,10 @@ unfoldable pub nextMatches : List Element → Bool
 nextMatches [] = false
 nextMatches (x ∷ xs) = if eqb (x .count) 0 then nextMatches xs else isMatch x
 
--- the base at place p is in an intron: an N (78), whose nearest elements of non-zero count on both sides are =, M or X
+-- the base at place p is in an intron: an N, whose nearest elements of non-zero count on both sides are =, M or X
 pub record InIntron (t : Transcript) (p : ℕ) : Type 0 where
   pub lies : Lies (t .elements) p
-  pub skip : lies .element .letter ≡ 78
+  pub skip : lies .element .letter ≡ letterN
   pub matched-before : nextMatches (reverse (lies .before)) ≡ true
   pub matched-after : nextMatches (lies .after) ≡ true
 

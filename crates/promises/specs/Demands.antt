@@ -1,40 +1,45 @@
 -- Demands 2 and 3, as what is asked of a mapper. Assumes nothing.
---     Demand-2    each base of an exon, and of an intron between exons, has its HGVS name and comes back from it
---     Demand-3    records added at the ends change no answer
+--     Demand-2, Demand-2-built    each base of an exon, and of an intron between exons, has its HGVS name and comes back from it: of what holds together, and of what builds
+--     Demand-3                    records added at the ends change no answer
 use Prim.Native.Nat.{ℕ, _+_, _<_}
 use mathlib.Core.Bool.{Bool, true, false}
 use mathlib.Core.List.{List, [], _∷_, _++_, map}
 use mathlib.Core.Path.{_≡_}
 use lib.IntN.{ℤ, pos, _+ℤ_}
+use Rattle.refusals.specs.Outcome.{Outcome, answered, Answered, through}
 use Rattle.whole.specs.Whole.{eqZ}
 use Rattle.cigar.specs.Elements.{Element, genome, transcript, total}
 use Rattle.cigar.specs.Text.{elementsIn}
 use Rattle.cigar.specs.Read.{readText}
-use Rattle.records.specs.Records.{Record, recordsFrom}
+use Rattle.records.specs.Records.{Record}
 use Rattle.transcript.specs.Transcript.{Transcript, genomeLength, transcriptLength}
 use Rattle.transcript.specs.Transcript.Cds.{cds}
+use Rattle.transcript.specs.Transcript.Source.{aligned}
 use Rattle.transcript.specs.Building.{build}
-use Rattle.transcript.specs.Judging.{Judged, Made, startOf, endOf, judgeRecords}
-use Rattle.transcript.specs.Judging.Judged.{refused, accepted}
+use Rattle.judging.specs.Input.{Input}
+use Rattle.judging.specs.Judging.{Made, judgeInput}
 use Rattle.transcript.specs.declared.Bound.{Bound}
 use Rattle.transcript.specs.declared.Bound.the-variants.{Given, Absent}
-use Rattle.mapper.specs.Answers.{GInterval, NInterval, CInterval, Answer, Plain, Answered}
-use Rattle.mapper.specs.Answers.Answer.{certain}
-use Rattle.mapper.specs.Mapping.{gToN, nToG, nToC, cToN, gToC, cToG}
+use Rattle.holding.specs.Holding.{Lent, holds, sourceOf}
+use Rattle.positions.specs.Positions.{Interval, each, NAsked, CAsked, GPosition, NPosition, CPosition, asksN, asksC}
+use Rattle.positions.specs.Answers.{Answer, certainly}
+use Rattle.coding.specs.Coding.{nToC, cToN}
+use Rattle.places.specs.Mapping.{gToN, nToG}
+use Rattle.mapper.specs.Chains.{gToC, cToG}
 use Rattle.promises.specs.Bases.{Name, nName, cName, Matched, exonName, InIntron, upstreamPlace, downstreamPlace, intronName}
 
 -- ---- a mapper
 
 -- what a mapper answers to the six questions about a transcript; the first argument says whether it is strict
 pub record Mapper : Type 0 where
-  pub g-to-n : Bool → Transcript → GInterval → Answer NInterval
-  pub n-to-g : Bool → Transcript → NInterval → Answer GInterval
-  pub n-to-c : Bool → Transcript → NInterval → Plain CInterval
-  pub c-to-n : Bool → Transcript → CInterval → Plain NInterval
-  pub g-to-c : Bool → Transcript → GInterval → Answer CInterval
-  pub c-to-g : Bool → Transcript → CInterval → Answer GInterval
+  pub g-to-n : Bool → Transcript → Interval ℤ → Answer NPosition
+  pub n-to-g : Bool → Transcript → Interval NAsked → Answer GPosition
+  pub n-to-c : Bool → Transcript → Interval NAsked → Answer CPosition
+  pub c-to-n : Bool → Transcript → Interval CAsked → Answer NPosition
+  pub g-to-c : Bool → Transcript → Interval ℤ → Answer CPosition
+  pub c-to-g : Bool → Transcript → Interval CAsked → Answer GPosition
 
--- the one that the definitions of `mapper` give
+-- the one that the definitions of the house give
 abbrev pub ours : Mapper
 ours = record {
   g-to-n = gToN;
@@ -50,48 +55,46 @@ strict = true
 
 -- ---- building
 
--- what building takes: the strand, the CDS bounds, each given or not, and the records in genomic order
-pub record Input : Type 0 where
-  pub strand : ℤ
-  pub start : Bound
-  pub end : Bound
-  pub records : List Record
-
--- the transcript of what was judged
-abbrev pub madeOf : Judged Made → Judged Transcript
-madeOf (refused k) = refused k
-madeOf (accepted made) = accepted (build (made .forward) (made .exon-list) (made .coding))
+-- the transcript of what was made
+abbrev pub madeOf : Made → Transcript
+madeOf made = build (made .forward) (made .exon-list) (made .coding)
 
 -- building refuses, or answers a transcript
-abbrev pub building : Input → Judged Transcript
-building x = madeOf (judgeRecords (x .strand) (x .start) (x .end) (x .records))
-
--- the input that the numbers and bytes of a host lay out
-abbrev pub inputOf : ℤ → ℕ → ℤ → ℤ → ℕ → List ℕ → Input
-inputOf strand bits start end n s = record { strand = strand; start = startOf bits start; end = endOf bits end; records = recordsFrom n s 0 }
+abbrev pub building : Input → Outcome Transcript
+building x = through madeOf (judgeInput x)
 
 -- the transcript t is built from the input x
 abbrev pub Builds : Input → Transcript → Type 0
-Builds x t = building x ≡ accepted t
+Builds x t = building x ≡ answered t
 
 -- ---- demand 2
 
--- the base at place p, as a g. interval; a name, as an n. and as a c. interval
-abbrev pub gAt : Transcript → ℕ → GInterval
-gAt t p = record { from = pos (p + t .first + 1); to = pos (p + t .first + 1) }
+-- an interval of one position
+abbrev pub single : {P : Type 0} → P → Interval P
+single a = record { from = a; to = a }
 
-abbrev pub nAt : Name → NInterval
-nAt x = record { from = nName x; to = nName x }
+-- the base at place p, as a g. number, asked and answered; a name, as an n. and as a c. interval
+abbrev pub gNumber : Transcript → ℕ → ℤ
+gNumber t p = pos (p + t .first + 1)
 
-abbrev pub cAt : ℕ → ℕ → Name → CInterval
-cAt s e x = record { from = cName s e x; to = cName s e x }
+abbrev pub gAsked : Transcript → ℕ → Interval ℤ
+gAsked t p = single (gNumber t p)
 
--- in strict mode the base at place p is answered with the name x, certainly, and the name with the base: in n., and in c. where there is a CDS
+abbrev pub gAt : Transcript → ℕ → Interval GPosition
+gAt t p = single (record { base = gNumber t p })
+
+abbrev pub nAt : Name → Interval NPosition
+nAt x = single (nName x)
+
+abbrev pub cAt : ℕ → ℕ → Name → Interval CPosition
+cAt s e x = single (cName s e x)
+
+-- in strict mode the base at place p is answered with the name x, certainly, and the name, asked again, with the base: in n., and in c. where there is a CDS
 pub record Named (m : Mapper) (t : Transcript) (p : ℕ) (x : Name) : Type 0 where
-  pub g-to-n : m .g-to-n strict t (gAt t p) ≡ certain (nAt x)
-  pub n-to-g : m .n-to-g strict t (nAt x) ≡ certain (gAt t p)
-  pub g-to-c : (s e : ℕ) → t .coding ≡ cds s e → m .g-to-c strict t (gAt t p) ≡ certain (cAt s e x)
-  pub c-to-g : (s e : ℕ) → t .coding ≡ cds s e → m .c-to-g strict t (cAt s e x) ≡ certain (gAt t p)
+  pub g-to-n : m .g-to-n strict t (gAsked t p) ≡ certainly (nAt x)
+  pub n-to-g : m .n-to-g strict t (each asksN (nAt x)) ≡ certainly (gAt t p)
+  pub g-to-c : (s e : ℕ) → t .coding ≡ cds s e → m .g-to-c strict t (gAsked t p) ≡ certainly (cAt s e x)
+  pub c-to-g : (s e : ℕ) → t .coding ≡ cds s e → m .c-to-g strict t (each asksC (cAt s e x)) ≡ certainly (gAt t p)
 
 -- there are exon bases at u, upstream, and at d, downstream, and the base at place p has the name that counts from the nearer of the two
 pub record FromNearest (m : Mapper) (t : Transcript) (p u d : ℕ) : Type 0 where
@@ -104,9 +107,13 @@ pub record BasesNamed (m : Mapper) (t : Transcript) : Type 0 where
   pub exon-base : (p : ℕ) (b : Matched t p) → Named m t p (exonName b)
   pub intron-base : (p : ℕ) (b : InIntron t p) → FromNearest m t p (upstreamPlace b) (downstreamPlace b)
 
--- of every transcript that builds
+-- of every transcript that is lent and holds together, wherever it comes from
 abbrev pub Demand-2 : Mapper → Type 0
-Demand-2 m = (x : Input) (t : Transcript) → Builds x t → BasesNamed m t
+Demand-2 m = (x : Lent) (t : Transcript) → holds x ≡ true → sourceOf x ≡ aligned t → BasesNamed m t
+
+-- and so of every transcript that builds
+abbrev pub Demand-2-built : Mapper → Type 0
+Demand-2-built m = (x : Input) (t : Transcript) → Builds x t → BasesNamed m t
 
 -- ---- demand 3
 
@@ -159,12 +166,12 @@ pub record Lengthens (x y : Input) : Type 0 where
 
 -- z is the g. number of a base of the span of t: its place is 0 to the genome length, exclusive
 abbrev pub BaseOf : Transcript → ℤ → Type 0
-BaseOf t z = (p : ℕ) × (z ≡ pos (p + t .first + 1)) × (p < genomeLength t)
+BaseOf t z = (p : ℕ) × (z ≡ gNumber t p) × (p < genomeLength t)
 
 -- in strict mode u keeps the answers of t: the c. answer of each g. interval whose ends are bases of t's span, and the g. answer of each c. interval, certainty included
 pub record Keeps (m : Mapper) (t u : Transcript) : Type 0 where
-  pub g-to-c : (i : GInterval) → BaseOf t (i .from) → BaseOf t (i .to) → Answered (m .g-to-c strict t i) → m .g-to-c strict u i ≡ m .g-to-c strict t i
-  pub c-to-g : (i : CInterval) → Answered (m .c-to-g strict t i) → m .c-to-g strict u i ≡ m .c-to-g strict t i
+  pub g-to-c : (i : Interval ℤ) → BaseOf t (i .from) → BaseOf t (i .to) → Answered (m .g-to-c strict t i) → m .g-to-c strict u i ≡ m .g-to-c strict t i
+  pub c-to-g : (i : Interval CAsked) → Answered (m .c-to-g strict t i) → m .c-to-g strict u i ≡ m .c-to-g strict t i
 
 -- of every transcript that builds and every lengthened one that builds, where each record's CIGAR spans exactly its bounds; the shorter's records are among the longer's
 abbrev pub Demand-3 : Mapper → Type 0

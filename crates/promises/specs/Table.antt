@@ -1,78 +1,74 @@
 -- The table of places: P1 to P15 of document 01 and rows beside them, as one statement over one list. A row is a question with the answer that is due. Assumes nothing.
-use Prim.Native.Nat.{ℕ}
+use Prim.Native.Nat.{ℕ, _+_}
 use mathlib.Core.Bool.{Bool, true, false}
 use mathlib.Core.List.{List, [], _∷_, map}
 use mathlib.Core.Path.{_≡_}
 use lib.IntN.{ℤ, pos, negℤ}
 use lib.ListN.{drop}
 use Rattle.refusals.specs.Numbers.{notCoding, outside, nOutside, cOutside, tooWide, noGenome, missingEnd}
+use Rattle.refusals.specs.Outcome.{Outcome, answered, refused}
 use Rattle.sequences.specs.Alleles.{prefixLen, changedOf}
 use Rattle.numbering.specs.Numbers.{plainC, starC}
 use Rattle.numbering.specs.declared.CNumber.{CNumber}
-use Rattle.cigar.specs.Elements.{Element}
+use Rattle.cigar.specs.Elements.{Element, letterEqual, letterD, letterI, letterM, letterX}
 use Rattle.cigar.specs.Text.{Reading, element}
-use Rattle.cigar.specs.Text.Reading.{elements}
 use Rattle.cigar.specs.Read.{readText}
 use Rattle.cigar.specs.Write.{elementsText}
 use Rattle.transcript.specs.Transcript.{Transcript, Source}
 use Rattle.transcript.specs.Transcript.Cds.{noCds, cds}
 use Rattle.transcript.specs.Transcript.Source.{aligned, lengthOnly}
 use Rattle.transcript.specs.Building.{Exon, build}
-use Rattle.mapper.specs.Answers.{GInterval, NInterval, CInterval, Answer, Plain}
-use Rattle.mapper.specs.Answers.Answer.{certain, uncertain, refused}
-use Rattle.mapper.specs.Answers.Plain.{told, denied}
-use Rattle.mapper.specs.Asking.{GAsked, askGToN, askInBounds}
-use Rattle.mapper.specs.Asking.Bound.{at, missing}
-use Rattle.promises.specs.Demands.{Mapper, strict}
+use Rattle.positions.specs.Positions.{Interval, each, GAsked, at, missing, NAsked, CAsked, GPosition, NPosition, CPosition, asksN, asksC}
+use Rattle.positions.specs.Answers.{Answer, certainly, uncertainly, plainly}
+use Rattle.mapper.specs.Asking.{askGToN, askInBounds}
+use Rattle.promises.specs.Demands.{Mapper, strict, single}
 
 -- a question to a mapper, to a transcript of either kind, to the CIGAR's reader and writer, or to the trimmers; and the answer
 pub data Row : Type 0 where
-  g-n : Bool → Transcript → GInterval → Answer NInterval → Row
-  n-g : Bool → Transcript → NInterval → Answer GInterval → Row
-  n-c : Bool → Transcript → NInterval → Plain CInterval → Row
-  c-n : Bool → Transcript → CInterval → Plain NInterval → Row
-  g-c : Bool → Transcript → GInterval → Answer CInterval → Row
-  c-g : Bool → Transcript → CInterval → Answer GInterval → Row
-  asked-g-n : Bool → Source → GAsked → Answer NInterval → Row
-  in-bounds : Source → GAsked → Plain Bool → Row
+  g-n : Bool → Transcript → Interval ℤ → Answer NPosition → Row
+  n-g : Bool → Transcript → Interval NAsked → Answer GPosition → Row
+  n-c : Bool → Transcript → Interval NAsked → Answer CPosition → Row
+  c-n : Bool → Transcript → Interval CAsked → Answer NPosition → Row
+  g-c : Bool → Transcript → Interval ℤ → Answer CPosition → Row
+  c-g : Bool → Transcript → Interval CAsked → Answer GPosition → Row
+  asked-g-n : Bool → Interval GAsked → Source → Answer NPosition → Row
+  in-bounds : Interval GAsked → Source → Outcome Bool → Row
   cigar : List ℕ → List Element → Row
   alleles : List ℕ → List ℕ → ℕ → List ℕ → List ℕ → List ℕ → Row
 
 -- an answer to any question
 pub data Reply : Type 0 where
-  an-answer-in-g : Answer GInterval → Reply
-  an-answer-in-n : Answer NInterval → Reply
-  an-answer-in-c : Answer CInterval → Reply
-  a-plain-n : Plain NInterval → Reply
-  a-plain-c : Plain CInterval → Reply
-  a-plain-yes : Plain Bool → Reply
+  in-g : Answer GPosition → Reply
+  in-n : Answer NPosition → Reply
+  in-c : Answer CPosition → Reply
+  a-yes : Outcome Bool → Reply
   a-reading : Reading → List ℕ → Reply
   a-trimming : ℕ → List ℕ → List ℕ → List ℕ → Reply
 
 -- what is answered to a row's question: a CIGAR is read, and its elements are written; of two alleles the common prefix is counted and removed, and the changed part is found
 abbrev pub given : Mapper → Row → Reply
-given m (g-n strict t i a) = an-answer-in-n (m .g-to-n strict t i)
-given m (n-g strict t i a) = an-answer-in-g (m .n-to-g strict t i)
-given m (n-c strict t i a) = a-plain-c (m .n-to-c strict t i)
-given m (c-n strict t i a) = a-plain-n (m .c-to-n strict t i)
-given m (g-c strict t i a) = an-answer-in-c (m .g-to-c strict t i)
-given m (c-g strict t i a) = an-answer-in-g (m .c-to-g strict t i)
-given m (asked-g-n strict x i a) = an-answer-in-n (askGToN strict x i)
-given m (in-bounds x i a) = a-plain-yes (askInBounds x i)
+given m (g-n strict t i a) = in-n (m .g-to-n strict t i)
+given m (n-g strict t i a) = in-g (m .n-to-g strict t i)
+given m (n-c strict t i a) = in-c (m .n-to-c strict t i)
+given m (c-n strict t i a) = in-n (m .c-to-n strict t i)
+given m (g-c strict t i a) = in-c (m .g-to-c strict t i)
+given m (c-g strict t i a) = in-g (m .c-to-g strict t i)
+given m (asked-g-n strict i x a) = in-n (askGToN strict i x)
+given m (in-bounds i x a) = a-yes (askInBounds i x)
 given m (cigar text es) = a-reading (readText text) (elementsText es)
 given m (alleles r a prefix r-left a-left changed) = a-trimming (prefixLen r a) (drop (prefixLen r a) r) (drop (prefixLen r a) a) (changedOf r a)
 
 -- what the row says
 abbrev pub due : Row → Reply
-due (g-n strict t i a) = an-answer-in-n a
-due (n-g strict t i a) = an-answer-in-g a
-due (n-c strict t i a) = a-plain-c a
-due (c-n strict t i a) = a-plain-n a
-due (g-c strict t i a) = an-answer-in-c a
-due (c-g strict t i a) = an-answer-in-g a
-due (asked-g-n strict x i a) = an-answer-in-n a
-due (in-bounds x i a) = a-plain-yes a
-due (cigar text es) = a-reading (elements es) text
+due (g-n strict t i a) = in-n a
+due (n-g strict t i a) = in-g a
+due (n-c strict t i a) = in-c a
+due (c-n strict t i a) = in-n a
+due (g-c strict t i a) = in-c a
+due (c-g strict t i a) = in-g a
+due (asked-g-n strict i x a) = in-n a
+due (in-bounds i x a) = a-yes a
+due (cigar text es) = a-reading (answered es) text
 due (alleles r a prefix r-left a-left changed) = a-trimming prefix r-left a-left changed
 
 -- ---- short ways to write rows
@@ -89,40 +85,56 @@ strand-1 = false
 abbrev minus : ℕ → ℤ
 minus n = negℤ (pos n)
 
-abbrev g : ℕ → GInterval
-g a = record { from = pos a; to = pos a }
+-- intervals of g. numbers, of n. and of c. positions; a g. interval that is answered, and an n., a c. and a g. interval that are asked
+abbrev g : ℕ → Interval ℤ
+g a = single (pos a)
 
-abbrev gs : ℕ → ℕ → GInterval
+abbrev gs : ℕ → ℕ → Interval ℤ
 gs a b = record { from = pos a; to = pos b }
 
-abbrev n : ℤ → ℤ → NInterval
-n a o = record { from = record { base = a; offset = o }; to = record { base = a; offset = o } }
+abbrev n : ℤ → ℤ → Interval NPosition
+n a o = single (record { base = a; offset = o })
 
-abbrev ns : ℤ → ℤ → ℤ → ℤ → NInterval
+abbrev ns : ℤ → ℤ → ℤ → ℤ → Interval NPosition
 ns a o b u = record { from = record { base = a; offset = o }; to = record { base = b; offset = u } }
 
-abbrev c : CNumber → ℤ → CInterval
-c a o = record { from = record { base = a; offset = o }; to = record { base = a; offset = o } }
+abbrev c : CNumber → ℤ → Interval CPosition
+c a o = single (record { base = a; offset = o })
 
-abbrev cs : CNumber → ℤ → CNumber → ℤ → CInterval
+abbrev cs : CNumber → ℤ → CNumber → ℤ → Interval CPosition
 cs a o b u = record { from = record { base = a; offset = o }; to = record { base = b; offset = u } }
 
-abbrev asked : ℕ → ℕ → GAsked
+abbrev answered-g : Interval ℤ → Interval GPosition
+answered-g i = each (λ (z : ℤ). record { base = z }) i
+
+abbrev asked-n : Interval NPosition → Interval NAsked
+asked-n i = each asksN i
+
+abbrev asked-c : Interval CPosition → Interval CAsked
+asked-c i = each asksC i
+
+abbrev asked : ℕ → ℕ → Interval GAsked
 asked a b = record { from = at (pos a); to = at (pos b) }
 
--- the letters of the rows' CIGARs, and an element
-abbrev D : ℕ
-D = 68
-
-abbrev I : ℕ
-I = 73
-
-abbrev M : ℕ
-M = 77
-
+-- an element, and the bytes of a digit and of the four bases
 infix 70 _of_
 abbrev _of_ : ℕ → ℕ → Element
 n of letter = element n letter
+
+abbrev pub digit : ℕ → ℕ
+digit d = 48 + d
+
+abbrev baseA : ℕ
+baseA = 65
+
+abbrev baseC : ℕ
+baseC = 67
+
+abbrev baseG : ℕ
+baseG = 71
+
+abbrev baseT : ℕ
+baseT = 84
 
 abbrev exon : ℕ → ℕ → List Element → Exon
 exon a b es = record { alt-start = a; alt-end = b; parts = es }
@@ -130,7 +142,7 @@ exon a b es = record { alt-start = a; alt-end = b; parts = es }
 -- ---- the transcripts of the table
 
 abbrev pub exonsOfA : List Exon
-exonsOfA = exon 10 20 (10 of M ∷ []) ∷ exon 25 33 (8 of M ∷ []) ∷ []
+exonsOfA = exon 10 20 (10 of letterM ∷ []) ∷ exon 25 33 (8 of letterM ∷ []) ∷ []
 
 abbrev pub A : Transcript
 A = build strand1 exonsOfA (cds 3 15)
@@ -139,93 +151,93 @@ abbrev pub B : Transcript
 B = build strand-1 exonsOfA (cds 3 15)
 
 abbrev pub ins : Transcript
-ins = build strand1 (exon 100 110 (4 of M ∷ 2 of I ∷ 4 of M ∷ []) ∷ []) noCds
+ins = build strand1 (exon 100 110 (4 of letterM ∷ 2 of letterI ∷ 4 of letterM ∷ []) ∷ []) noCds
 
 abbrev pub del : Transcript
-del = build strand1 (exon 100 108 (4 of M ∷ 2 of D ∷ 4 of M ∷ []) ∷ []) noCds
+del = build strand1 (exon 100 108 (4 of letterM ∷ 2 of letterD ∷ 4 of letterM ∷ []) ∷ []) noCds
 
 -- A with an exon added after it
 abbrev pub A+ : Transcript
-A+ = build strand1 (exon 10 20 (10 of M ∷ []) ∷ exon 25 33 (8 of M ∷ []) ∷ exon 40 44 (4 of M ∷ []) ∷ []) (cds 3 15)
+A+ = build strand1 (exon 10 20 (10 of letterM ∷ []) ∷ exon 25 33 (8 of letterM ∷ []) ∷ exon 40 44 (4 of letterM ∷ []) ∷ []) (cds 3 15)
 
 -- one exon; and the same with a record before it whose elements do not span its bounds, and the CDS moved up
 abbrev pub lone : Transcript
-lone = build strand1 (exon 10 14 (4 of M ∷ []) ∷ []) (cds 0 4)
+lone = build strand1 (exon 10 14 (4 of letterM ∷ []) ∷ []) (cds 0 4)
 
 abbrev pub unspanned : Transcript
-unspanned = build strand1 (exon 2 5 (2 of M ∷ []) ∷ exon 10 14 (4 of M ∷ []) ∷ []) (cds 2 6)
+unspanned = build strand1 (exon 2 5 (2 of letterM ∷ []) ∷ exon 10 14 (4 of letterM ∷ []) ∷ []) (cds 2 6)
 
 -- ---- the rows
 
 abbrev pub rows : List Row
 rows =
     -- P1: A g.11 = n.1 = c.-3
-    g-n strict A (g 11) (certain (n (pos 1) (pos 0)))
-    ∷ g-c strict A (g 11) (certain (c (plainC (minus 3)) (pos 0)))
+    g-n strict A (g 11) (certainly (n (pos 1) (pos 0)))
+    ∷ g-c strict A (g 11) (certainly (c (plainC (minus 3)) (pos 0)))
     -- P2: A g.13 = c.-1
-    ∷ g-c strict A (g 13) (certain (c (plainC (minus 1)) (pos 0)))
+    ∷ g-c strict A (g 13) (certainly (c (plainC (minus 1)) (pos 0)))
     -- P3: A g.14 = c.1
-    ∷ g-c strict A (g 14) (certain (c (plainC (pos 1)) (pos 0)))
+    ∷ g-c strict A (g 14) (certainly (c (plainC (pos 1)) (pos 0)))
     -- P4: A g.21 = c.7+1
-    ∷ g-c strict A (g 21) (certain (c (plainC (pos 7)) (pos 1)))
+    ∷ g-c strict A (g 21) (certainly (c (plainC (pos 7)) (pos 1)))
     -- P5: A g.23 = c.7+3, the middle
-    ∷ g-c strict A (g 23) (certain (c (plainC (pos 7)) (pos 3)))
+    ∷ g-c strict A (g 23) (certainly (c (plainC (pos 7)) (pos 3)))
     -- P6: A g.24 = c.8-2
-    ∷ g-c strict A (g 24) (certain (c (plainC (pos 8)) (minus 2)))
+    ∷ g-c strict A (g 24) (certainly (c (plainC (pos 8)) (minus 2)))
     -- P7: A g.33 = c.*3
-    ∷ g-c strict A (g 33) (certain (c (starC (pos 3)) (pos 0)))
+    ∷ g-c strict A (g 33) (certainly (c (starC (pos 3)) (pos 0)))
     -- P8: A g.34 = n.19, but c. refuses 15
-    ∷ g-n strict A (g 34) (certain (n (pos 19) (pos 0)))
+    ∷ g-n strict A (g 34) (certainly (n (pos 19) (pos 0)))
     ∷ g-c strict A (g 34) (refused nOutside)
     -- P9: A g.35 and g.10 refuse 14; lenient g.10 = n.-1 = c.-4
     ∷ g-n strict A (g 35) (refused outside)
     ∷ g-n strict A (g 10) (refused outside)
-    ∷ g-n lenient A (g 10) (certain (n (minus 1) (pos 0)))
-    ∷ g-c lenient A (g 10) (certain (c (plainC (minus 4)) (pos 0)))
+    ∷ g-n lenient A (g 10) (certainly (n (minus 1) (pos 0)))
+    ∷ g-c lenient A (g 10) (certainly (c (plainC (minus 4)) (pos 0)))
     -- P10: B g.33 = n.1
-    ∷ g-n strict B (g 33) (certain (n (pos 1) (pos 0)))
+    ∷ g-n strict B (g 33) (certainly (n (pos 1) (pos 0)))
     -- P11: B g.23 = n.8+3 = c.5+3
-    ∷ g-n strict B (g 23) (certain (n (pos 8) (pos 3)))
-    ∷ g-c strict B (g 23) (certain (c (plainC (pos 5)) (pos 3)))
+    ∷ g-n strict B (g 23) (certainly (n (pos 8) (pos 3)))
+    ∷ g-c strict B (g 23) (certainly (c (plainC (pos 5)) (pos 3)))
     -- P12: g.105_105 = n.4_5, uncertain
-    ∷ g-n strict ins (g 105) (uncertain (ns (pos 4) (pos 0) (pos 5) (pos 0)))
+    ∷ g-n strict ins (g 105) (uncertainly (ns (pos 4) (pos 0) (pos 5) (pos 0)))
     -- P13: n.5_5 = g.104_105, uncertain; g.105 = n.7
-    ∷ n-g strict del (n (pos 5) (pos 0)) (uncertain (gs 104 105))
-    ∷ g-n strict del (g 105) (certain (n (pos 7) (pos 0)))
+    ∷ n-g strict del (asked-n (n (pos 5) (pos 0))) (uncertainly (answered-g (gs 104 105)))
+    ∷ g-n strict del (g 105) (certainly (n (pos 7) (pos 0)))
     -- P14: M0X3= reads as 1M 0X 3= and is written unchanged
-    ∷ cigar (77 ∷ 48 ∷ 88 ∷ 51 ∷ 61 ∷ []) (1 of 77 ∷ 0 of 88 ∷ 3 of 61 ∷ [])
+    ∷ cigar (letterM ∷ digit 0 ∷ letterX ∷ digit 3 ∷ letterEqual ∷ []) (1 of letterM ∷ 0 of letterX ∷ 3 of letterEqual ∷ [])
     -- P15: ACGT and ACT: prefix 2 leaves GT and T; changed part G
-    ∷ alleles (65 ∷ 67 ∷ 71 ∷ 84 ∷ []) (65 ∷ 67 ∷ 84 ∷ []) 2 (71 ∷ 84 ∷ []) (84 ∷ []) (71 ∷ [])
+    ∷ alleles (baseA ∷ baseC ∷ baseG ∷ baseT ∷ []) (baseA ∷ baseC ∷ baseT ∷ []) 2 (baseG ∷ baseT ∷ []) (baseT ∷ []) (baseG ∷ [])
     -- on strand -1 start and end change places: B g.11_33 = n.1_18 and back; B g.22_33 = n.1_9-2
-    ∷ g-n strict B (gs 11 33) (certain (ns (pos 1) (pos 0) (pos 18) (pos 0)))
-    ∷ n-g strict B (ns (pos 1) (pos 0) (pos 18) (pos 0)) (certain (gs 11 33))
-    ∷ g-n strict B (gs 22 33) (certain (ns (pos 1) (pos 0) (pos 9) (minus 2)))
+    ∷ g-n strict B (gs 11 33) (certainly (ns (pos 1) (pos 0) (pos 18) (pos 0)))
+    ∷ n-g strict B (asked-n (ns (pos 1) (pos 0) (pos 18) (pos 0))) (certainly (answered-g (gs 11 33)))
+    ∷ g-n strict B (gs 22 33) (certainly (ns (pos 1) (pos 0) (pos 9) (minus 2)))
     -- the strict bound looks at the turned place: B n.-1 is g.34 and n.19 refuses 14, and on A the other way round
-    ∷ n-g strict B (n (minus 1) (pos 0)) (certain (g 34))
-    ∷ n-g strict B (n (pos 19) (pos 0)) (refused outside)
-    ∷ n-g strict A (n (minus 1) (pos 0)) (refused outside)
-    ∷ n-g strict A (n (pos 19) (pos 0)) (certain (g 34))
+    ∷ n-g strict B (asked-n (n (minus 1) (pos 0))) (certainly (answered-g (g 34)))
+    ∷ n-g strict B (asked-n (n (pos 19) (pos 0))) (refused outside)
+    ∷ n-g strict A (asked-n (n (minus 1) (pos 0))) (refused outside)
+    ∷ n-g strict A (asked-n (n (pos 19) (pos 0))) (certainly (answered-g (g 34)))
     -- n. to c. does not test its end low: n.1_0 is c.1_c.0
-    ∷ n-c strict lone (ns (pos 1) (pos 0) (pos 0) (pos 0)) (told (cs (plainC (pos 1)) (pos 0) (plainC (pos 0)) (pos 0)))
+    ∷ n-c strict lone (asked-n (ns (pos 1) (pos 0) (pos 0) (pos 0))) (plainly (cs (plainC (pos 1)) (pos 0) (plainC (pos 0)) (pos 0)))
     -- c.7+3 comes back; 16; 13; 17
-    ∷ c-g strict A (c (plainC (pos 7)) (pos 3)) (certain (g 23))
-    ∷ c-n strict A (c (starC (pos 4)) (pos 0)) (denied cOutside)
-    ∷ n-c strict del (n (pos 1) (pos 0)) (denied notCoding)
-    ∷ n-g lenient A (ns (pos 1) (pos 2147483647) (pos 1) (pos 0)) (refused tooWide)
+    ∷ c-g strict A (asked-c (c (plainC (pos 7)) (pos 3))) (certainly (answered-g (g 23)))
+    ∷ c-n strict A (asked-c (c (starC (pos 4)) (pos 0))) (refused cOutside)
+    ∷ n-c strict del (asked-n (n (pos 1) (pos 0))) (refused notCoding)
+    ∷ n-g lenient A (asked-n (ns (pos 1) (pos 2147483647) (pos 1) (pos 0))) (refused tooWide)
     -- 18 and 19
-    ∷ asked-g-n strict (lengthOnly 18 noCds) (asked 11 11) (refused noGenome)
-    ∷ asked-g-n strict (aligned A) (record { from = at (pos 11); to = missing }) (refused missingEnd)
+    ∷ asked-g-n strict (asked 11 11) (lengthOnly 18 noCds) (refused noGenome)
+    ∷ asked-g-n strict (record { from = at (pos 11); to = missing }) (aligned A) (refused missingEnd)
     -- A g.11_34 is in bounds and g.11_35 is not; 18 and 19
-    ∷ in-bounds (aligned A) (asked 11 34) (told true)
-    ∷ in-bounds (aligned A) (asked 11 35) (told false)
-    ∷ in-bounds (lengthOnly 18 noCds) (asked 11 34) (denied noGenome)
-    ∷ in-bounds (aligned A) (record { from = missing; to = at (pos 33) }) (denied missingEnd)
+    ∷ in-bounds (asked 11 34) (aligned A) (answered true)
+    ∷ in-bounds (asked 11 35) (aligned A) (answered false)
+    ∷ in-bounds (asked 11 34) (lengthOnly 18 noCds) (refused noGenome)
+    ∷ in-bounds (record { from = missing; to = at (pos 33) }) (aligned A) (refused missingEnd)
     -- why demand 3 asks for bases of the span: A g.34_33 is c.*4_*3, and with an exon added c.*3+1_*3
-    ∷ g-c strict A (gs 34 33) (certain (cs (starC (pos 4)) (pos 0) (starC (pos 3)) (pos 0)))
-    ∷ g-c strict A+ (gs 34 33) (certain (cs (starC (pos 3)) (pos 1) (starC (pos 3)) (pos 0)))
+    ∷ g-c strict A (gs 34 33) (certainly (cs (starC (pos 4)) (pos 0) (starC (pos 3)) (pos 0)))
+    ∷ g-c strict A+ (gs 34 33) (certainly (cs (starC (pos 3)) (pos 1) (starC (pos 3)) (pos 0)))
     -- and for records that span their bounds: g.11 moves from c.1 to c.2
-    ∷ g-c strict lone (g 11) (certain (c (plainC (pos 1)) (pos 0)))
-    ∷ g-c strict unspanned (g 11) (certain (c (plainC (pos 2)) (pos 0)))
+    ∷ g-c strict lone (g 11) (certainly (c (plainC (pos 1)) (pos 0)))
+    ∷ g-c strict unspanned (g 11) (certainly (c (plainC (pos 2)) (pos 0)))
     ∷ []
 
 -- each row's question has the answer that is due

@@ -2,5 +2,5 @@
 pub mod Layout
 pub mod Records
 pub mod Faults
-pub mod Chain
 pub mod Walk
+pub mod laws

@@ -1,5 +1,4 @@
 -- Lemmas on plain values, for the proofs of this crate.
 mod All
 mod Bounds
-mod Finding
 mod Steps

@@ -6,7 +6,7 @@ use mathlib.Core.Path.{_≡_, refl, sym, ap₂}
 use lib.Dec.{leb, eqb}
 use borrow.Author.Tests.{leb-true, eqb-true, eqb-false, eq-eqb, ne-eqb}
 use Rattle.whole.specs.Whole.{by-test}
-use Rattle.cigar.specs.Elements.{kindOf}
+use Rattle.cigar.specs.Elements.{kindOf, letterD, letterI, letterN}
 use Rattle.segments.specs.Tables.{stepsOf, stepRight}
 
 -- the order of two numbers does not matter to the test that they are equal
@@ -21,22 +21,22 @@ unwrapped : (a b d : ℕ) → a < 2 ^ 32 → d < 2 ^ 32 → (d + b) % 2 ^ 32 ≡
 unwrapped a b d a< d< e b≤a = omega arith
 
 -- the code's one test, of what is left of each step where the letter does not advance the other side, is `stepsOf`
-masked : (c dg dt : ℕ) → eqb (cond (eqb c 73 || eqb c 78) 0 dg) (cond (eqb c 68) 0 dt) ≡ stepsOf (kindOf c) dg dt
+masked : (c dg dt : ℕ) → eqb (cond (eqb c letterI || eqb c letterN) 0 dg) (cond (eqb c letterD) 0 dt) ≡ stepsOf (kindOf c) dg dt
 unfolding kindOf
 masked c dg dt =
-    by-test (eqb c 78)
-    (λ e. rw (eqb-true c 78 e) (eqb-sym 0 dt))
+    by-test (eqb c letterN)
+    (λ e. rw (eqb-true c letterN e) (eqb-sym 0 dt))
     (λ e.
-    by-test (eqb c 73)
-    (λ u. rw (eqb-true c 73 u) (eqb-sym 0 dt))
+    by-test (eqb c letterI)
+    (λ u. rw (eqb-true c letterI u) (eqb-sym 0 dt))
     (λ u.
-    by-test (eqb c 68)
-    (λ v. rw (eqb-true c 68 v))
+    by-test (eqb c letterD)
+    (λ v. rw (eqb-true c letterD v))
     (λ v. rw (e, u, v))))
 
 -- the differences may wrap, beside the tests that they are not negative
 module _ (c g₀ g₁ t₀ t₁ dg dt : ℕ) (g< : g₁ < 2 ^ 32) (t< : t₁ < 2 ^ 32) (dg< : dg < 2 ^ 32) (dt< : dt < 2 ^ 32) (eg : (dg + g₀) % 2 ^ 32 ≡ g₁) (et : (dt + t₀) % 2 ^ 32 ≡ t₁) where
-  pub right-wrapped : (leb g₀ g₁ && leb t₀ t₁ && eqb (cond (eqb c 73 || eqb c 78) 0 dg) (cond (eqb c 68) 0 dt)) ≡ stepRight c g₀ g₁ t₀ t₁
+  pub right-wrapped : (leb g₀ g₁ && leb t₀ t₁ && eqb (cond (eqb c letterI || eqb c letterN) 0 dg) (cond (eqb c letterD) 0 dt)) ≡ stepRight c g₀ g₁ t₀ t₁
   unfolding stepRight
   right-wrapped = rw (masked c dg dt) (go (leb g₀ g₁) (leb t₀ t₁) refl refl)
     where

@@ -1,8 +1,9 @@
--- The root of the crate's specs.
-pub mod Places
+-- What the contracts of `segments` cite.
+--     Tables    a transcript's tables: whether they hold together, the elements that they stand for, and those that elements make
+--     Places    which segment a place is in, and where it is on the other side
+--     Paper     the code's ends and spots in the paper's terms
+--     laws      what is shown of them
 pub mod Tables
+pub mod Places
 pub mod Paper
-pub mod Meaning
-pub mod Reading
-pub mod Made
-pub mod Entries
+pub mod laws

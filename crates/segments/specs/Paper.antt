@@ -1,13 +1,12 @@
 -- The code's ends and spots in the paper's terms, and the two directions of mapping over tables. Assumes nothing.
 use Prim.Native.Nat.{ℕ}
 use mathlib.Core.Bool.{Bool, true}
-use mathlib.Core.List.{List}
 use lib.IntN.{ℤ}
 use Rattle.whole.specs.Whole.{Within}
 use Rattle.cigar.specs.Elements.{genome, transcript}
+use Rattle.segments.specs.Tables.{Tables, read}
 use Rattle.segments.specs.Places.{Spot, End, mapPlace}
 use Rattle.segments.specs.Places.End.{start, stop}
-use Rattle.segments.specs.Tables.{read}
 use Rattle.segments.specs.declared.Spot as code
 use Rattle.segments.specs.declared.End as code-end
 use Rattle.segments.specs.declared.End.the-variants.{Start, Stop}
@@ -19,7 +18,7 @@ endSaid Stop = stop
 
 -- a spot
 abbrev pub spotSaid : code.Spot → Spot
-spotSaid s = record { place = s .place .0; offset = s .offset; sure = s .sure }
+spotSaid s = record { place = s .place .0; offset = s .offset; sure = s .sure; number = s .number }
 
 -- a spot whose numbers leave room for a few sums
 pub record Small (s : code.Spot) : Type 0 where
@@ -27,9 +26,9 @@ pub record Small (s : code.Spot) : Type 0 where
   pub offset-small : Within 38 (s .offset)
 
 -- the elements that the tables stand for, from the genome to the transcript
-abbrev pub toTranscript : List ℕ → List ℕ → List ℕ → ℕ → ℤ → End → Bool → Spot
-toTranscript g t l n p e forward = mapPlace genome transcript (read g t l n) p e forward
+abbrev pub toTranscript : Tables → ℕ → ℤ → End → Bool → Spot
+toTranscript a n p e forward = mapPlace genome transcript (read a n) p e forward
 
 -- and from the transcript to the genome, where the strand counts as 1
-abbrev pub toGenome : List ℕ → List ℕ → List ℕ → ℕ → ℤ → End → Spot
-toGenome g t l n p e = mapPlace transcript genome (read g t l n) p e true
+abbrev pub toGenome : Tables → ℕ → ℤ → End → Spot
+toGenome a n p e = mapPlace transcript genome (read a n) p e true

@@ -1,45 +1,57 @@
 -- Where a place of one side is on the other. A place is a whole number, zero-based.
 -- The two directions of mapping differ only in which side is `from` and which is `to`, so both are defined, and their facts shown, once. Assumes nothing.
-use Prim.Native.Nat.{ℕ, _+_}
+use Prim.Native.Nat.{ℕ, zero, suc, _+_, _-_}
 use mathlib.Core.Bool.{Bool, true, false}
-use mathlib.Core.List.{List, [], _∷_}
+use mathlib.Core.List.{List}
 use lib.IntN.{ℤ, pos, negℤ, _+ℤ_, _-ℤ_}
+use lib.ListN.{getD, length}
 use lib.Signed.{ltZ, leZ}
 use Rattle.whole.specs.Whole.{if_then_else_}
-use Rattle.cigar.specs.Elements.{Element, Side, Kind, kind}
+use Rattle.cigar.specs.Elements.{Element, Side, Kind, kindOf}
 use Rattle.cigar.specs.Elements.Kind.{matches, inserts, deletes, skips}
+use Rattle.segments.specs.Tables.{entriesOf, lettersOf}
+
+-- ---- which segment
+
+-- the first number below n at which f is true, or else n
+unfoldable pub firstBelow : (ℕ → Bool) → ℕ → ℕ
+firstBelow f zero = 0
+firstBelow f (suc n) = if f 0 then 0 else suc (firstBelow (λ (i : ℕ). f (suc i)) n)
+
+-- the end of segment i, the next entry of the table, is above p
+abbrev pub endsAbove : List ℕ → ℤ → ℕ → Bool
+endsAbove from p i = ltZ p (pos (getD from (i + 1) 0))
+
+-- the number of the segment of the place p: the first of n segments whose end is above p, or else the last
+unfoldable pub indexOf : List ℕ → ℕ → ℤ → ℕ
+indexOf from n p = firstBelow (endsAbove from p) (n - 1)
 
 -- one segment as a question about a place sees it: where it begins and ends on the side that the place is on, and where it begins on the other
 pub record Segment : Type 0 where
+  pub number : ℕ
   pub does : Kind
   pub begins : ℕ
   pub ends : ℕ
   pub other : ℕ
 
--- the segment of the element x, when all before it go to f on the one side and to t on the other
-abbrev pub segment : Side → Element → ℕ → ℕ → Segment
-segment from x f t = record { does = kind x; begins = f; ends = f + from x; other = t }
+-- segment i of the tables
+abbrev pub segmentAt : List ℕ → List ℕ → List ℕ → ℕ → Segment
+segmentAt from to letters i = record { number = i; does = kindOf (getD letters i 0); begins = getD from i 0; ends = getD from (i + 1) 0; other = getD to i 0 }
 
--- the first segment whose end is above p, or else the last; the elements begin at f on the one side and at t on the other.
--- (Of no elements there is none: building refuses 10.)
-unfoldable pub segmentFrom : Side → Side → List Element → ℕ → ℕ → ℤ → Segment
-segmentFrom from to [] f t p = record { does = matches; begins = f; ends = f; other = t }
-segmentFrom from to (x ∷ []) f t p = segment from x f t
-segmentFrom from to (x ∷ y ∷ ys) f t p =
-    if ltZ p (pos (f + from x)) then segment from x f t
-    else segmentFrom from to (y ∷ ys) (f + from x) (t + to x) p
+-- ---- the place p of a segment
 
--- a place on the other side, with its offset; it is not sure if it fell in an I or a D
+-- a place on the other side, with its offset; it is not sure if it fell in an I or a D; and the number of the segment that it fell in
 pub record Spot : Type 0 where
   pub place : ℤ
   pub offset : ℤ
   pub sure : Bool
+  pub number : ℕ
 
-abbrev pub surely : ℤ → ℤ → Spot
-surely p o = record { place = p; offset = o; sure = true }
+abbrev pub surely : ℕ → ℤ → ℤ → Spot
+surely i p o = record { place = p; offset = o; sure = true; number = i }
 
-abbrev pub unsurely : ℤ → Spot
-unsurely p = record { place = p; offset = pos 0; sure = false }
+abbrev pub unsurely : ℕ → ℤ → Spot
+unsurely i p = record { place = p; offset = pos 0; sure = false; number = i }
 
 -- an interval has two ends
 pub data End : Type 0 where
@@ -56,22 +68,28 @@ abbrev pub leftNearer : Bool → ℤ → ℤ → Bool
 leftNearer true left right = leZ left right
 leftNearer false left right = ltZ left right
 
--- from an N at t: the nearer edge, and how far it is
-unfoldable pub nearer : Bool → ℕ → ℤ → ℤ → Spot
-nearer forward t left right =
-    if leftNearer forward left right then surely (pos t -ℤ pos 1) left
-    else surely (pos t) (negℤ right)
+-- from the N with the number i at t: the nearer edge, and how far it is
+unfoldable pub nearer : ℕ → Bool → ℕ → ℤ → ℤ → Spot
+nearer i forward t left right =
+    if leftNearer forward left right then surely i (pos t -ℤ pos 1) left
+    else surely i (pos t) (negℤ right)
 
--- the place p of a segment
-unfoldable pub spotIn : Kind → ℕ → ℕ → ℕ → ℤ → End → Bool → Spot
-spotIn matches f h t p end forward = surely (pos t +ℤ (p -ℤ pos f)) (pos 0)
-spotIn inserts f h t p end forward = unsurely (beside end t)
-spotIn deletes f h t p end forward = unsurely (beside end t)
-spotIn skips f h t p end forward = nearer forward t (p -ℤ pos f +ℤ pos 1) (pos h -ℤ p)
+-- the place p of the segment i, which goes from f to h and begins at t on the other side
+unfoldable pub spotIn : ℕ → Kind → ℕ → ℕ → ℕ → ℤ → End → Bool → Spot
+spotIn i matches f h t p end forward = surely i (pos t +ℤ (p -ℤ pos f)) (pos 0)
+spotIn i inserts f h t p end forward = unsurely i (beside end t)
+spotIn i deletes f h t p end forward = unsurely i (beside end t)
+spotIn i skips f h t p end forward = nearer i forward t (p -ℤ pos f +ℤ pos 1) (pos h -ℤ p)
 
 abbrev pub spotOf : Segment → ℤ → End → Bool → Spot
-spotOf s p end forward = spotIn (s .does) (s .begins) (s .ends) (s .other) p end forward
+spotOf s p end forward = spotIn (s .number) (s .does) (s .begins) (s .ends) (s .other) p end forward
 
--- the place p of the elements, which begins an interval or ends it
+-- ---- the place p, which begins an interval or ends it
+
+-- by the tables of n segments
+unfoldable pub mapByTables : List ℕ → List ℕ → List ℕ → ℕ → ℤ → End → Bool → Spot
+mapByTables from to letters n p end forward = spotOf (segmentAt from to letters (indexOf from n p)) p end forward
+
+-- by the entries of elements
 unfoldable pub mapPlace : Side → Side → List Element → ℤ → End → Bool → Spot
-mapPlace from to es p end forward = spotOf (segmentFrom from to es 0 0 p) p end forward
+mapPlace from to es p end forward = mapByTables (entriesOf from es) (entriesOf to es) (lettersOf es) (length es) p end forward

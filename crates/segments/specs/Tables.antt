@@ -1,17 +1,23 @@
--- The tables of a transcript: when their segments hold together, the elements that they stand for, the place that they map a place to, and the tables that elements make.
--- A table is the list of its entries: `g` the genome starts, `t` the transcript starts, `l` the letters' bytes. Segment i begins at entry i and ends at entry i + 1; entries past n are not looked at. Assumes nothing.
+-- The tables of a transcript: when their segments hold together, the elements that they stand for, and the tables that elements make.
+-- A table is the list of its entries. Segment i begins at entry i of a table of starts and ends at entry i + 1; entries past the last segment's end are not looked at. Assumes nothing.
 use Prim.Native.Nat.{ℕ, zero, suc, _+_, _-_, _≤_, _<_, max}
-use mathlib.Core.Bool.{Bool, true, cond, _&&_}
+use mathlib.Core.Bool.{Bool, true, _&&_}
 use mathlib.Core.List.{List, [], _∷_, _++_, map}
 use mathlib.Core.Path.{_≡_}
 use lib.ListN.{getD, length, replicate}
 use lib.Dec.{eqb, leb}
-use lib.IntN.{ℤ, pos}
-use lib.Signed.{ltZ}
-use Rattle.refusals.specs.Numbers.{mostSegments}
-use Rattle.cigar.specs.Elements.{Element, Side, Kind, isLetter, kindOf, total}
+use Rattle.refusals.specs.Numbers.{mostSegments, mostStarts}
+use Rattle.cigar.specs.Elements.{Element, Side, Kind, isLetter, kindOf, genome, transcript}
 use Rattle.cigar.specs.Elements.Kind.{matches, inserts, deletes, skips}
-use Rattle.segments.specs.Places.{Segment, Spot, End, spotOf}
+
+-- the starts on the genome and on the transcript, and the letters' bytes
+pub record Tables : Type 0 where
+  pub genome : List ℕ
+  pub transcript : List ℕ
+  pub letters : List ℕ
+
+abbrev pub tables : List ℕ → List ℕ → List ℕ → Tables
+tables g t l = record { genome = g; transcript = t; letters = l }
 
 -- ---- whether segments hold together
 
@@ -33,68 +39,57 @@ allBelow f (suc k) = allBelow f k && f k
 
 -- segment i's letter is one of the six
 abbrev pub knownAt : List ℕ → ℕ → Bool
-knownAt l i = isLetter (getD l i 0)
+knownAt letters i = isLetter (getD letters i 0)
 
 -- segment i's steps are right
-abbrev pub rightAt : List ℕ → List ℕ → List ℕ → ℕ → Bool
-rightAt g t l i = stepRight (getD l i 0) (getD g i 0) (getD g (i + 1) 0) (getD t i 0) (getD t (i + 1) 0)
+abbrev pub rightAt : Tables → ℕ → Bool
+rightAt a i = stepRight (getD (a .letters) i 0) (getD (a .genome) i 0) (getD (a .genome) (i + 1) 0) (getD (a .transcript) i 0) (getD (a .transcript) (i + 1) 0)
 
 -- n segments hold together: starts begin at 0 and 0, each letter is one of the six, each step is right
-unfoldable pub segmentsHold : List ℕ → List ℕ → List ℕ → ℕ → Bool
-segmentsHold g t l n = eqb (getD g 0 0) 0 && eqb (getD t 0 0) 0 && (allBelow (knownAt l) n && allBelow (rightAt g t l) n)
+unfoldable pub segmentsHold : Tables → ℕ → Bool
+segmentsHold a n = eqb (getD (a .genome) 0 0) 0 && eqb (getD (a .transcript) 0 0) 0 && (allBelow (knownAt (a .letters)) n && allBelow (rightAt a) n)
 
 -- the same as facts, at every index
-pub record Holds (g t l : List ℕ) (n : ℕ) : Type 0 where
-  pub genome-from-0 : getD g 0 0 ≡ 0
-  pub transcript-from-0 : getD t 0 0 ≡ 0
-  pub letters : (i : ℕ) → i < n → isLetter (getD l i 0) ≡ true
-  pub genome-rises : (i : ℕ) → i < n → getD g i 0 ≤ getD g (i + 1) 0
-  pub transcript-rises : (i : ℕ) → i < n → getD t i 0 ≤ getD t (i + 1) 0
-  pub steps : (i : ℕ) → i < n → stepsOf (kindOf (getD l i 0)) (getD g (i + 1) 0 - getD g i 0) (getD t (i + 1) 0 - getD t i 0) ≡ true
+pub record Holds (a : Tables) (n : ℕ) : Type 0 where
+  pub genome-from-0 : getD (a .genome) 0 0 ≡ 0
+  pub transcript-from-0 : getD (a .transcript) 0 0 ≡ 0
+  pub letters : (i : ℕ) → i < n → isLetter (getD (a .letters) i 0) ≡ true
+  pub genome-rises : (i : ℕ) → i < n → getD (a .genome) i 0 ≤ getD (a .genome) (i + 1) 0
+  pub transcript-rises : (i : ℕ) → i < n → getD (a .transcript) i 0 ≤ getD (a .transcript) (i + 1) 0
+  pub steps : (i : ℕ) → i < n
+      → stepsOf (kindOf (getD (a .letters) i 0)) (getD (a .genome) (i + 1) 0 - getD (a .genome) i 0) (getD (a .transcript) (i + 1) 0 - getD (a .transcript) i 0) ≡ true
 
 -- ---- the elements that tables stand for
 
 -- the element of segment i: its count is the larger of its two steps
-abbrev pub elementAt : List ℕ → List ℕ → List ℕ → ℕ → Element
-elementAt g t l i = record { count = max (getD g (i + 1) 0 - getD g i 0) (getD t (i + 1) 0 - getD t i 0); letter = getD l i 0 }
+abbrev pub elementAt : Tables → ℕ → Element
+elementAt a i = record { count = max (getD (a .genome) (i + 1) 0 - getD (a .genome) i 0) (getD (a .transcript) (i + 1) 0 - getD (a .transcript) i 0); letter = getD (a .letters) i 0 }
 
 -- of m segments from the segment i on
-unfoldable pub elementsFrom : List ℕ → List ℕ → List ℕ → ℕ → ℕ → List Element
-elementsFrom g t l i zero = []
-elementsFrom g t l i (suc m) = elementAt g t l i ∷ elementsFrom g t l (i + 1) m
+unfoldable pub elementsFrom : Tables → ℕ → ℕ → List Element
+elementsFrom a i zero = []
+elementsFrom a i (suc m) = elementAt a i ∷ elementsFrom a (i + 1) m
 
 -- the elements that the tables of n segments stand for
-abbrev pub read : List ℕ → List ℕ → List ℕ → ℕ → List Element
-read g t l n = elementsFrom g t l 0 n
-
--- ---- a place, mapped by the tables
-
--- of the segments i, i + 1, .., i + m, the first whose end is above p, or else the last
-unfoldable pub firstFrom : List ℕ → ℤ → ℕ → ℕ → ℕ
-firstFrom starts p i zero = i
-firstFrom starts p i (suc m) = cond (ltZ p (pos (getD starts (i + 1) 0))) i (firstFrom starts p (i + 1) m)
-
--- segment i of the tables, for a place of the table `from`
-abbrev pub segmentAt : List ℕ → List ℕ → List ℕ → ℕ → Segment
-segmentAt from to l i = record { does = kindOf (getD l i 0); begins = getD from i 0; ends = getD from (i + 1) 0; other = getD to i 0 }
-
-unfoldable pub mapByTables : List ℕ → List ℕ → List ℕ → ℕ → ℤ → End → Bool → Spot
-mapByTables from to l n p end forward = spotOf (segmentAt from to l (firstFrom from p 0 (n - 1))) p end forward
+abbrev pub read : Tables → ℕ → List Element
+read a n = elementsFrom a 0 n
 
 -- ---- the tables that elements make
 
--- the start of each element, when all before them go to f
-unfoldable pub startsFrom : Side → ℕ → List Element → List ℕ
-startsFrom side f [] = []
-startsFrom side f (x ∷ xs) = f ∷ startsFrom side (f + side x) xs
+-- the entries of one side: the start of each element, when all before them go to f, and then the total
+unfoldable pub entriesFrom : Side → ℕ → List Element → List ℕ
+entriesFrom side f [] = f ∷ []
+entriesFrom side f (x ∷ xs) = f ∷ entriesFrom side (f + side x) xs
+
+abbrev pub entriesOf : Side → List Element → List ℕ
+entriesOf side es = entriesFrom side 0 es
 
 abbrev pub lettersOf : List Element → List ℕ
 lettersOf es = map (λ (x : Element). x .letter) es
 
--- the table of one side: each element's start, the total, and 0 from there on
-unfoldable pub startTable : Side → List Element → List ℕ
-startTable side es = startsFrom side 0 es ++ total side es ∷ replicate (mostSegments - length es) 0
+-- entries in a table of n places: those that are not used hold 0
+unfoldable pub padded : ℕ → List ℕ → List ℕ
+padded n entries = entries ++ replicate (n - length entries) 0
 
--- the table of letters: each element's, and 0 from there on
-unfoldable pub letterTable : List Element → List ℕ
-letterTable es = lettersOf es ++ replicate (mostSegments - length es) 0
+abbrev pub tablesOf : List Element → Tables
+tablesOf es = tables (padded mostStarts (entriesOf genome es)) (padded mostStarts (entriesOf transcript es)) (padded mostSegments (lettersOf es))

@@ -2,14 +2,14 @@
 // Segment i begins at entry i of the two tables of starts and ends at entry i + 1. A place is a whole number and may lie outside the tables on either side.
 ghost use mathlib.Core.Path.{_≡_};
 ghost use mathlib.Core.Bool.{true, cond};
-ghost use Prim.Native.Nat.{_-_, _≤_, _<_};
+ghost use Prim.Native.Nat.{_≤_, _<_};
 ghost use lib.IntN.{pos};
 ghost use lib.Signed.{ltZ};
 ghost use Rattle.refusals.specs.Numbers.{mostSegments};
 ghost use Rattle.whole.specs.Whole.{Within};
 ghost use Rattle.cigar.specs.Elements.{isLetter, kindOf};
-ghost use Rattle.segments.specs.Places.{unsurely, beside, leftNearer, nearer, spotIn};
-ghost use Rattle.segments.specs.Tables.{stepRight, allBelow, knownAt, rightAt, segmentsHold, firstFrom, mapByTables};
+ghost use Rattle.segments.specs.Tables.{tables, stepRight, allBelow, knownAt, rightAt, segmentsHold};
+ghost use Rattle.segments.specs.Places.{indexOf, unsurely, beside, leftNearer, nearer, spotIn, mapByTables};
 ghost use Rattle.segments.specs.Paper.{endSaid, spotSaid, toTranscript, toGenome, Small};
 use numbering::Place;
 use refusals::MOST_SEGMENTS;
@@ -21,11 +21,12 @@ pub enum End {
     Stop,
 }
 
-// A place on the other side, with its offset; it is not sure if it fell in an I or a D.
+// A place on the other side, with its offset; it is not sure if it fell in an I or a D; and the number of the segment that it fell in.
 pub struct Spot {
     pub place: Place,
     pub offset: i64,
     pub sure: bool,
+    pub number: usize,
 }
 
 // Whether the letter is one of = D I M N X.
@@ -81,7 +82,7 @@ fn all_right(
     count: usize,
 ) -> bool
     requires { ⌜ count ≤ mostSegments ⌝ }
-    ensures { λ r. ⌜ r ≡ allBelow (rightAt (now (genome .entry)) (now (transcript .entry)) (now (letters .entry))) count ⌝ }
+    ensures { λ r. ⌜ r ≡ allBelow (rightAt (tables (now (genome .entry)) (now (transcript .entry)) (now (letters .entry)))) count ⌝ }
 {
     let mut ok = true;
     let mut i = 0;
@@ -107,7 +108,7 @@ pub fn segments_hold(
     count: usize,
 ) -> bool
     requires { ⌜ count ≤ mostSegments ⌝ }
-    ensures { λ r. ⌜ r ≡ segmentsHold (now (genome .entry)) (now (transcript .entry)) (now (letters .entry)) count ⌝ }
+    ensures { λ r. ⌜ r ≡ segmentsHold (tables (now (genome .entry)) (now (transcript .entry)) (now (letters .entry))) count ⌝ }
 {
     let begins = (genome[0] == 0) & (transcript[0] == 0);
     let letters_known = all_known(letters, count);
@@ -122,11 +123,11 @@ fn is_above(end: u32, p: i64) -> bool
     p < (end as i64)
 }
 
-// The segment of the place p: the first whose end is above p, or else the last.
+// The number of the segment of the place p: the first whose end is above p, or else the last.
 fn find(starts: &[u32; MOST_STARTS], count: usize, p: i64) -> usize
     requires { ⌜ (1 ≤ count) × (count ≤ mostSegments) ⌝ }
     ensures within { λ r. ⌜ r < count ⌝ }
-    ensures found { λ r. ⌜ r ≡ firstFrom (now (starts .entry)) p 0 (count - 1) ⌝ }
+    ensures found { λ r. ⌜ r ≡ indexOf (now (starts .entry)) count p ⌝ }
 {
     let last = count - 1;
     let mut i = 0;
@@ -146,11 +147,11 @@ fn is_left_nearer(forward: bool, left: i64, right: i64) -> bool
     if forward { left <= right } else { left < right }
 }
 
-// From an N at t: the nearer edge, and how far it is.
-fn nearer_edge(forward: bool, t: u32, left: i64, right: i64) -> Spot
+// From the N with this number at t: the nearer edge, and how far it is.
+fn nearer_edge(number: usize, forward: bool, t: u32, left: i64, right: i64) -> Spot
     requires { ⌜ Within 37 left ⌝ }
     requires { ⌜ Within 37 right ⌝ }
-    ensures said { λ r. ⌜ spotSaid r ≡ nearer forward t left right ⌝ }
+    ensures said { λ r. ⌜ spotSaid r ≡ nearer number forward t left right ⌝ }
     ensures small { λ r. ⌜ Small r ⌝ }
 {
     let place = t as i64;
@@ -160,6 +161,7 @@ fn nearer_edge(forward: bool, t: u32, left: i64, right: i64) -> Spot
             place: Place(before),
             offset: left,
             sure: true,
+            number,
         }
     } else {
         let back = -right;
@@ -167,13 +169,14 @@ fn nearer_edge(forward: bool, t: u32, left: i64, right: i64) -> Spot
             place: Place(place),
             offset: back,
             sure: true,
+            number,
         }
     }
 }
 
 // Beside an I or a D at t: t - 1 for an interval's start, t for its end.
-fn beside_at(end: End, t: u32) -> Spot
-    ensures said { λ r. ⌜ spotSaid r ≡ unsurely (beside (endSaid end) t) ⌝ }
+fn beside_at(number: usize, end: End, t: u32) -> Spot
+    ensures said { λ r. ⌜ spotSaid r ≡ unsurely number (beside (endSaid end) t) ⌝ }
     ensures small { λ r. ⌜ Small r ⌝ }
 {
     let place = t as i64;
@@ -184,20 +187,31 @@ fn beside_at(end: End, t: u32) -> Spot
                 place: Place(before),
                 offset: 0,
                 sure: false,
+                number,
             }
         }
         End::Stop => Spot {
             place: Place(place),
             offset: 0,
             sure: false,
+            number,
         },
     }
 }
 
-// The place p of a segment from f to h, which begins at t on the other side.
-fn spot_in(letter: u8, f: u32, h: u32, t: u32, p: i64, end: End, forward: bool) -> Spot
+// The place p of the segment with this number, which goes from f to h and begins at t on the other side.
+fn spot_in(
+    number: usize,
+    letter: u8,
+    f: u32,
+    h: u32,
+    t: u32,
+    p: i64,
+    end: End,
+    forward: bool,
+) -> Spot
     requires { ⌜ Within 36 p ⌝ }
-    ensures said { λ r. ⌜ spotSaid r ≡ spotIn (kindOf letter) f h t p (endSaid end) forward ⌝ }
+    ensures said { λ r. ⌜ spotSaid r ≡ spotIn number (kindOf letter) f h t p (endSaid end) forward ⌝ }
     ensures small { λ r. ⌜ Small r ⌝ }
 {
     let along = p - (f as i64);
@@ -205,16 +219,17 @@ fn spot_in(letter: u8, f: u32, h: u32, t: u32, p: i64, end: End, forward: bool) 
         b'N' => {
             let left = along + 1;
             let right = (h as i64) - p;
-            nearer_edge(forward, t, left, right)
+            nearer_edge(number, forward, t, left, right)
         }
-        b'I' => beside_at(end, t),
-        b'D' => beside_at(end, t),
+        b'I' => beside_at(number, end, t),
+        b'D' => beside_at(number, end, t),
         _ => {
             let place = (t as i64) + along;
             Spot {
                 place: Place(place),
                 offset: 0,
                 sure: true,
+                number,
             }
         }
     }
@@ -237,7 +252,7 @@ fn map_place(
 {
     let z = p.0;
     let i = find(from, count, z);
-    spot_in(letters[i], from[i], from[i + 1], to[i], z, end, forward)
+    spot_in(i, letters[i], from[i], from[i + 1], to[i], z, end, forward)
 }
 
 // Genome to transcript; forward says whether the strand is 1.
@@ -251,9 +266,9 @@ pub fn genome_to_transcript(
     forward: bool,
 ) -> Spot
     requires { ⌜ (1 ≤ count) × (count ≤ mostSegments) ⌝ }
-    requires { ⌜ segmentsHold (now genome) (now transcript) (now letters) count ≡ true ⌝ }
+    requires { ⌜ segmentsHold (tables (now genome) (now transcript) (now letters)) count ≡ true ⌝ }
     requires { ⌜ Within 36 (p .0) ⌝ }
-    ensures said { λ r. ⌜ spotSaid r ≡ toTranscript (now (genome .entry)) (now (transcript .entry)) (now (letters .entry)) count (p .0) (endSaid end) forward ⌝ }
+    ensures said { λ r. ⌜ spotSaid r ≡ toTranscript (tables (now (genome .entry)) (now (transcript .entry)) (now (letters .entry))) count (p .0) (endSaid end) forward ⌝ }
     ensures small { λ r. ⌜ Small r ⌝ }
 {
     map_place(genome, transcript, letters, count, p, end, forward)
@@ -269,9 +284,9 @@ pub fn transcript_to_genome(
     end: End,
 ) -> Spot
     requires { ⌜ (1 ≤ count) × (count ≤ mostSegments) ⌝ }
-    requires { ⌜ segmentsHold (now genome) (now transcript) (now letters) count ≡ true ⌝ }
+    requires { ⌜ segmentsHold (tables (now genome) (now transcript) (now letters)) count ≡ true ⌝ }
     requires { ⌜ Within 36 (p .0) ⌝ }
-    ensures said { λ r. ⌜ spotSaid r ≡ toGenome (now (genome .entry)) (now (transcript .entry)) (now (letters .entry)) count (p .0) (endSaid end) ⌝ }
+    ensures said { λ r. ⌜ spotSaid r ≡ toGenome (tables (now (genome .entry)) (now (transcript .entry)) (now (letters .entry))) count (p .0) (endSaid end) ⌝ }
     ensures small { λ r. ⌜ Small r ⌝ }
 {
     map_place(transcript, genome, letters, count, p, end, true)

@@ -1,9 +1,9 @@
 -- The common prefix and suffix of two alleles, and the part that changed. An allele is any list of bytes.
 use Prim.Native.Nat.{ℕ, suc, _-_}
 use mathlib.Core.List.{List, [], _∷_, reverse}
-use mathlib.Core.Bool.{Bool, true, false, cond}
+use mathlib.Core.Bool.{Bool, cond}
 use lib.ListN.{length, take, drop}
-use lib.Dec.{eqb, leb}
+use lib.Dec.{eqb, ltb}
 use Rattle.sequences.specs.declared.Part.{Part}
 
 -- how many bytes two lists have in common from the front
@@ -16,9 +16,9 @@ prefixLen (a ∷ s) (b ∷ t) = cond (eqb a b) (suc (prefixLen s t)) 0
 unfoldable pub suffixLen : List ℕ → List ℕ → ℕ
 suffixLen s t = prefixLen (reverse s) (reverse t)
 
--- a list without its last q bytes; `drop p s` is s without its first p
-abbrev pub frontOf : List ℕ → ℕ → List ℕ
-frontOf s q = take (length s - q) s
+-- a list as it is read from the back, or from the front
+abbrev pub along : Bool → List ℕ → List ℕ
+along back s = cond back (reverse s) s
 
 -- prefix then suffix are removed: how many bytes go at the front, and then at the back
 abbrev pub before : List ℕ → List ℕ → ℕ
@@ -27,18 +27,20 @@ before r a = prefixLen r a
 abbrev pub after : List ℕ → List ℕ → ℕ
 after r a = suffixLen (drop (before r a) r) (drop (before r a) a)
 
--- what remains of one of the two
-abbrev pub remains : List ℕ → List ℕ → List ℕ → List ℕ
-remains r a s = frontOf (drop (before r a) s) (after r a)
+-- what remains of the one allele or the other: of which, from where, and to before where
+abbrev pub remains : List ℕ → List ℕ → Bool → Part
+remains r a alternative = record { alternative = alternative; from = before r a; to = length (cond alternative a r) - after r a }
 
 -- what remains of the longer allele, the reference's when lengths tie
+abbrev pub changedPart : List ℕ → List ℕ → Part
+changedPart r a = remains r a (ltb (length r) (length a))
+
+-- the bytes of a list from one place to before another
+abbrev pub stretch : List ℕ → ℕ → ℕ → List ℕ
+stretch s from to = take (to - from) (drop from s)
+
+-- the bytes of the part that changed
 unfoldable pub changedOf : List ℕ → List ℕ → List ℕ
-changedOf r a = cond (leb (length a) (length r)) (remains r a r) (remains r a a)
-
--- where that stands: it begins at `from` and ends before `to`
-abbrev pub standing : Bool → List ℕ → List ℕ → List ℕ → Part
-standing alternative r a s = record { alternative = alternative; from = before r a; to = length s - after r a }
-
--- the same part of the longer allele, by its bounds
-unfoldable pub changedPart : List ℕ → List ℕ → Part
-changedPart r a = cond (leb (length a) (length r)) (standing false r a r) (standing true r a a)
+changedOf r a =
+    let k = changedPart r a in
+    stretch (cond (k .alternative) a r) (k .from) (k .to)

@@ -1,72 +1,78 @@
 // Two alleles: their common prefix and suffix, what is left without them, and the part that changed. Any bytes are taken.
 ghost use mathlib.Core.Path.{_≡_};
-ghost use mathlib.Core.List.{reverse};
-ghost use Prim.Native.Nat.{_<_};
-ghost use lib.ListN.{length, getD, drop};
-ghost use Rattle.sequences.specs.Alleles.{prefixLen, suffixLen, frontOf, changedOf, changedPart};
+ghost use Prim.Native.Nat.{_<_, _≤_};
+ghost use lib.ListN.{length, getD};
+ghost use Rattle.sequences.specs.Alleles.{prefixLen, suffixLen, along, changedPart};
+ghost use Rattle.sequences.specs.Slices.{sliceOf, between, restOf, frontOf, partOf};
+
+// The i-th byte from the back, or from the front.
+fn byte_along(s: &[u8], back: bool, i: usize) -> u8
+    requires { ⌜ i < length (now s) ⌝ }
+    ensures { λ r. ⌜ r ≡ getD (along back (now (s .entry))) i 0 ⌝ }
+{
+    if back { s[s.len() - 1 - i] } else { s[i] }
+}
+
+// How many bytes the two have in common from the back, or from the front.
+fn common(reference: &[u8], alternative: &[u8], back: bool) -> usize
+    ensures { λ r. ⌜ r ≡ prefixLen (along back (now (reference .entry))) (along back (now (alternative .entry))) ⌝ }
+{
+    let mut n = 0;
+    while n < reference.len() {
+        if n >= alternative.len() {
+            return n;
+        }
+        if byte_along(reference, back, n) != byte_along(alternative, back, n) {
+            return n;
+        }
+        n += 1;
+    }
+    n
+}
 
 // How many bytes the two have in common from the front.
 pub fn trim_common_prefixes(reference: &[u8], alternative: &[u8]) -> usize
     ensures { λ r. ⌜ r ≡ prefixLen (now (reference .entry)) (now (alternative .entry)) ⌝ }
 {
-    let mut p = 0;
-    while p < reference.len() {
-        if p >= alternative.len() {
-            return p;
-        }
-        if reference[p] != alternative[p] {
-            return p;
-        }
-        p += 1;
-    }
-    p
-}
-
-// What is left of a slice without its first p bytes.
-pub fn rest(s: &[u8], p: usize) -> &[u8]
-    ensures { λ r. ⌜ now r ≡ drop p (now (s .entry)) ⌝ }
-{
-    let n = s.len();
-    if n < p {
-        return &s[n..];
-    }
-    &s[p..]
-}
-
-// The i-th byte from the back.
-fn from_back(s: &[u8], i: usize) -> u8
-    requires { ⌜ i < length (now s) ⌝ }
-    ensures { λ r. ⌜ r ≡ getD (reverse (now (s .entry))) i 0 ⌝ }
-{
-    s[s.len() - 1 - i]
+    common(reference, alternative, false)
 }
 
 // How many bytes the two have in common from the back.
 pub fn trim_common_suffixes(reference: &[u8], alternative: &[u8]) -> usize
     ensures { λ r. ⌜ r ≡ suffixLen (now (reference .entry)) (now (alternative .entry)) ⌝ }
 {
-    let mut q = 0;
-    while q < reference.len() {
-        if q >= alternative.len() {
-            return q;
-        }
-        if from_back(reference, q) != from_back(alternative, q) {
-            return q;
-        }
-        q += 1;
-    }
-    q
+    common(reference, alternative, true)
 }
 
-// What is left of a slice without its last q bytes.
-pub fn front(s: &[u8], q: usize) -> &[u8]
-    ensures { λ r. ⌜ now r ≡ frontOf (now (s .entry)) q ⌝ }
+// A part of the caller's own slice.
+fn cut(s: &[u8], from: usize, to: usize) -> &[u8]
+    requires { ⌜ (from ≤ to) × (to ≤ length (now s)) ⌝ }
+    ensures { λ r. ⌜ sliceOf r ≡ between (sliceOf (s .entry)) from to ⌝ }
 {
-    if s.len() < q {
-        return &s[..0];
+    &s[from..to]
+}
+
+// What is left of a slice without its first p bytes: where it has fewer, the empty part at its end.
+pub fn rest(s: &[u8], p: usize) -> &[u8]
+    ensures { λ r. ⌜ sliceOf r ≡ restOf (sliceOf (s .entry)) p ⌝ }
+{
+    let n = s.len();
+    if n < p {
+        return cut(s, n, n);
     }
-    let n = s.len() - q;
-    &s[..n]
+    cut(s, p, n)
+}
+
+// What is left of a slice without its last q bytes: where it has fewer, the empty part at its beginning.
+pub fn front(s: &[u8], q: usize) -> &[u8]
+    ensures { λ r. ⌜ sliceOf r ≡ frontOf (sliceOf (s .entry)) q ⌝ }
+{
+    let n = s.len();
+    if n < q {
+        return cut(s, 0, 0);
+    }
+    let to = n - q;
+    cut(s, 0, to)
 }
 
 // A part of one of two alleles: of the alternative or of the reference, and its bounds.
@@ -101,14 +107,14 @@ pub fn changed_part(reference: &[u8], alternative: &[u8]) -> Part
 
 // That part itself, of the caller's own slices.
 pub fn changed<'a>(reference: &'a [u8], alternative: &'a [u8]) -> &'a [u8]
-    ensures { λ r. ⌜ now r ≡ changedOf (now (reference .entry)) (now (alternative .entry)) ⌝ }
+    ensures { λ r. ⌜ sliceOf r ≡ partOf (changedPart (now (reference .entry)) (now (alternative .entry))) (sliceOf (reference .entry)) (sliceOf (alternative .entry)) ⌝ }
 {
     let part = changed_part(reference, alternative);
     let from = part.from;
     let to = part.to;
     if part.alternative {
-        &alternative[from..to]
+        cut(alternative, from, to)
     } else {
-        &reference[from..to]
+        cut(reference, from, to)
     }
 }

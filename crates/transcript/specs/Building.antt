@@ -2,7 +2,7 @@
 use Prim.Native.Nat.{ℕ, _-_}
 use mathlib.Core.Bool.{Bool, cond}
 use mathlib.Core.List.{List, [], _∷_, _++_, reverse}
-use Rattle.cigar.specs.Elements.{Element}
+use Rattle.cigar.specs.Elements.{Element, letterN}
 use Rattle.transcript.specs.Transcript.{Transcript, Cds}
 
 -- one record: its genome bounds, and its elements in transcript direction
@@ -17,7 +17,7 @@ partsOf forward r = cond forward (r .parts) (reverse (r .parts))
 
 -- the N between a record and the one before it, even when its length is 0
 abbrev pub gap : ℕ → Exon → Element
-gap previous-end r = record { count = r .alt-start - previous-end; letter = 78 }
+gap previous-end r = record { count = r .alt-start - previous-end; letter = letterN }
 
 -- the elements of the records after one that ends at e
 unfoldable pub elementsAfter : Bool → ℕ → List Exon → List Element

@@ -1,32 +1,42 @@
-// Rows that put a question to a lent transcript: each asks the boundary and says whether it answers as recorded.
+// Rows that put a question to a lent transcript: a row is decoded into its question, the boundary is asked, and its answer is held to the recorded one.
 ghost use Prim.Native.Nat.{_≤_};
 use crate::calls;
 use crate::rows;
 use entry::ask;
-use entry::lay::Answer;
-use entry::lay::Position;
-use entry::lay::Said;
+use layout::lay::Answer;
+use layout::lay::Position;
+use layout::lay::Said;
 use refusals::MOST_SEGMENTS;
 use refusals::MOST_STARTS;
 
-// Whether bounds are strict: bit 0 of the flags.
-fn is_strict(row: &[u8]) -> bool {
-    rows::flags(row) % 2 == 1
+// A row's question. What its call does not take is not looked at.
+struct Question {
+    call: usize,
+    start: i32,
+    start_offset: i32,
+    start_star: bool,
+    end: i32,
+    end_offset: i32,
+    end_star: bool,
+    missing: u32,
+    strict: bool,
 }
 
-// Whether the start has a star: bit 1.
-fn start_star(row: &[u8]) -> bool {
-    rows::flags(row) / 2 % 2 == 1
-}
-
-// Whether the end has a star: bit 2.
-fn end_star(row: &[u8]) -> bool {
-    rows::flags(row) / 4 % 2 == 1
-}
-
-// Which ends are missing, as the boundary has it: bits 3 and 4.
-fn missing(row: &[u8]) -> u32 {
-    rows::flags(row) / 8 % 4
+// The question of a row. Bit 0 of its flags says that bounds are strict, bits 1 and 2 that start and end have a star, and bits 3 and 4 which ends are missing,
+// as the boundary has it.
+fn question_of(row: &[u8]) -> Question {
+    let flags = rows::flags(row);
+    Question {
+        call: rows::call(row),
+        start: rows::number(row, 0),
+        start_offset: rows::number(row, 1),
+        start_star: flags / 2 % 2 == 1,
+        end: rows::number(row, 2),
+        end_offset: rows::number(row, 3),
+        end_star: flags / 4 % 2 == 1,
+        missing: flags / 8 % 4,
+        strict: flags % 2 == 1,
+    }
 }
 
 // Whether three words of the answer, from one on, are this position.
@@ -53,170 +63,111 @@ fn same_said(row: &[u8], a: Said) -> bool {
         & rows::expects_no_more(row, 2)
 }
 
-// Whether `txc_g_to_n` answers as recorded.
-fn g_to_n(
-    row: &[u8],
+// What is answered to a g. interval, in c. or in n.
+fn from_g(
+    q: Question,
     head: &[i32; 8],
     genome: &[u32; MOST_STARTS],
     transcript: &[u32; MOST_STARTS],
     letters: &[u8; MOST_SEGMENTS],
-) -> bool {
-    let answer = ask::txc_g_to_n(
+) -> Answer {
+    let call = q.call;
+    if call == calls::G_TO_C {
+        return ask::txc_g_to_c(
+            head,
+            genome,
+            transcript,
+            letters,
+            q.start,
+            q.end,
+            q.missing,
+            q.strict,
+        );
+    }
+    ask::txc_g_to_n(
         head,
         genome,
         transcript,
         letters,
-        rows::number(row, 0),
-        rows::number(row, 2),
-        missing(row),
-        is_strict(row),
-    );
-    same_answer(row, answer)
+        q.start,
+        q.end,
+        q.missing,
+        q.strict,
+    )
 }
 
-// Whether `txc_g_to_c` answers as recorded.
-fn g_to_c(
-    row: &[u8],
+// What is answered to an n. interval, in c. or in g.
+fn from_n(
+    q: Question,
     head: &[i32; 8],
     genome: &[u32; MOST_STARTS],
     transcript: &[u32; MOST_STARTS],
     letters: &[u8; MOST_SEGMENTS],
-) -> bool {
-    let answer = ask::txc_g_to_c(
+) -> Answer {
+    let call = q.call;
+    if call == calls::N_TO_C {
+        return ask::txc_n_to_c(
+            head,
+            genome,
+            transcript,
+            letters,
+            q.start,
+            q.start_offset,
+            q.end,
+            q.end_offset,
+            q.strict,
+        );
+    }
+    ask::txc_n_to_g(
         head,
         genome,
         transcript,
         letters,
-        rows::number(row, 0),
-        rows::number(row, 2),
-        missing(row),
-        is_strict(row),
-    );
-    same_answer(row, answer)
+        q.start,
+        q.start_offset,
+        q.end,
+        q.end_offset,
+        q.strict,
+    )
 }
 
-// Whether `txc_n_to_g` answers as recorded.
-fn n_to_g(
-    row: &[u8],
+// What is answered to a c. interval, in n. or in g.
+fn from_c(
+    q: Question,
     head: &[i32; 8],
     genome: &[u32; MOST_STARTS],
     transcript: &[u32; MOST_STARTS],
     letters: &[u8; MOST_SEGMENTS],
-) -> bool {
-    let answer = ask::txc_n_to_g(
+) -> Answer {
+    let call = q.call;
+    if call == calls::C_TO_N {
+        return ask::txc_c_to_n(
+            head,
+            genome,
+            transcript,
+            letters,
+            q.start,
+            q.start_offset,
+            q.start_star,
+            q.end,
+            q.end_offset,
+            q.end_star,
+            q.strict,
+        );
+    }
+    ask::txc_c_to_g(
         head,
         genome,
         transcript,
         letters,
-        rows::number(row, 0),
-        rows::number(row, 1),
-        rows::number(row, 2),
-        rows::number(row, 3),
-        is_strict(row),
-    );
-    same_answer(row, answer)
-}
-
-// Whether `txc_n_to_c` answers as recorded.
-fn n_to_c(
-    row: &[u8],
-    head: &[i32; 8],
-    genome: &[u32; MOST_STARTS],
-    transcript: &[u32; MOST_STARTS],
-    letters: &[u8; MOST_SEGMENTS],
-) -> bool {
-    let answer = ask::txc_n_to_c(
-        head,
-        genome,
-        transcript,
-        letters,
-        rows::number(row, 0),
-        rows::number(row, 1),
-        rows::number(row, 2),
-        rows::number(row, 3),
-        is_strict(row),
-    );
-    same_answer(row, answer)
-}
-
-// Whether `txc_c_to_n` answers as recorded.
-fn c_to_n(
-    row: &[u8],
-    head: &[i32; 8],
-    genome: &[u32; MOST_STARTS],
-    transcript: &[u32; MOST_STARTS],
-    letters: &[u8; MOST_SEGMENTS],
-) -> bool {
-    let answer = ask::txc_c_to_n(
-        head,
-        genome,
-        transcript,
-        letters,
-        rows::number(row, 0),
-        rows::number(row, 1),
-        start_star(row),
-        rows::number(row, 2),
-        rows::number(row, 3),
-        end_star(row),
-        is_strict(row),
-    );
-    same_answer(row, answer)
-}
-
-// Whether `txc_c_to_g` answers as recorded.
-fn c_to_g(
-    row: &[u8],
-    head: &[i32; 8],
-    genome: &[u32; MOST_STARTS],
-    transcript: &[u32; MOST_STARTS],
-    letters: &[u8; MOST_SEGMENTS],
-) -> bool {
-    let answer = ask::txc_c_to_g(
-        head,
-        genome,
-        transcript,
-        letters,
-        rows::number(row, 0),
-        rows::number(row, 1),
-        start_star(row),
-        rows::number(row, 2),
-        rows::number(row, 3),
-        end_star(row),
-        is_strict(row),
-    );
-    same_answer(row, answer)
-}
-
-// Whether `txc_in_bounds` answers as recorded.
-fn in_bounds(
-    row: &[u8],
-    head: &[i32; 8],
-    genome: &[u32; MOST_STARTS],
-    transcript: &[u32; MOST_STARTS],
-    letters: &[u8; MOST_SEGMENTS],
-) -> bool {
-    let answer = ask::txc_in_bounds(
-        head,
-        genome,
-        transcript,
-        letters,
-        rows::number(row, 0),
-        rows::number(row, 2),
-        missing(row),
-    );
-    same_said(row, answer)
-}
-
-// Whether `txc_is_coding` answers as recorded.
-fn is_coding(
-    row: &[u8],
-    head: &[i32; 8],
-    genome: &[u32; MOST_STARTS],
-    transcript: &[u32; MOST_STARTS],
-    letters: &[u8; MOST_SEGMENTS],
-) -> bool {
-    let answer = ask::txc_is_coding(head, genome, transcript, letters);
-    same_said(row, answer)
+        q.start,
+        q.start_offset,
+        q.start_star,
+        q.end,
+        q.end_offset,
+        q.end_star,
+        q.strict,
+    )
 }
 
 // Whether a question is answered as recorded.
@@ -227,15 +178,27 @@ pub(crate) fn agrees(
     transcript: &[u32; MOST_STARTS],
     letters: &[u8; MOST_SEGMENTS],
 ) -> bool {
+    let q = question_of(row);
     match rows::call(row) {
-        calls::G_TO_N => g_to_n(row, head, genome, transcript, letters),
-        calls::G_TO_C => g_to_c(row, head, genome, transcript, letters),
-        calls::N_TO_G => n_to_g(row, head, genome, transcript, letters),
-        calls::N_TO_C => n_to_c(row, head, genome, transcript, letters),
-        calls::C_TO_N => c_to_n(row, head, genome, transcript, letters),
-        calls::C_TO_G => c_to_g(row, head, genome, transcript, letters),
-        calls::IN_BOUNDS => in_bounds(row, head, genome, transcript, letters),
-        calls::IS_CODING => is_coding(row, head, genome, transcript, letters),
+        calls::G_TO_N => same_answer(row, from_g(q, head, genome, transcript, letters)),
+        calls::G_TO_C => same_answer(row, from_g(q, head, genome, transcript, letters)),
+        calls::N_TO_G => same_answer(row, from_n(q, head, genome, transcript, letters)),
+        calls::N_TO_C => same_answer(row, from_n(q, head, genome, transcript, letters)),
+        calls::C_TO_N => same_answer(row, from_c(q, head, genome, transcript, letters)),
+        calls::C_TO_G => same_answer(row, from_c(q, head, genome, transcript, letters)),
+        calls::IN_BOUNDS => {
+            let said = ask::txc_in_bounds(
+                head,
+                genome,
+                transcript,
+                letters,
+                q.start,
+                q.end,
+                q.missing,
+            );
+            same_said(row, said)
+        }
+        calls::IS_CODING => same_said(row, ask::txc_is_coding(head, genome, transcript, letters)),
         _ => false,
     }
 }

@@ -5,7 +5,7 @@ ghost use Rattle.vectors.specs.Sizes.{mostRoom};
 use crate::calls;
 use crate::rows;
 use card::RECORDS_AT;
-use entry::lay::Length;
+use layout::lay::Length;
 use refusals::MOST_SEGMENTS;
 
 // The most bytes that a row lends as a buffer.

@@ -5,9 +5,10 @@ use hgvs::{
     mapper::alignment::Mapper,
     parser::{CdsInterval, GenomeInterval},
 };
+use pulindraxi::boundary::Asked;
 use trials::{
     draw::{Case, Record},
-    paper::{self, Asked, Source},
+    paper::{self, Source},
     Kind, Lent, Question,
 };
 
@@ -63,11 +64,11 @@ impl Asking {
         let source = Source::Records(paper::build(case.laid(&bytes)).expect("it builds"));
         let mut lent = Lent::filled(0);
         assert_eq!(lent.build(case.laid(&bytes)), 0);
-        assert_eq!(lent.head[3] as usize, segments);
+        assert_eq!(lent.head.segment_count as usize, segments);
         let genome = u64::from(lent.genome[segments]);
         // 7,919 is a prime that doesn't divide the number of positions.
         let place = |index: usize| (index * 7_919 % POSITIONS) as u64 * genome / POSITIONS as u64;
-        let g = (0..POSITIONS).map(|index| lent.head[2] + 1 + place(index) as i32).collect();
+        let g = (0..POSITIONS).map(|index| lent.head.first_start + 1 + place(index) as i32).collect();
         Asking { case, lent, source, g }
     }
 

@@ -5,7 +5,10 @@ use std::{
     io::{BufRead, Write},
 };
 
-use pulindraxi::{Bounds, CInterval, GInterval, NInterval, NoName, Refusal, Transcript};
+use pulindraxi::{
+    asked::{CInterval, GInterval, NInterval},
+    Bounds, NoName, Refusal, Transcript,
+};
 
 use crate::Outcome;
 

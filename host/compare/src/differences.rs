@@ -1,14 +1,13 @@
 //! The listed differences: for each a smallest input, run on the crate and on the port.
 
-use hgvs::mapper::{alignment::Mapper, cigar::CigarString};
+use hgvs::mapper::alignment::Mapper;
 use pulindraxi::{
-    alleles,
-    boundary::{self, Answer},
-    cigar, CInterval, CPosition, Element, GInterval, NInterval, NPosition, Refusal,
+    alleles, answered, asked,
+    boundary::{self, Answer, Asked, AskedG, Cds},
+    cigar, Element, Refusal,
 };
 use trials::{
     draw::{Case, Record},
-    paper::Asked,
     Kind, Lent, Question,
 };
 
@@ -28,10 +27,6 @@ fn outcome<T>(outcome: Outcome<T>, say: impl FnOnce(T) -> String) -> String {
         Outcome::Refused(refusal) => format!("an error ({})", refusal.number()),
         Outcome::Panicked => "panics".into(),
     }
-}
-
-fn refusal(number: u32) -> Option<String> {
-    Refusal::from_number(number).map(|refusal| format!("refuses {}", refusal.number()))
 }
 
 fn said<T>(result: Result<T, Refusal>, say: impl FnOnce(T) -> String) -> String {
@@ -95,8 +90,8 @@ fn described(case: &Case) -> String {
 fn port_build(case: &Case) -> (Lent, String) {
     let mut lent = Lent::filled(0);
     let bytes = case.lay();
-    let number = lent.build(case.laid(&bytes));
-    (lent, refusal(number).unwrap_or_else(|| builds(())))
+    let built = Refusal::check(lent.build(case.laid(&bytes)));
+    (lent, said(built, builds))
 }
 
 /// A transcript that the two build differently.
@@ -106,48 +101,48 @@ fn building(about: &'static str, case: Case) -> Row {
 }
 
 fn building_length(about: &'static str, length: i32, cds: Option<[i32; 2]>) -> Row {
-    let case = case(1, cds, Vec::new());
-    let from = case.laid(&[]);
-    let mut lent = Lent::filled(0);
-    let number = boundary::txc_build_length(length, from.cds, from.cds_start, from.cds_end, &mut lent.head);
+    let (start, end) = cds.map(|[start, end]| (start, end)).unzip();
+    let built = boundary::build_length(length, Cds::new(start, end), &mut Lent::filled(0).head);
     let cds = cds.map_or(String::new(), |[start, end]| format!(", CDS {start}..{end}"));
     Row {
         about,
         input: format!("length-only, length {length}{cds}"),
-        original: outcome(original::build_length(length, case.cds_start, case.cds_end), builds),
-        port: refusal(number).unwrap_or_else(|| builds(())),
+        original: outcome(original::build_length(length, start, end), builds),
+        port: said(Refusal::check(built), builds),
     }
 }
 
-/// The name of an answer to a question.
-fn name(kind: Kind, answer: Answer) -> String {
-    let n = |p: boundary::Position| NPosition::new(p.base, p.offset);
-    let c = |p: boundary::Position| CPosition { base: p.base, offset: p.offset, star: p.star != 0 };
-    let (a, b) = (answer.start, answer.end);
-    let mark = |certain: bool, name: String| if certain { name } else { format!("{name}, uncertain") };
+/// The name of an interval, with its mark.
+fn marked<T: ToString>(certain: bool, interval: T) -> String {
+    format!("{}{}", interval.to_string(), if certain { "" } else { ", uncertain" })
+}
+
+/// The name of an answer to a question, or its refusal.
+fn name(kind: Kind, answer: Answer) -> Result<String, Refusal> {
+    let certain = answer.mark != Answer::UNCERTAIN;
     match kind {
-        Kind::NToG | Kind::CToG => mark(answer.mark == 1, GInterval::new(a.base, b.base).to_string()),
-        Kind::GToN => mark(answer.mark == 1, NInterval::new(n(a), n(b)).to_string()),
-        Kind::CToN => NInterval::new(n(a), n(b)).to_string(),
-        Kind::GToC => mark(answer.mark == 1, CInterval::new(c(a), c(b)).to_string()),
-        Kind::NToC => CInterval::new(c(a), c(b)).to_string(),
-        Kind::InBounds | Kind::IsCoding => if answer.mark == 1 { "yes" } else { "no" }.into(),
+        Kind::NToG | Kind::CToG => answered::GInterval::try_from(answer).map(|g| marked(certain, g)),
+        Kind::GToN | Kind::CToN => answered::NInterval::try_from(answer).map(|n| marked(certain, n)),
+        Kind::GToC | Kind::NToC => answered::CInterval::try_from(answer).map(|c| marked(certain, c)),
+        Kind::InBounds | Kind::IsCoding => {
+            Refusal::check(answer.number).map(|()| if answer.mark == 1 { "yes" } else { "no" }.into())
+        }
     }
 }
 
 fn asked_name(question: &Question) -> String {
-    let Question { kind, start: a, end: b, missing, strict } = *question;
-    let n = |p: Asked| NPosition::new(p.base, p.offset);
-    let c = |p: Asked| CPosition { base: p.base, offset: p.offset, star: p.star };
-    let g = GInterval { start: (missing & 1 == 0).then_some(a.base), end: (missing & 2 == 0).then_some(b.base) };
+    let Question { kind, start, end, strict, .. } = *question;
+    let g = asked::GInterval::from(question.g());
+    let n = asked::NInterval::new(start.into(), end.into());
+    let c = asked::CInterval::new(start.into(), end.into());
     let mode = if strict { "strict" } else { "lenient" };
     match kind {
         Kind::GToN => format!("{mode} {g} to n."),
         Kind::GToC => format!("{mode} {g} to c."),
-        Kind::NToG => format!("{mode} {} to g.", NInterval::new(n(a), n(b))),
-        Kind::NToC => format!("{mode} {} to c.", NInterval::new(n(a), n(b))),
-        Kind::CToN => format!("{mode} {} to n.", CInterval::new(c(a), c(b))),
-        Kind::CToG => format!("{mode} {} to g.", CInterval::new(c(a), c(b))),
+        Kind::NToG => format!("{mode} {n} to g."),
+        Kind::NToC => format!("{mode} {n} to c."),
+        Kind::CToN => format!("{mode} {c} to n."),
+        Kind::CToG => format!("{mode} {c} to g."),
         Kind::InBounds => format!("{g} in bounds"),
         Kind::IsCoding => "coding".into(),
     }
@@ -155,12 +150,12 @@ fn asked_name(question: &Question) -> String {
 
 /// A question on which a transcript of both sides differs.
 fn asking(about: &'static str, what: String, mapper: &mut Mapper, lent: &Lent, question: &Question) -> Row {
-    let answer = question.ask(lent);
+    let named = |answer| said(name(question.kind, answer), String::from);
     Row {
         about,
         input: format!("{what}: {}", asked_name(question)),
-        original: outcome(original::ask(mapper, question), |answer| name(question.kind, answer)),
-        port: refusal(answer.number).unwrap_or_else(|| name(question.kind, answer)),
+        original: outcome(original::ask(mapper, question), named),
+        port: named(question.ask(lent)),
     }
 }
 
@@ -173,7 +168,7 @@ fn asking_case(about: &'static str, case: &Case, question: &Question) -> Row {
 fn asking_length(about: &'static str, length: i32, question: &Question) -> Row {
     let Outcome::Answered(mut mapper) = original::build_length(length, None, None) else { panic!("it builds") };
     let mut lent = Lent::filled(0);
-    boundary::txc_build_length(length, 0, 0, 0, &mut lent.head);
+    boundary::build_length(length, Cds::new(None, None), &mut lent.head);
     asking(about, format!("length-only, length {length}"), &mut mapper, &lent, question)
 }
 
@@ -214,7 +209,7 @@ fn narrowings() -> Vec<Row> {
         building("12", case(1, Some([0, 2]), one_base())),
         building_length("12", 1, Some([0, 2])),
         asking_length("18", 0, &at(Kind::InBounds, 1, 0, false)),
-        asking_length("18", 0, &Question { missing: 1, ..at(Kind::GToN, 1, 0, true) }),
+        asking_length("18", 0, &Question { missing: AskedG::START, ..at(Kind::GToN, 1, 0, true) }),
         damaged(),
     ]
 }
@@ -246,25 +241,19 @@ fn panics() -> Vec<Row> {
         asking_case("17", &coding, &at(Kind::NToC, i32::MIN, 0, false)),
         asking_case("17", &coding, &at(Kind::CToN, i32::MAX, 0, false)),
         asking_length("18", 0, &at(Kind::GToN, 1, 0, true)),
-        asking_case("19", &plain, &Question { missing: 1, ..at(Kind::InBounds, 1, 0, false) }),
+        asking_case("19", &plain, &Question { missing: AskedG::START, ..at(Kind::InBounds, 1, 0, false) }),
         asking_case("an answer", &plain, &at(Kind::InBounds, i32::MIN, 0, false)),
         asking_case("an answer", &backwards, &at(Kind::NToG, i32::MAX, i32::MIN, false)),
     ]
 }
 
-/// What the crate prints for an element.
-fn printed(count: i32) -> String {
-    let Some(Outcome::Answered(CigarString { mut elems })) = original::read_cigar(b"M") else { panic!("it reads") };
-    elems[0].count = count;
-    format!("`{}`", CigarString { elems })
-}
-
 fn texts() -> Vec<Row> {
+    let text = |bytes: Vec<u8>| format!("`{}`", String::from_utf8_lossy(&bytes));
     let writing = |count: i32| Row {
         about: "printing",
         input: format!("count {count}, letter M"),
-        original: printed(count),
-        port: said(cigar::write(&[Element::new(count, b'M')]), |text| format!("`{}`", String::from_utf8_lossy(&text))),
+        original: outcome(original::write_cigar(&[Element::new(count, b'M')]), text),
+        port: said(cigar::write(&[Element::new(count, b'M')]), text),
     };
     let ([a, b], [c, d]) = (["é", "è"], ["é", "ĩ"]);
     let front = |r: &str, a: &str| {

@@ -3,7 +3,7 @@
 use std::{error::Error, fs, path::PathBuf, process::ExitCode};
 
 use clap::{Parser, Subcommand};
-use compare::{differences, original, random, record, small, Judge};
+use compare::{differences, original, random, record, small, Entries, Judge};
 
 /// Compares the port with crate hgvs 4.0.1.
 #[derive(Parser)]
@@ -36,7 +36,7 @@ enum Command {
     },
     /// Run the listed differences on both sides and print them as rows of a table
     Differences {
-        /// Say which rows this file lacks instead
+        /// Say instead which rows this file lacks, and which of its rows are not run
         #[arg(long)]
         check: Option<PathBuf>,
     },
@@ -48,8 +48,8 @@ enum Command {
 }
 
 /// Compares, and says whether nothing differs.
-fn compare(work: impl FnOnce(&mut Judge)) -> Result<bool, Box<dyn Error>> {
-    let mut judge = Judge::default();
+fn compare(work: impl FnOnce(&mut Judge<Entries>)) -> Result<bool, Box<dyn Error>> {
+    let mut judge = Judge::new(Entries::default());
     work(&mut judge);
     Ok(judge.report())
 }
@@ -70,11 +70,18 @@ fn run(command: Command) -> Result<bool, Box<dyn Error>> {
             let text = fs::read_to_string(file)?;
             let rows = differences::run()?;
             let lacking: Vec<_> = rows.iter().filter(|row| !text.lines().any(|line| line == *row)).collect();
+            // The head of a table names the crate.
+            let is_row = |line: &&str| line.starts_with("| ") && !line.contains("| crate hgvs");
+            let stale: Vec<_> =
+                text.lines().filter(is_row).filter(|line| !rows.iter().any(|row| row == line)).collect();
             for row in &lacking {
                 println!("not listed: {row}");
             }
-            println!("{} differences, {} not listed", rows.len(), lacking.len());
-            Ok(lacking.is_empty())
+            for row in &stale {
+                println!("listed, not run: {row}");
+            }
+            println!("{} differences, {} not listed, {} listed and not run", rows.len(), lacking.len(), stale.len());
+            Ok(lacking.is_empty() && stale.is_empty())
         }
         Command::Replay { file } => {
             let rows = trials::recorded::replay(&fs::read(file)?)?;

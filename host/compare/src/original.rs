@@ -16,7 +16,7 @@ use hgvs::{
     },
     mapper::{
         alignment::{Config, Mapper},
-        cigar::{parse_cigar_string, CigarString},
+        cigar::{parse_cigar_string, CigarElement, CigarOp, CigarString},
         Error,
     },
     parser::{CdsFrom, CdsInterval, CdsPos, GenomeInterval, Mu, TxInterval, TxPos},
@@ -24,10 +24,11 @@ use hgvs::{
 };
 use indexmap::IndexMap;
 use pulindraxi::{
-    boundary::{Answer, Position},
-    Refusal,
+    asked,
+    boundary::{Answer, Asked, Position},
+    Element, Refusal,
 };
-use trials::{draw::Case, paper::Asked, Kind, Question};
+use trials::{draw::Case, Kind, Question};
 
 /// What the crate did.
 #[derive(Clone, Debug, PartialEq)]
@@ -83,7 +84,7 @@ fn refusal_of(error: &Error) -> Refusal {
     match error {
         Error::NoExons(..) | Error::EmptyExons => Refusal::NoRecords,
         Error::NonAdjacentExons(..) => Refusal::NotAdjacent,
-        Error::InvalidCigarString(_) => Refusal::NoElement,
+        Error::InvalidCigarString(_) | Error::InvalidCigarValue(_) => Refusal::NoElement,
         Error::InconsistentCdsStartEnd => Refusal::HalfCds,
         Error::CdsUndefined(_) => Refusal::NotCoding,
         Error::PositionBeyondTranscriptBounds(..) => Refusal::Outside,
@@ -190,10 +191,8 @@ fn offset(asked: Asked) -> Option<i32> {
 
 /// The g. interval of a question, for the crate.
 pub fn g_interval(question: &Question) -> GenomeInterval {
-    GenomeInterval {
-        start: (question.missing & 1 == 0).then_some(question.start.base),
-        end: (question.missing & 2 == 0).then_some(question.end.base),
-    }
+    let asked::GInterval { start, end } = question.g().into();
+    GenomeInterval { start, end }
 }
 
 fn n_interval(question: &Question) -> TxInterval {
@@ -245,13 +244,13 @@ fn answer(mark: u32, interval: &impl Interval) -> Answer {
 
 fn marked<T: Interval>(result: Result<Mu<T>, Error>) -> Result<Answer, Error> {
     result.map(|mu| match mu {
-        Mu::Certain(interval) => answer(1, &interval),
-        Mu::Uncertain(interval) => answer(2, &interval),
+        Mu::Certain(interval) => answer(Answer::CERTAIN, &interval),
+        Mu::Uncertain(interval) => answer(Answer::UNCERTAIN, &interval),
     })
 }
 
 fn unmarked<T: Interval>(result: Result<T, Error>) -> Result<Answer, Error> {
-    result.map(|interval| answer(3, &interval))
+    result.map(|interval| answer(Answer::UNMARKED, &interval))
 }
 
 fn said(yes: bool) -> Result<Answer, Error> {
@@ -274,9 +273,22 @@ pub fn ask(mapper: &mut Mapper, question: &Question) -> Outcome<Answer> {
 }
 
 /// What the crate reads from CIGAR text; none where the text is not UTF-8.
-pub fn read_cigar(text: &[u8]) -> Option<Outcome<CigarString>> {
+pub fn read_cigar(text: &[u8]) -> Option<Outcome<Vec<Element>>> {
     let text = std::str::from_utf8(text).ok()?;
-    Some(guarded(|| parse_cigar_string(text)))
+    let element = |element: &CigarElement| Element::new(element.count, char::from(element.op) as u8);
+    Some(guarded(|| parse_cigar_string(text)).map(|cigar| cigar.iter().map(element).collect()))
+}
+
+/// What the crate prints for elements.
+pub fn write_cigar(elements: &[Element]) -> Outcome<Vec<u8>> {
+    let element = |element: &Element| {
+        let op = CigarOp::try_from(char::from(element.letter))?;
+        Ok(CigarElement { count: element.count, op })
+    };
+    guarded(|| {
+        let elems = elements.iter().map(element).collect::<Result<_, Error>>()?;
+        Ok(CigarString { elems }.to_string().into_bytes())
+    })
 }
 
 /// How many bytes the crate trims from the front and from the back; none where an allele is not UTF-8.

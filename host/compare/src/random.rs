@@ -4,7 +4,7 @@ use rand::{seq::SliceRandom, Rng, SeedableRng};
 use rand_xorshift::XorShiftRng;
 use trials::draw;
 
-use crate::judge::Judge;
+use crate::{Judge, Port};
 
 /// How many questions each transcript is asked.
 const QUESTIONS: u64 = 40;
@@ -26,7 +26,7 @@ fn allele<R: Rng>(rng: &mut R) -> Vec<u8> {
 }
 
 /// Compares at least `count` calls.
-pub fn run(judge: &mut Judge, seed: u64, count: u64) {
+pub fn run<P: Port>(judge: &mut Judge<P>, seed: u64, count: u64) {
     let mut rng = XorShiftRng::seed_from_u64(seed);
     let mut calls = 0;
     while calls < count {
@@ -48,7 +48,9 @@ pub fn run(judge: &mut Judge, seed: u64, count: u64) {
             calls += QUESTIONS;
         }
         judge.cigar(&text(&mut rng));
+        let (elements, room) = draw::elements(&mut rng);
+        judge.write_cigar(&elements, room);
         judge.trim(&allele(&mut rng), &allele(&mut rng));
-        calls += 4;
+        calls += 5;
     }
 }

@@ -4,15 +4,15 @@
 use std::collections::BTreeMap;
 
 use pulindraxi::{
-    boundary::Laid,
+    boundary::{Asked, Cds, Head, Laid},
     limits::{MOST_CARD, MOST_SEGMENTS, MOST_TEXT},
-    Refusal,
+    Element, Refusal,
 };
 use rand::{seq::SliceRandom, Rng, SeedableRng};
 use rand_xorshift::XorShiftRng;
 use trials::{
     draw::{self, Case, Record},
-    paper::{self, Aligned, Asked, Source},
+    paper::{self, Aligned, Source},
     recorded::{self, Call, Row},
     Kind, Lent, Question,
 };
@@ -69,11 +69,11 @@ fn number<T>(result: &Result<T, Refusal>) -> u32 {
 fn letter(source: &Source, question: &Question) -> u8 {
     let Source::Records(Aligned { strand, first, genome, transcript, letters, .. }) = source else { return 0 };
     let n = match question.kind {
-        Kind::CToN | Kind::CToG => source.c_to_n(question.start, question.start, false).map_or(0, |n| n.start.base),
+        kind if kind.is_about_c() => source.c_to_n(question.start, question.start, false).map_or(0, |n| n.start.base),
         _ => question.start.base,
     };
     let (starts, place) = match question.kind {
-        Kind::GToN | Kind::GToC | Kind::InBounds => (genome, i64::from(question.start.base) - 1 - first),
+        kind if kind.is_about_g() => (genome, i64::from(question.start.base) - 1 - first),
         _ if *strand == 1 => (transcript, i64::from(n) - 1),
         _ => (transcript, transcript[letters.len()] - i64::from(n)),
     };
@@ -86,10 +86,9 @@ fn extremes() -> Vec<Question> {
     let ends = [i32::MIN, i32::MIN + 1, i32::MAX];
     let mut questions = Vec::new();
     for kind in [Kind::GToN, Kind::GToC, Kind::NToG, Kind::NToC, Kind::CToN, Kind::CToG] {
-        let has_offset = !matches!(kind, Kind::GToN | Kind::GToC);
         for base in ends {
-            for offset in if has_offset { &ends[..] } else { &[0] } {
-                let star = matches!(kind, Kind::CToN | Kind::CToG) && *offset == i32::MAX;
+            for offset in if kind.is_about_g() { &[0] } else { &ends[..] } {
+                let star = kind.is_about_c() && *offset == i32::MAX;
                 let at = Asked { base, offset: *offset, star };
                 questions.push(Question { kind, start: at, end: at, missing: 0, strict: false });
             }
@@ -100,22 +99,28 @@ fn extremes() -> Vec<Question> {
 
 /// Building's input that was laid out, taken apart again.
 fn case_of(from: Laid<'_>) -> Option<Case> {
-    let given = |bit: u32, bound: i32| (from.cds & bit != 0).then_some(bound);
+    let given = |bit: u32, bound: i32| (from.cds.bits & bit != 0).then_some(bound);
     let records = paper::records(from.count, from.records)?.into_iter().map(|exon| Record {
         numbers: [exon.alt_start_i, exon.alt_end_i, exon.tx_start_i, exon.tx_end_i, exon.ord],
         cigar: exon.cigar.to_vec(),
     });
     Some(Case {
         strand: from.strand,
-        cds_start: given(1, from.cds_start),
-        cds_end: given(2, from.cds_end),
+        cds_start: given(Cds::START, from.cds.start),
+        cds_end: given(Cds::END, from.cds.end),
         records: records.collect(),
     })
 }
 
 /// Elements of five bytes each.
-fn five_bytes(elements: &[paper::Counted]) -> Vec<u8> {
-    elements.iter().flat_map(|&(count, letter)| (count as i32).to_le_bytes().into_iter().chain([letter])).collect()
+fn five_bytes(elements: &[Element]) -> Vec<u8> {
+    elements.iter().flat_map(|element| element.count.to_le_bytes().into_iter().chain([element.letter])).collect()
+}
+
+/// The row of a call that takes building's input.
+fn row_of(call: Call, from: Laid<'_>, room: usize) -> Row {
+    let numbers = [from.strand, from.cds.start, from.cds.end, from.count as i32, room as i32, 0];
+    Row { flags: from.cds.bits as u8, numbers, payload: from.records.to_vec(), ..Row::new(call) }
 }
 
 impl Recorder {
@@ -133,11 +138,7 @@ impl Recorder {
     /// A row of building; the memory follows it.
     fn push_built(&mut self, row: Row, expected: &Result<Source, Refusal>, origin: Origin) {
         if let Ok(source) = expected {
-            let tables = self.lent.clone();
-            self.lent = match source {
-                Source::Records(_) => Lent::of(source),
-                Source::Length(..) => Lent { head: Box::new(source.head()), ..tables },
-            };
+            self.lent = self.lent.clone().holding(source);
         }
         let answer = recorded::built(number(expected), &self.lent);
         self.push(row, answer, origin);
@@ -180,7 +181,7 @@ impl Recorder {
         let drawn = (0..drawn).map(|_| draw::question(&mut self.rng, source)).collect::<Vec<_>>();
         for question in drawn.into_iter().chain(extremes()) {
             let answer = question.expect(Some(source));
-            let strand = source.head()[1];
+            let strand = source.head().strand;
             let numbers = [strand, letter(source, &question).into(), answer.mark as i32, answer.number as i32];
             let [a, b, c, d] = numbers;
             if self.has_room((question.kind.into(), [question.strict.into(), a, b, c, d]), ALIKE) {
@@ -195,7 +196,6 @@ impl Recorder {
         let bytes = case.lay();
         let from = case.laid(&bytes);
         let ((expected, origin), built) = settle::build(case).map_err(|fault| format!("{case:?}: {fault}"))?;
-        let expected = expected.map(Source::Records);
         let as_card = case.strand.abs() == 1 && self.rng.gen();
         let call = if as_card { Call::BuildCard } else { Call::Build };
         let questions = match &expected {
@@ -209,13 +209,7 @@ impl Recorder {
         if !is_kept {
             return Ok(());
         }
-        let row = if as_card {
-            Row { payload: case.card(), ..Row::new(call) }
-        } else {
-            let Laid { strand, cds, cds_start, cds_end, count, records } = from;
-            let numbers = [strand, cds_start, cds_end, count as i32, 0, 0];
-            Row { flags: cds as u8, numbers, payload: records.to_vec(), ..Row::new(call) }
-        };
+        let row = if as_card { Row { payload: case.card(), ..Row::new(call) } } else { row_of(call, from, 0) };
         self.push_built(row, &expected, origin);
         let Some(mut built) = built else { return Ok(()) };
         for question in &questions {
@@ -246,24 +240,17 @@ impl Recorder {
     /// A table, a place in it and another value.
     fn wound(&mut self, source: &Source) -> [i32; 6] {
         let rng = &mut self.rng;
-        let head = source.head();
-        let place = rng.gen_range(0..=head[3]);
+        let within = rng.gen_range(0..=source.head().segment_count);
         let table = rng.gen_range(0..4);
-        let old = match table {
-            0 => {
-                let field = rng.gen_range(0..8);
-                let values = [head[field as usize].wrapping_add(1), -1, 2, draw::number(rng)];
-                return [0, field, *values.choose(rng).expect("not empty"), 0, 0, 0];
-            }
-            1 => self.lent.genome[place as usize] as i32,
-            2 => self.lent.transcript[place as usize] as i32,
-            _ => {
-                let letter = *b"=DIMNXS\0".choose(rng).expect("not empty");
-                return [3, place, letter.into(), 0, 0, 0];
-            }
+        let index = if table == 0 { rng.gen_range(0..Head::COUNT as i32) } else { within };
+        let old = self.lent.get(recorded::place([table, index, 0, 0, 0, 0]));
+        let value = match table {
+            0 => *[old.wrapping_add(1), -1, 2, draw::number(rng)].choose(rng).expect("not empty"),
+            3 => i32::from(*b"=DIMNXS\0".choose(rng).expect("not empty")),
+            _ if rng.gen() => old.wrapping_add(1),
+            _ => draw::number(rng),
         };
-        let value = if rng.gen() { old.wrapping_add(1) } else { draw::number(rng) };
-        [table, place, value, 0, 0, 0]
+        [table, index, value, 0, 0, 0]
     }
 
     fn length(&mut self) -> Result<(), String> {
@@ -279,9 +266,9 @@ impl Recorder {
         if !self.has_room((Call::BuildLength, [number(&expected) as i32, 0, 0, 0, 0]), ALIKE_OTHERS) {
             return Ok(());
         }
-        let flags = u8::from(start.is_some()) | u8::from(end.is_some()) << 1;
-        let numbers = [length, start.unwrap_or(0), end.unwrap_or(0), 0, 0, 0];
-        self.push_built(Row { flags, numbers, ..Row::new(Call::BuildLength) }, &expected, origin);
+        let cds = Cds::new(start, end);
+        let numbers = [length, cds.start, cds.end, 0, 0, 0];
+        self.push_built(Row { flags: cds.bits as u8, numbers, ..Row::new(Call::BuildLength) }, &expected, origin);
         let Some(mut built) = built else { return Ok(()) };
         for question in self.choose(&built.source.clone(), 60) {
             self.push_question(&question, Some(&mut built))?;
@@ -295,8 +282,7 @@ impl Recorder {
             Err(refusal) => (Err(refusal), Origin::Added),
             Ok(from) => {
                 let case = case_of(from).expect("a card holds its records");
-                let ((expected, origin), _) = settle::build(&case).map_err(|fault| format!("{case:?}: {fault}"))?;
-                (expected.map(Source::Records), origin)
+                settle::build(&case).map_err(|fault| format!("{case:?}: {fault}"))?.0
             }
         };
         if self.has_room((Call::BuildCard, [0, number(&expected) as i32, 0, 0, 0]), ALIKE_OTHERS) {
@@ -311,9 +297,7 @@ impl Recorder {
         if !self.has_room((Call::Build, [2, number(&expected) as i32, 0, 0, 0]), ALIKE_OTHERS) {
             return;
         }
-        let numbers = [from.strand, from.cds_start, from.cds_end, from.count as i32, 0, 0];
-        let row = Row { flags: from.cds as u8, numbers, payload: from.records.to_vec(), ..Row::new(Call::Build) };
-        self.push_built(row, &expected, Origin::Added);
+        self.push_built(row_of(Call::Build, from, 0), &expected, Origin::Added);
     }
 
     fn read_cigar(&mut self, text: &[u8]) -> Result<(), String> {
@@ -329,21 +313,17 @@ impl Recorder {
         Ok(())
     }
 
-    fn write_cigar(&mut self, elements: &[paper::Counted], number_given: usize, room: usize) {
-        let counts: Vec<i32> = elements.iter().map(|e| e.0 as i32).collect();
-        let letters: Vec<u8> = elements.iter().map(|e| e.1).collect();
-        let expected = paper::write_cigar(number_given, &counts, &letters, room);
+    fn write_cigar(&mut self, elements: &[Element], number_given: usize, room: usize) -> Result<(), String> {
+        let (expected, origin) = settle::write_cigar(number_given, elements, room)?;
         if !self.has_room((Call::WriteCigar, [number(&expected) as i32, 0, 0, 0, 0]), 2 * ALIKE_OTHERS) {
-            return;
+            return Ok(());
         }
         let written = expected.as_deref().unwrap_or(&[]);
-        // The crate prints, and refuses nothing; a count of 0 it prints otherwise.
-        let printed = elements.iter().all(|e| e.0 > 0) && expected.is_ok();
-        let origin = if printed { Origin::Answered } else { Origin::Narrowed };
         let answer = [number(&expected) as i32, written.len() as i32, 0, 0, 0, 0, 0, 0];
         let numbers = [number_given as i32, elements.len() as i32, room as i32, 0, 0, 0];
         let payload = [&five_bytes(elements), written].concat();
         self.push(Row { numbers, payload, ..Row::new(Call::WriteCigar) }, answer, origin);
+        Ok(())
     }
 
     fn write_card(&mut self, from: Laid<'_>, room: usize) {
@@ -352,16 +332,16 @@ impl Recorder {
             return;
         }
         let length = expected.as_ref().map_or(0, Vec::len) as i32;
-        let numbers = [from.strand, from.cds_start, from.cds_end, from.count as i32, room as i32, 0];
-        let row = Row { flags: from.cds as u8, numbers, payload: from.records.to_vec(), ..Row::new(Call::WriteCard) };
+        let row = row_of(Call::WriteCard, from, room);
         self.push(row, [number(&expected) as i32, length, 0, 0, 0, 0, 0, 0], Origin::Added);
     }
 
     fn trim(&mut self, reference: &[u8], alternative: &[u8]) -> Result<(), String> {
         let payload = [reference, alternative].concat();
         let numbers = [reference.len() as i32, 0, 0, 0, 0, 0];
-        let trims = settle::trim(reference, alternative)?;
-        for (call, (expected, origin)) in [Call::TrimPrefix, Call::TrimSuffix].into_iter().zip(trims) {
+        let trims = settle::trim(reference, alternative);
+        for (call, settled) in [Call::TrimPrefix, Call::TrimSuffix].into_iter().zip(trims) {
+            let (expected, origin) = settled?;
             let length = expected.map_or(0, |length| length as i32);
             let row = Row { numbers, payload: payload.clone(), ..Row::new(call) };
             self.push(row, [0, length, 0, 0, 0, 0, 0, 0], origin);
@@ -456,11 +436,11 @@ fn draw_all(recorder: &mut Recorder) -> Result<(), String> {
 fn draw_texts(recorder: &mut Recorder, case: &Case) -> Result<(), String> {
     let Some(record) = case.records.first() else { return Ok(()) };
     recorder.read_cigar(&record.cigar)?;
-    let mut elements = paper::read_cigar(&record.cigar, MOST_SEGMENTS).unwrap_or_default();
+    let mut elements = settle::read_cigar(&record.cigar)?.0.unwrap_or_default();
     let rng = &mut recorder.rng;
     if rng.gen_ratio(1, 5) {
-        let wound = *[(-1, b'M'), (i64::from(i32::MIN), b'='), (3, b'S'), (-1, b'S')].choose(rng).expect("not empty");
-        elements.push(wound);
+        let wounds = [(-1, b'M'), (i32::MIN, b'='), (3, b'S'), (-1, b'S')];
+        elements.extend(wounds.choose(rng).map(|&(count, letter)| Element::new(count, letter)));
     }
     let room = if rng.gen_ratio(1, 4) { rng.gen_range(0..12) } else { 64 };
     let number = if rng.gen_ratio(1, 50) { MOST_SEGMENTS + 1 } else { elements.len() };
@@ -469,7 +449,7 @@ fn draw_texts(recorder: &mut Recorder, case: &Case) -> Result<(), String> {
     let alleles = [allele(), allele()];
     let card_room = if rng.gen_ratio(1, 4) { rng.gen_range(0..60) } else { 1 << 17 };
     let cut = rng.gen_ratio(1, 10);
-    recorder.write_cigar(&elements, number, room);
+    recorder.write_cigar(&elements, number, room)?;
     let mut bytes = case.lay();
     if cut {
         bytes.pop();
@@ -489,8 +469,8 @@ fn draw_long(recorder: &mut Recorder) -> Result<(), String> {
     {
         recorder.read_cigar(&text)?;
     }
-    let long = vec![(i64::from(i32::MAX), b'M'); 400];
-    recorder.write_cigar(&long, long.len(), 5000);
+    let long = vec![Element::new(i32::MAX, b'M'); 400];
+    recorder.write_cigar(&long, long.len(), 5000)?;
     for case in large() {
         let bytes = case.lay();
         recorder.write_card(case.laid(&bytes), MOST_CARD);

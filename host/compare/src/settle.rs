@@ -1,7 +1,11 @@
 //! What to expect of the port: the crate's answer where it counts, and document 01's where it does not.
 
 use hgvs::mapper::alignment::Mapper;
-use pulindraxi::{boundary::Answer, Refusal};
+use pulindraxi::{
+    boundary::{Answer, Cds},
+    limits::MOST_SEGMENTS,
+    Element, Refusal,
+};
 use trials::{
     draw::Case,
     paper::{self, Aligned, Source},
@@ -82,6 +86,11 @@ fn is_narrowed<T>(case: &Case, paper: &Result<T, Refusal>) -> bool {
     }
 }
 
+/// The crate's CDS.
+fn cds(mapper: &Mapper) -> Option<(i64, i64)> {
+    mapper.cds_start_i.zip(mapper.cds_end_i).map(|(start, end)| (i64::from(start), i64::from(end)))
+}
+
 /// The crate's tables in document 01's form.
 fn aligned(mapper: &Mapper) -> Aligned {
     let starts = |starts: &[i32]| starts.iter().map(|&start| i64::from(start)).collect();
@@ -92,7 +101,7 @@ fn aligned(mapper: &Mapper) -> Aligned {
         genome: starts(&cigar.ref_pos),
         transcript: starts(&cigar.tgt_pos),
         letters: cigar.cigar_op.iter().map(|&op| char::from(op) as u8).collect(),
-        cds: mapper.cds_start_i.zip(mapper.cds_end_i).map(|(start, end)| (i64::from(start), i64::from(end))),
+        cds: cds(mapper),
     }
 }
 
@@ -105,44 +114,22 @@ pub struct Built {
 }
 
 /// What to expect of building, and the transcript where both built one.
-pub fn build(case: &Case) -> Result<(Expected<Aligned>, Option<Built>), String> {
-    let bytes = case.lay();
-    let paper = paper::build(case.laid(&bytes));
-    let narrowed = is_narrowed(case, &paper);
+pub type Building = Result<(Expected<Source>, Option<Built>), String>;
+
+/// Settles what was built.
+fn settle_built(
+    outcome: Option<Outcome<(Source, Mapper)>>,
+    paper: Result<Source, Refusal>,
+    narrowed: bool,
+) -> Building {
     let mut mapper = None;
-    let outcome = original::build(case).map(|outcome| {
-        outcome.map(|built| {
-            let aligned = aligned(&built);
+    let outcome = outcome.map(|outcome| {
+        outcome.map(|(source, built)| {
             mapper = Some(built);
-            aligned
+            source
         })
     });
     let expected = settle(outcome, paper, narrowed)?;
-    let built = match (&expected.0, mapper) {
-        (Ok(aligned), Some(mapper)) => Some(Built { source: Source::Records(aligned.clone()), mapper }),
-        _ => None,
-    };
-    Ok((expected, built))
-}
-
-/// What to expect of building from a length, and the transcript where both built one.
-pub fn build_length(
-    length: i32,
-    cds_start: Option<i32>,
-    cds_end: Option<i32>,
-) -> Result<(Expected<Source>, Option<Built>), String> {
-    let case = Case { strand: 1, cds_start, cds_end, records: Vec::new() };
-    let from = case.laid(&[]);
-    let paper = paper::build_length(length, from.cds, from.cds_start, from.cds_end);
-    let narrowed = is_narrowed(&case, &paper);
-    let mut mapper = None;
-    let outcome = original::build_length(length, cds_start, cds_end).map(|built| {
-        let cds = built.cds_start_i.zip(built.cds_end_i).map(|(start, end)| (i64::from(start), i64::from(end)));
-        let source = Source::Length(i64::from(built.tgt_len), cds);
-        mapper = Some(built);
-        source
-    });
-    let expected = settle(Some(outcome), paper, narrowed)?;
     let built = match (&expected.0, mapper) {
         (Ok(source), Some(mapper)) => Some(Built { source: source.clone(), mapper }),
         _ => None,
@@ -150,35 +137,57 @@ pub fn build_length(
     Ok((expected, built))
 }
 
+/// What to expect of building from records.
+pub fn build(case: &Case) -> Building {
+    let bytes = case.lay();
+    let paper = paper::build(case.laid(&bytes)).map(Source::Records);
+    let narrowed = is_narrowed(case, &paper);
+    let outcome = original::build(case);
+    let outcome = outcome.map(|built| built.map(|mapper| (Source::Records(aligned(&mapper)), mapper)));
+    settle_built(outcome, paper, narrowed)
+}
+
+/// What to expect of building from a length.
+pub fn build_length(length: i32, cds_start: Option<i32>, cds_end: Option<i32>) -> Building {
+    let paper = paper::build_length(length, Cds::new(cds_start, cds_end));
+    let narrowed = paper.as_ref().is_err_and(|refusal| NARROWING.contains(refusal));
+    let outcome = original::build_length(length, cds_start, cds_end);
+    let outcome = outcome.map(|mapper| (Source::Length(i64::from(mapper.tgt_len), cds(&mapper)), mapper));
+    settle_built(Some(outcome), paper, narrowed)
+}
+
 /// What to expect of a question.
 pub fn ask(built: &mut Built, question: &Question) -> Result<Expected<Answer>, String> {
     let answer = question.expect(Some(&built.source));
-    let paper = match Refusal::from_number(answer.number) {
-        Some(refusal) => Err(refusal),
-        None => Ok(answer),
-    };
+    let paper = Refusal::check(answer.number).map(|()| answer);
     let narrowed = paper == Err(Refusal::NoGenome);
     settle(Some(original::ask(&mut built.mapper, question)), paper, narrowed)
 }
 
 /// What to expect of reading CIGAR text: the elements.
-pub fn read_cigar(text: &[u8]) -> Result<Expected<Vec<paper::Counted>>, String> {
-    let paper = paper::read_cigar(text, pulindraxi::limits::MOST_SEGMENTS);
+pub fn read_cigar(text: &[u8]) -> Result<Expected<Vec<Element>>, String> {
+    let paper = paper::read_cigar(text, MOST_SEGMENTS);
     let narrowed = paper == Err(Refusal::TooMuch);
-    let outcome = original::read_cigar(text).map(|outcome| {
-        outcome
-            .map(|cigar| cigar.iter().map(|element| (i64::from(element.count), char::from(element.op) as u8)).collect())
-    });
-    settle(outcome, paper, narrowed)
+    let element = |(count, letter): paper::Counted| Element::new(count as i32, letter);
+    settle(original::read_cigar(text), paper.map(|elements| elements.into_iter().map(element).collect()), narrowed)
+}
+
+/// What to expect of writing the first `number` elements into so many bytes: the text. The crate prints, into as many bytes
+/// as it takes; a count of 0 or less it prints as a bare letter, which is a listed difference.
+pub fn write_cigar(number: usize, elements: &[Element], room: usize) -> Result<Expected<Vec<u8>>, String> {
+    let elements = &elements[..number.min(elements.len())];
+    let (counts, letters): (Vec<i32>, Vec<u8>) = elements.iter().map(|e| (e.count, e.letter)).unzip();
+    let paper = paper::write_cigar(number, &counts, &letters, room);
+    let narrowed = paper.is_err() || counts.iter().any(|&count| count <= 0);
+    settle(Some(original::write_cigar(elements)), paper, narrowed)
 }
 
 /// What to expect of trimming the front and the back.
-pub fn trim(reference: &[u8], alternative: &[u8]) -> Result<[Expected<usize>; 2], String> {
-    let paper = [paper::prefix(reference, alternative), paper::suffix(reference, alternative)];
+pub fn trim(reference: &[u8], alternative: &[u8]) -> [Result<Expected<usize>, String>; 2] {
     let beyond_ascii = !reference.is_ascii() || !alternative.is_ascii();
-    let [front, back] = match original::trim(reference, alternative) {
-        Some([front, back]) => [Some(front), Some(back)],
-        None => [None, None],
-    };
-    Ok([settle(front, Ok(paper[0]), beyond_ascii)?, settle(back, Ok(paper[1]), beyond_ascii)?])
+    let [front, back] = original::trim(reference, alternative).map_or([None, None], |trimmed| trimmed.map(Some));
+    [
+        settle(front, Ok(paper::prefix(reference, alternative)), beyond_ascii),
+        settle(back, Ok(paper::suffix(reference, alternative)), beyond_ascii),
+    ]
 }

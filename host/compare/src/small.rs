@@ -1,12 +1,13 @@
 //! Every small transcript: all letters, counts 0 to 2, one record or two, both strands; every question at and around it.
 
+use pulindraxi::boundary::Asked;
 use trials::{
     draw::{Case, Record},
-    paper::{along_genome, along_transcript, Asked},
+    paper::{along_genome, along_transcript},
     Kind, Question,
 };
 
-use crate::{judge::Judge, settle::Built};
+use crate::{settle::Built, Judge, Port};
 
 /// An element of a small transcript.
 type Small = (i32, u8);
@@ -54,8 +55,8 @@ fn case(strand: i32, first: i32, lists: &[&[Small]], gap: i32, beyond: i32) -> C
 
 /// Asks every question about a built transcript: g. numbers from `first - 1` to beyond the end, n. numbers and c. numbers
 /// likewise.
-fn ask_all(judge: &mut Judge, built: &mut Built, first: i32, genome: i32, transcript: i32) {
-    let ask = |judge: &mut Judge, built: &mut Built, kind, start, end| {
+fn ask_all<P: Port>(judge: &mut Judge<P>, built: &mut Built, first: i32, genome: i32, transcript: i32) {
+    let ask = |judge: &mut Judge<P>, built: &mut Built, kind, start, end| {
         for strict in [true, false] {
             judge.ask(built, &Question { kind, start, end, missing: 0, strict });
         }
@@ -93,7 +94,7 @@ fn ask_all(judge: &mut Judge, built: &mut Built, first: i32, genome: i32, transc
 }
 
 /// Builds a transcript with several CDSs and asks each everything.
-fn try_case(judge: &mut Judge, mut case: Case, lists: &[&[Small]], gap: i32) {
+fn try_case<P: Port>(judge: &mut Judge<P>, mut case: Case, lists: &[&[Small]], gap: i32) {
     let first = case.records[0].numbers[0];
     let gaps = gap * (lists.len() as i32 - 1);
     let genome = lists.iter().map(|list| reach(list, along_genome)).sum::<i32>() + gaps;
@@ -108,7 +109,7 @@ fn try_case(judge: &mut Judge, mut case: Case, lists: &[&[Small]], gap: i32) {
 
 /// Every transcript of one record with at most `elements` elements, and of two records with at most one each: with gaps of 0
 /// to 2, and with records that go beyond their CIGARs.
-pub fn run(judge: &mut Judge, elements: usize) {
+pub fn run<P: Port>(judge: &mut Judge<P>, elements: usize) {
     let single = lists(elements);
     let halves = lists(1);
     for strand in [1, -1] {

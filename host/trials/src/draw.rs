@@ -1,10 +1,15 @@
 //! Input drawn at random: transcripts, faults in them, damage to memory, questions.
 
-use pulindraxi::boundary::Laid;
+use pulindraxi::{
+    boundary::{Asked, Cds, Head, Laid},
+    limits::{MOST_SEGMENTS, MOST_TEXT},
+    Element,
+};
 use rand::{seq::SliceRandom, Rng};
 
 use crate::{
-    paper::{Aligned, Asked, Source},
+    lent::Place,
+    paper::{self, Aligned, Source},
     Kind, Lent, Question,
 };
 
@@ -81,30 +86,13 @@ impl Case {
 
     /// The input at the boundary, over records that [`Case::lay`] laid out.
     pub fn laid<'a>(&self, records: &'a [u8]) -> Laid<'a> {
-        Laid {
-            strand: self.strand,
-            cds: self.cds_bits(),
-            cds_start: self.cds_start.unwrap_or(0),
-            cds_end: self.cds_end.unwrap_or(0),
-            count: self.records.len(),
-            records,
-        }
+        let cds = Cds::new(self.cds_start, self.cds_end);
+        Laid { strand: self.strand, cds, count: self.records.len(), records }
     }
 
-    /// The card of the input, whether it builds or not. Any strand but -1 is written as plus.
+    /// The card of the input, whether it builds or not.
     pub fn card(&self) -> Vec<u8> {
-        let mut card = b"TXC\x01\x00".to_vec();
-        card.push(u8::from(self.strand == -1));
-        card.push(self.cds_bits() as u8);
-        card.extend(self.cds_start.unwrap_or(0).to_le_bytes());
-        card.extend(self.cds_end.unwrap_or(0).to_le_bytes());
-        card.extend((self.records.len() as u16).to_le_bytes());
-        card.extend(self.lay());
-        card
-    }
-
-    fn cds_bits(&self) -> u32 {
-        u32::from(self.cds_start.is_some()) | u32::from(self.cds_end.is_some()) << 1
+        paper::card(self.laid(&self.lay()))
     }
 }
 
@@ -135,8 +123,8 @@ fn cigar<R: Rng>(rng: &mut R, elements: usize, largest: i64) -> (Vec<u8>, Reach)
         let letter = *b"=MXMIDN".choose(rng).expect("not empty");
         digits(rng, count, &mut text);
         text.push(letter);
-        reach.genome += if crate::paper::along_genome(letter) { count } else { 0 };
-        reach.transcript += if crate::paper::along_transcript(letter) { count } else { 0 };
+        reach.genome += if paper::along_genome(letter) { count } else { 0 };
+        reach.transcript += if paper::along_transcript(letter) { count } else { 0 };
     }
     (text, reach)
 }
@@ -251,31 +239,61 @@ pub fn case<R: Rng>(rng: &mut R) -> Case {
     case
 }
 
-/// Changes one number or letter of lent memory.
-pub fn damage<R: Rng>(rng: &mut R, lent: &mut Lent) {
-    let count = usize::try_from(lent.head[3]).unwrap_or(0).min(lent.letters.len() - 1);
-    // Mostly among the places in use.
-    let place = if rng.gen_ratio(9, 10) { rng.gen_range(0..=count) } else { rng.gen_range(0..lent.letters.len()) };
-    let shift = |rng: &mut R, old: u32| match rng.gen_range(0..3) {
-        0 => old.wrapping_add(rng.gen_range(0..5)).wrapping_sub(2),
-        1 => old ^ 1 << rng.gen_range(0..32),
-        _ => number(rng) as u32,
+/// Elements to be written, and how many bytes there are for them: some have a fault, a number or a text around its limit, or too
+/// little room.
+pub fn elements<R: Rng>(rng: &mut R) -> (Vec<Element>, usize) {
+    let number = match rng.gen_range(0..16) {
+        0 => rng.gen_range(MOST_SEGMENTS - 8..MOST_SEGMENTS + 12),
+        _ => rng.gen_range(0..20),
     };
-    match rng.gen_range(0..6) {
-        0 | 1 => {
-            let field = rng.gen_range(0..8);
-            lent.head[field] = shift(rng, lent.head[field] as u32) as i32;
+    let element = |rng: &mut R| Element::new(rng.gen_range(0..40), *b"=DIMNX".choose(rng).expect("not empty"));
+    let mut elements: Vec<_> = (0..number).map(|_| element(rng)).collect();
+    if rng.gen_ratio(1, 32) {
+        // Three bytes each, and single ones up to the limit and beyond.
+        elements = vec![Element::new(10, b'M'); MOST_TEXT / 3 - 1];
+        elements.resize(elements.len() + rng.gen_range(2..8), Element::new(1, b'X'));
+    }
+    if let Some(element) = elements.choose_mut(rng) {
+        match rng.gen_range(0..16) {
+            0..=3 => element.count = self::number(rng),
+            4 | 5 => element.letter = rng.gen(),
+            6 => *element = Element::new(self::number(rng), rng.gen()),
+            _ => (),
         }
-        2 => lent.genome[place] = shift(rng, lent.genome[place]),
-        3 => lent.transcript[place] = shift(rng, lent.transcript[place]),
-        4 => lent.letters[place] = *b"=DIMNXS\0m\xff".choose(rng).expect("not empty"),
+    }
+    let room = if rng.gen_ratio(1, 3) { rng.gen_range(0..60) } else { MOST_TEXT + 4 };
+    (elements, room)
+}
+
+/// Changes one number or letter of lent memory, or a start on both sides.
+pub fn damage<R: Rng>(rng: &mut R, lent: &mut Lent) {
+    let last = lent.letters.len() - 1;
+    let count = usize::try_from(lent.head.segment_count).unwrap_or(0).min(last);
+    // Mostly among the places in use.
+    let index = if rng.gen_ratio(9, 10) { rng.gen_range(0..=count) } else { rng.gen_range(0..=last) };
+    let place = match rng.gen_range(0..6) {
+        0 | 1 => Place::Head(rng.gen_range(0..Head::COUNT)),
+        2 => Place::Genome(index),
+        3 => Place::Transcript(index),
+        4 => {
+            lent.letters[index] = *b"=DIMNXS\0m\xff".choose(rng).expect("not empty");
+            return;
+        }
         _ => {
             // Both sides at once can keep a matched segment whole.
             let by = rng.gen_range(0..3);
-            lent.genome[place] = lent.genome[place].wrapping_add(by);
-            lent.transcript[place] = lent.transcript[place].wrapping_add(by);
+            lent.genome[index] = lent.genome[index].wrapping_add(by);
+            lent.transcript[index] = lent.transcript[index].wrapping_add(by);
+            return;
         }
-    }
+    };
+    let old = lent.get(place);
+    let new = match rng.gen_range(0..3) {
+        0 => old.wrapping_add(rng.gen_range(-2..3)),
+        1 => old ^ 1 << rng.gen_range(0..32),
+        _ => number(rng),
+    };
+    lent.put(place, new);
 }
 
 /// Random bytes, or a card with some bytes changed, cut or added.
@@ -327,17 +345,14 @@ fn offset<R: Rng>(rng: &mut R) -> i32 {
 /// A position that suits a kind of question to a transcript.
 fn asked<R: Rng>(rng: &mut R, kind: Kind, source: &Source) -> Asked {
     let length = [0, source.length()];
-    let (starts, base): (&[i64], i64) = match (kind, source) {
-        (Kind::GToN | Kind::GToC | Kind::InBounds, Source::Records(Aligned { genome, first, .. })) => {
-            (genome, first + 1)
-        }
-        (_, Source::Records(Aligned { transcript, .. })) => (transcript, 1),
-        (_, Source::Length(..)) => (&length, 1),
+    let (starts, base): (&[i64], i64) = match source {
+        Source::Records(Aligned { genome, first, .. }) if kind.is_about_g() => (genome, first + 1),
+        Source::Records(Aligned { transcript, .. }) => (transcript, 1),
+        Source::Length(..) => (&length, 1),
     };
-    let is_g = matches!(kind, Kind::GToN | Kind::GToC | Kind::InBounds);
-    if !matches!(kind, Kind::CToN | Kind::CToG) {
+    if !kind.is_about_c() {
         let base = near(rng, starts, base);
-        return Asked { base, offset: if is_g { 0 } else { offset(rng) }, star: false };
+        return Asked { base, offset: if kind.is_about_g() { 0 } else { offset(rng) }, star: false };
     }
     let (s, e) = source.cds().unwrap_or((0, 0));
     let star = rng.gen_ratio(1, 3);
@@ -353,8 +368,7 @@ pub fn question<R: Rng>(rng: &mut R, source: &Source) -> Question {
     }
     let start = asked(rng, kind, source);
     let end = if rng.gen() { start } else { asked(rng, kind, source) };
-    let is_g = matches!(kind, Kind::GToN | Kind::GToC | Kind::InBounds);
-    let missing = if is_g && rng.gen_ratio(1, 50) { rng.gen_range(1..4) } else { 0 };
+    let missing = if kind.is_about_g() && rng.gen_ratio(1, 50) { rng.gen_range(1..4) } else { 0 };
     let strict = kind != Kind::InBounds && rng.gen();
     Question { kind, start, end, missing, strict }
 }

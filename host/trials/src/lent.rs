@@ -1,7 +1,7 @@
 //! The memory that is lent to the entries, each table apart, so that a step over an end is seen by a memory checker.
 
 use pulindraxi::{
-    boundary::{self, Head, Laid, Letters, Starts},
+    boundary::{self, Filling, Head, Laid, Letters, Reading, Starts},
     limits::{MOST_SEGMENTS, MOST_STARTS},
 };
 
@@ -20,41 +20,104 @@ pub struct Lent {
     pub letters: Box<Letters>,
 }
 
+/// A table of some entries, unused places 0.
+fn table<T: Copy + Default, const SIZE: usize>(entries: impl Iterator<Item = T>) -> Box<[T; SIZE]> {
+    let mut table = Box::new([T::default(); SIZE]);
+    for (place, entry) in table.iter_mut().zip(entries) {
+        *place = entry;
+    }
+    table
+}
+
 impl Lent {
     /// Memory that holds some number everywhere.
     pub fn filled(with: u8) -> Lent {
         let number = u32::from(with) * 0x0101_0101;
         Lent {
-            head: Box::new([number as i32; 8]),
+            head: Box::new(Head::filled(number as i32)),
             genome: Box::new([number; MOST_STARTS]),
             transcript: Box::new([number; MOST_STARTS]),
             letters: Box::new([with; MOST_SEGMENTS]),
         }
     }
 
-    /// Memory that holds a transcript of document 01.
-    pub fn of(source: &Source) -> Lent {
-        match source {
-            Source::Records(aligned) => {
-                let (head, genome, transcript, letters) = paper::tables(aligned);
-                Lent { head: Box::new(head), genome, transcript, letters }
-            }
-            Source::Length(..) => Lent { head: Box::new(source.head()), ..Lent::filled(0) },
+    /// This memory after a transcript of document 01 was built into it. A length-only one leaves the tables as they were.
+    pub fn holding(mut self, source: &Source) -> Lent {
+        *self.head = source.head();
+        if let Source::Records(aligned) = source {
+            self.genome = table(aligned.genome.iter().map(|&start| start as u32));
+            self.transcript = table(aligned.transcript.iter().map(|&start| start as u32));
+            self.letters = table(aligned.letters.iter().copied());
         }
+        self
     }
 
     /// What the memory stands for by document 01, if it holds together.
     pub fn source(&self) -> Option<Source> {
-        paper::source(&self.head, &self.genome, &self.transcript, &self.letters)
+        paper::source(self.reading())
+    }
+
+    /// The memory for a question.
+    pub fn reading(&self) -> Reading<'_> {
+        let Lent { head, genome, transcript, letters } = self;
+        Reading { head, genome, transcript, letters }
+    }
+
+    /// The memory for a building.
+    #[inline]
+    fn filling(&mut self) -> Filling<'_> {
+        let Lent { head, genome, transcript, letters } = self;
+        Filling { head, genome, transcript, letters }
     }
 
     /// Builds from records through the boundary.
+    #[inline]
     pub fn build(&mut self, from: Laid<'_>) -> u32 {
-        boundary::build(from, &mut self.head, &mut self.genome, &mut self.transcript, &mut self.letters)
+        boundary::build(from, self.filling())
     }
 
     /// Builds from a card through the boundary.
+    #[inline]
     pub fn build_card(&mut self, card: &[u8]) -> u32 {
-        boundary::build_card(card, &mut self.head, &mut self.genome, &mut self.transcript, &mut self.letters)
+        boundary::build_card(card, self.filling())
+    }
+}
+
+/// One number of lent memory.
+#[derive(Clone, Copy, Debug, PartialEq, Eq)]
+pub enum Place {
+    /// Of the head.
+    Head(usize),
+    /// Of the starts on the genome.
+    Genome(usize),
+    /// Of the starts on the transcript.
+    Transcript(usize),
+    /// Of the letters.
+    Letter(usize),
+}
+
+impl Lent {
+    /// What stands in a place.
+    pub fn get(&self, place: Place) -> i32 {
+        match place {
+            Place::Head(index) => self.head.numbers()[index],
+            Place::Genome(index) => self.genome[index] as i32,
+            Place::Transcript(index) => self.transcript[index] as i32,
+            Place::Letter(index) => self.letters[index].into(),
+        }
+    }
+
+    /// Puts a number, or what the place has bits for of it, into a place.
+    pub fn put(&mut self, place: Place, number: i32) {
+        match place {
+            Place::Head(index) => {
+                let mut numbers = self.head.numbers();
+                numbers[index] = number;
+                *self.head = numbers.into();
+            }
+            Place::Genome(index) => self.genome[index] = number as u32,
+            Place::Transcript(index) => self.transcript[index] = number as u32,
+            Place::Letter(index) => self.letters[index] = number as u8,
+        }
     }
 }

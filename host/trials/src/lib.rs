@@ -10,5 +10,5 @@ pub mod paper;
 mod question;
 pub mod recorded;
 
-pub use lent::Lent;
+pub use lent::{Lent, Place};
 pub use question::{Kind, Question};

@@ -5,7 +5,7 @@ use std::collections::BTreeMap;
 
 use clap::Parser;
 use pulindraxi::{
-    boundary::{self, Laid, Length},
+    boundary::{self, Cds, Laid, Length},
     limits::MOST_SEGMENTS,
     Refusal,
 };
@@ -14,7 +14,7 @@ use rand_xorshift::XorShiftRng;
 use trials::{
     draw::{self, Case, Record},
     paper::{self, Source, CARD_HEAD},
-    Kind, Lent, Question,
+    Lent, Question,
 };
 
 /// Tries the boundary with bad input.
@@ -45,19 +45,6 @@ fn number_of<T>(result: &Result<T, Refusal>) -> u32 {
     result.as_ref().err().map_or(0, |refusal| refusal.number())
 }
 
-fn entry_of(kind: Kind) -> &'static str {
-    match kind {
-        Kind::GToN => "txc_g_to_n",
-        Kind::GToC => "txc_g_to_c",
-        Kind::NToG => "txc_n_to_g",
-        Kind::NToC => "txc_n_to_c",
-        Kind::CToN => "txc_c_to_n",
-        Kind::CToG => "txc_c_to_g",
-        Kind::InBounds => "txc_in_bounds",
-        Kind::IsCoding => "txc_is_coding",
-    }
-}
-
 impl Trial {
     fn new(seed: u64) -> Trial {
         let lent = Lent::filled(0xa5);
@@ -76,13 +63,7 @@ impl Trial {
         assert_eq!(number, number_of(&expected), "{entry}, call {}", self.calls);
         self.count(entry, number);
         if let Ok(source) = expected {
-            let tables_stay = matches!(source, Source::Length(..));
-            let wanted = if tables_stay {
-                Lent { head: Box::new(source.head()), ..self.before.clone() }
-            } else {
-                Lent::of(&source)
-            };
-            self.before = wanted;
+            self.before = self.before.clone().holding(&source);
             self.source = source;
         }
         assert!(self.lent == self.before, "{entry} left other memory, call {}", self.calls);
@@ -95,9 +76,11 @@ impl Trial {
         match rng.gen_range(0..60) {
             0..=2 => from.records = &records[..rng.gen_range(0..=records.len())],
             3..=5 => from.count = *[0, 1, 2, 513, usize::MAX].choose(rng).expect("not empty"),
-            6..=8 => from.cds = *[0, 1, 2, 3, 4, 7, u32::MAX].choose(rng).expect("not empty"),
+            6..=8 => from.cds.bits = *[0, 1, 2, 3, 4, 7, u32::MAX].choose(rng).expect("not empty"),
             // A bound that is not given is not looked at.
-            9..=11 if from.cds == 0 => (from.cds_start, from.cds_end) = (draw::number(rng), draw::number(rng)),
+            9..=11 if from.cds.bits == 0 => {
+                from.cds = Cds { start: draw::number(rng), end: draw::number(rng), ..from.cds }
+            }
             _ => (),
         }
         from
@@ -143,16 +126,17 @@ impl Trial {
     fn build_length(&mut self) {
         let rng = &mut self.rng;
         let (length, start, end) = (draw::number(rng), draw::number(rng), draw::number(rng));
-        let cds = *[0, 1, 2, 3, 3, 3, 4, u32::MAX].choose(rng).expect("not empty");
-        let number = boundary::txc_build_length(length, cds, start, end, &mut self.lent.head);
-        self.judge_built("txc_build_length", number, paper::build_length(length, cds, start, end));
+        let bits = *[0, 1, 2, 3, 3, 3, 4, u32::MAX].choose(rng).expect("not empty");
+        let cds = Cds { bits, start, end };
+        let number = boundary::build_length(length, cds, &mut self.lent.head);
+        self.judge_built("txc_build_length", number, paper::build_length(length, cds));
     }
 
     fn judge_question(&mut self, question: &Question, source: Option<&Source>) {
         let answer = question.ask(&self.lent);
         assert_eq!(answer, question.expect(source), "{question:?} of {:?}, call {}", self.lent.head, self.calls);
         assert!(self.lent == self.before, "{question:?} changed lent memory, call {}", self.calls);
-        self.count(entry_of(question.kind), answer.number);
+        self.count(question.kind.entry(), answer.number);
     }
 
     fn ask(&mut self) {
@@ -208,21 +192,14 @@ impl Trial {
     }
 
     fn write_cigar(&mut self) {
-        let rng = &mut self.rng;
-        let number = if rng.gen_ratio(1, 8) { rng.gen_range(2040..2060) } else { rng.gen_range(0..20) };
-        let mut counts = Box::new([1; MOST_SEGMENTS]);
-        let mut letters = Box::new([b'M'; MOST_SEGMENTS]);
-        for place in 0..number.min(MOST_SEGMENTS) {
-            counts[place] = rng.gen_range(0..40);
-            letters[place] = *b"=DIMNX".choose(rng).expect("not empty");
+        let (elements, room) = draw::elements(&mut self.rng);
+        let number = elements.len();
+        // What stands past the elements would be refused.
+        let mut counts = Box::new([-7; MOST_SEGMENTS]);
+        let mut letters = Box::new([b'?'; MOST_SEGMENTS]);
+        for (place, element) in elements.iter().take(MOST_SEGMENTS).enumerate() {
+            (counts[place], letters[place]) = (element.count, element.letter);
         }
-        if rng.gen_ratio(1, 4) {
-            counts[rng.gen_range(0..20)] = draw::number(rng);
-        }
-        if rng.gen_ratio(1, 8) {
-            letters[rng.gen_range(0..20)] = rng.gen();
-        }
-        let room = if rng.gen_ratio(1, 3) { rng.gen_range(0..60) } else { 4200 };
         let expected = paper::write_cigar(number, &counts[..], &letters[..], room);
         let mut buffer = vec![b'.'; room];
         let written = boundary::write_cigar(number, &counts, &letters, &mut buffer);

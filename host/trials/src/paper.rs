@@ -4,8 +4,8 @@
 //! from the document's text, says the rest, and the comparison holds it to the crate wherever the crate answers.
 
 use pulindraxi::{
-    boundary::{Answer, Head, Laid, Letters, Part, Position, Said, Starts},
-    limits::{MOST_BASES, MOST_CARD, MOST_RECORDS, MOST_SEGMENTS, MOST_STARTS, MOST_TEXT},
+    boundary::{Answer, Asked, AskedG, Cds, Head, Laid, Part, Position, Reading, Said, Starts},
+    limits::{MOST_BASES, MOST_CARD, MOST_RECORDS, MOST_SEGMENTS, MOST_TEXT},
     Exon, Refusal,
 };
 
@@ -52,9 +52,6 @@ pub enum Source {
     /// Built from a length alone, with its CDS.
     Length(i64, Option<(i64, i64)>),
 }
-
-/// The lent memory of a built transcript.
-pub type Tables = (Head, Box<Starts>, Box<Starts>, Box<Letters>);
 
 fn last(starts: &[i64]) -> i64 {
     starts[starts.len() - 1]
@@ -166,25 +163,37 @@ pub fn read_card(card: &[u8]) -> Result<Laid<'_>, Refusal> {
     }
     let (head, records) = card.split_at_checked(CARD_HEAD).ok_or(Refusal::NoCard)?;
     let number = |at: usize| i32::from_le_bytes(head[at..at + 4].try_into().expect("four bytes"));
-    let (strand, cds, cds_start, cds_end) = (head[5], u32::from(head[6]), number(7), number(11));
+    let (strand, cds) = (head[5], Cds { bits: u32::from(head[6]), start: number(7), end: number(11) });
     let count = usize::from(u16::from_le_bytes([head[15], head[16]]));
-    let unused = (cds & 1 == 0 && cds_start != 0) || (cds & 2 == 0 && cds_end != 0);
-    if strand > 1 || cds > 3 || unused || self::records(count, records).is_none() {
+    if strand > 1 || cds.bits > 3 || cds != given(cds) || self::records(count, records).is_none() {
         return Err(Refusal::NoCard);
     }
-    Ok(Laid { strand: if strand == 0 { 1 } else { -1 }, cds, cds_start, cds_end, count, records })
+    Ok(Laid { strand: if strand == 0 { 1 } else { -1 }, cds, count, records })
+}
+
+/// CDS bounds with 0 for one that is not given.
+fn given(cds: Cds) -> Cds {
+    let given = |bit: u32, bound: i32| if cds.bits & bit == 0 { 0 } else { bound };
+    Cds { bits: cds.bits, start: given(Cds::START, cds.start), end: given(Cds::END, cds.end) }
+}
+
+/// The bytes of the card of building's input, whether it builds or not. Any strand but -1 is written as plus.
+pub fn card(from: Laid<'_>) -> Vec<u8> {
+    let Cds { bits, start, end } = given(from.cds);
+    let mut card = b"TXC\x01\x00".to_vec();
+    card.push(u8::from(from.strand == -1));
+    card.push(bits as u8);
+    card.extend(start.to_le_bytes());
+    card.extend(end.to_le_bytes());
+    card.extend((from.count as u16).to_le_bytes());
+    card.extend(from.records);
+    card
 }
 
 /// The card of building's input, which must build: then 3 for its size, 20.
 pub fn write_card(from: Laid<'_>, room: usize) -> Result<Vec<u8>, Refusal> {
     build(from)?;
-    let mut card = b"TXC\x01\x00".to_vec();
-    card.push(u8::from(from.strand == -1));
-    card.push(from.cds as u8);
-    card.extend(if from.cds & 1 == 0 { 0 } else { from.cds_start }.to_le_bytes());
-    card.extend(if from.cds & 2 == 0 { 0 } else { from.cds_end }.to_le_bytes());
-    card.extend((from.count as u16).to_le_bytes());
-    card.extend(from.records);
+    let card = card(from);
     if card.len() > MOST_CARD {
         return Err(Refusal::TooMuch);
     }
@@ -246,17 +255,17 @@ fn running(elements: &[Counted], advances: fn(u8) -> bool) -> Vec<i64> {
 }
 
 /// 11: one CDS bound given, the other not.
-fn judge_half(cds: u32) -> Result<(), Refusal> {
-    match cds {
-        1 | 2 => Err(Refusal::HalfCds),
+fn judge_half(cds: Cds) -> Result<(), Refusal> {
+    match cds.bits {
+        Cds::START | Cds::END => Err(Refusal::HalfCds),
         _ => Ok(()),
     }
 }
 
 /// 12, and the CDS.
-fn judge_cds(cds: u32, start: i32, end: i32, length: i64) -> Result<Option<(i64, i64)>, Refusal> {
-    let (start, end) = (i64::from(start), i64::from(end));
-    match cds {
+fn judge_cds(cds: Cds, length: i64) -> Result<Option<(i64, i64)>, Refusal> {
+    let (start, end) = (i64::from(cds.start), i64::from(cds.end));
+    match cds.bits {
         0 => Ok(None),
         _ if 0 <= start && start <= end && end <= length => Ok(Some((start, end))),
         _ => Err(Refusal::BadCds),
@@ -264,8 +273,8 @@ fn judge_cds(cds: u32, start: i32, end: i32, length: i64) -> Result<Option<(i64,
 }
 
 /// CDS bits of no such value are 23, before all else.
-fn judge_bits(cds: u32) -> Result<(), Refusal> {
-    match cds {
+fn judge_bits(cds: Cds) -> Result<(), Refusal> {
+    match cds.bits {
         0..=3 => Ok(()),
         _ => Err(Refusal::NotTogether),
     }
@@ -294,13 +303,13 @@ pub fn build(from: Laid<'_>) -> Result<Aligned, Refusal> {
     if last(&transcript) > i64::from(MOST_BASES) || first + last(&genome) > i64::from(MOST_BASES) {
         return Err(Refusal::TooLong);
     }
-    let cds = judge_cds(from.cds, from.cds_start, from.cds_end, last(&transcript))?;
+    let cds = judge_cds(from.cds, last(&transcript))?;
     let letters = elements.iter().map(|&(_, letter)| letter).collect();
     Ok(Aligned { strand: from.strand, first, genome, transcript, letters, cds })
 }
 
 /// A length-only transcript: 4, 9, 11, 12.
-pub fn build_length(length: i32, cds: u32, start: i32, end: i32) -> Result<Source, Refusal> {
+pub fn build_length(length: i32, cds: Cds) -> Result<Source, Refusal> {
     judge_bits(cds)?;
     let length = i64::from(length);
     if length < 0 {
@@ -310,19 +319,25 @@ pub fn build_length(length: i32, cds: u32, start: i32, end: i32) -> Result<Sourc
         return Err(Refusal::TooLong);
     }
     judge_half(cds)?;
-    Ok(Source::Length(length, judge_cds(cds, start, end, length)?))
+    Ok(Source::Length(length, judge_cds(cds, length)?))
 }
 
 impl Source {
     /// The head of the transcript.
     pub fn head(&self) -> Head {
-        let (bits, start, end) = match self.cds() {
-            Some((start, end)) => (3, start as i32, end as i32),
-            None => (0, 0, 0),
-        };
+        let narrow = |bound: i64| bound as i32;
+        let (start, end) = self.cds().unzip();
+        let cds = Cds::new(start.map(narrow), end.map(narrow));
+        let own = Head { cds_bits: cds.bits as i32, cds_start: cds.start, cds_end: cds.end, ..Head::filled(0) };
         match self {
-            Source::Records(a) => [0, a.strand, a.first as i32, a.letters.len() as i32, bits, start, end, 0],
-            Source::Length(length, _) => [1, 0, 0, 0, bits, start, end, *length as i32],
+            Source::Records(aligned) => Head {
+                kind: Head::RECORDS,
+                strand: aligned.strand,
+                first_start: aligned.first as i32,
+                segment_count: aligned.letters.len() as i32,
+                ..own
+            },
+            Source::Length(length, _) => Head { kind: Head::LENGTH_ONLY, length: *length as i32, ..own },
         }
     }
 
@@ -343,42 +358,28 @@ impl Source {
     }
 }
 
-/// The lent memory of a transcript built from records: unused places hold 0.
-pub fn tables(aligned: &Aligned) -> Tables {
-    let starts = |from: &[i64]| {
-        let mut starts = Box::new([0u32; MOST_STARTS]);
-        for (place, &start) in starts.iter_mut().zip(from) {
-            *place = start as u32;
-        }
-        starts
-    };
-    let mut letters = Box::new([0u8; MOST_SEGMENTS]);
-    letters[..aligned.letters.len()].copy_from_slice(&aligned.letters);
-    let head = Source::Records(aligned.clone()).head();
-    (head, starts(&aligned.genome), starts(&aligned.transcript), letters)
-}
-
 // ---- Check 23
 
 /// What lent memory stands for, where it holds together.
-pub fn source(head: &Head, genome: &Starts, transcript: &Starts, letters: &Letters) -> Option<Source> {
-    let [kind, strand, first, count, bits, cds_start, cds_end, length] = *head;
-    let bits = u32::try_from(bits).ok().filter(|&bits| bits == 0 || bits == 3)?;
+pub fn source(of: Reading<'_>) -> Option<Source> {
+    let Head { kind, strand, first_start, segment_count, cds_bits, cds_start, cds_end, length } = *of.head;
+    let bits = u32::try_from(cds_bits).ok().filter(|&bits| bits == 0 || bits == Cds::START | Cds::END)?;
+    let cds = Cds { bits, start: cds_start, end: cds_end };
     match kind {
-        0 => {
-            let count = usize::try_from(count).ok().filter(|count| (1..=MOST_SEGMENTS).contains(count))?;
+        Head::RECORDS => {
+            let count = usize::try_from(segment_count).ok().filter(|count| (1..=MOST_SEGMENTS).contains(count))?;
             let whole = |starts: &Starts| starts[..=count].iter().map(|&s| i64::from(s)).collect::<Vec<_>>();
-            let (genome, transcript, letters) = (whole(genome), whole(transcript), letters[..count].to_vec());
+            let (genome, transcript, letters) = (whole(of.genome), whole(of.transcript), of.letters[..count].to_vec());
+            let first = i64::from(first_start);
             let together = (strand == 1 || strand == -1)
                 && first >= 0
                 && segments_hold(&genome, &transcript, &letters)
-                && i64::from(first) + last(&genome) <= i64::from(MOST_BASES)
+                && first + last(&genome) <= i64::from(MOST_BASES)
                 && last(&transcript) <= i64::from(MOST_BASES);
-            let cds = judge_cds(bits, cds_start, cds_end, last(&transcript)).ok()?;
-            together
-                .then(|| Source::Records(Aligned { strand, first: i64::from(first), genome, transcript, letters, cds }))
+            let cds = judge_cds(cds, last(&transcript)).ok()?;
+            together.then_some(Source::Records(Aligned { strand, first, genome, transcript, letters, cds }))
         }
-        1 => build_length(length, bits, cds_start, cds_end).ok(),
+        Head::LENGTH_ONLY => build_length(length, cds).ok(),
         _ => None,
     }
 }
@@ -467,36 +468,26 @@ impl Whole {
     }
 }
 
-const CERTAIN: u32 = 1;
-const UNCERTAIN: u32 = 2;
-const UNMARKED: u32 = 3;
-
 fn answer(mark: u32, start: Position, end: Position) -> Answer {
     Answer { number: 0, mark, start, end }
 }
 
 fn mark(a: &Spot, b: &Spot) -> u32 {
     if a.sure && b.sure {
-        CERTAIN
+        Answer::CERTAIN
     } else {
-        UNCERTAIN
+        Answer::UNCERTAIN
     }
 }
 
-/// A position as it is asked.
-#[derive(Clone, Copy, Debug, Default, PartialEq, Eq)]
-pub struct Asked {
-    /// The number.
-    pub base: i32,
-    /// The offset.
-    pub offset: i32,
-    /// Whether it counts from the end of the CDS.
-    pub star: bool,
-}
-
-impl From<Position> for Asked {
-    fn from(p: Position) -> Asked {
-        Asked { base: p.base, offset: p.offset, star: p.star != 0 }
+impl Aligned {
+    /// 19, or the places of a g. interval.
+    fn places(&self, g: AskedG) -> Result<(i64, i64), Refusal> {
+        if g.missing & (AskedG::START | AskedG::END) != 0 {
+            return Err(Refusal::MissingEnd);
+        }
+        let place = |base: i32| i64::from(base) - 1 - self.first;
+        Ok((place(g.start), place(g.end)))
     }
 }
 
@@ -509,16 +500,13 @@ impl Source {
     }
 
     /// g. to n.: 18, 19, 14, 17.
-    pub fn g_to_n(&self, start: i32, end: i32, missing: u32, strict: bool) -> Result<Answer, Refusal> {
+    pub fn g_to_n(&self, g: AskedG, strict: bool) -> Result<Answer, Refusal> {
         let t = self.aligned()?;
-        if missing & 3 != 0 {
-            return Err(Refusal::MissingEnd);
-        }
-        let place = |g: i32| i64::from(g) - 1 - t.first;
-        inside(strict, &t.genome, place(start))?;
-        inside(strict, &t.genome, place(end))?;
+        let (start, end) = t.places(g)?;
+        inside(strict, &t.genome, start)?;
+        inside(strict, &t.genome, end)?;
         let map = |p, is_start| map_place(&t.genome, &t.transcript, &t.letters, p, is_start, t.strand == 1);
-        let (a, b) = (map(place(start), true), map(place(end), false));
+        let (a, b) = (map(start, true), map(end, false));
         let mark = mark(&a, &b);
         let n = |spot: &Spot| match t.strand {
             1 => Whole::plain(n_of_place(spot.place), spot.offset),
@@ -563,7 +551,7 @@ impl Source {
             };
             Whole { base, offset: i64::from(n.offset), star }.fit()
         };
-        Ok(answer(UNMARKED, c(start)?, c(end)?))
+        Ok(answer(Answer::UNMARKED, c(start)?, c(end)?))
     }
 
     /// c. to n.: 13, then start 16, 17, then end.
@@ -578,12 +566,12 @@ impl Source {
             }
             Whole::plain(n, i64::from(c.offset)).fit()
         };
-        Ok(answer(UNMARKED, n(start)?, n(end)?))
+        Ok(answer(Answer::UNMARKED, n(start)?, n(end)?))
     }
 
     /// g. to c.: the first mapping wholly, then the second.
-    pub fn g_to_c(&self, start: i32, end: i32, missing: u32, strict: bool) -> Result<Answer, Refusal> {
-        let n = self.g_to_n(start, end, missing, strict)?;
+    pub fn g_to_c(&self, g: AskedG, strict: bool) -> Result<Answer, Refusal> {
+        let n = self.g_to_n(g, strict)?;
         let c = self.n_to_c(n.start.into(), n.end.into(), strict)?;
         Ok(Answer { mark: n.mark, ..c })
     }
@@ -595,13 +583,10 @@ impl Source {
     }
 
     /// In bounds: 18, 19.
-    pub fn in_bounds(&self, start: i32, end: i32, missing: u32) -> Result<Said, Refusal> {
+    pub fn in_bounds(&self, g: AskedG) -> Result<Said, Refusal> {
         let t = self.aligned()?;
-        if missing & 3 != 0 {
-            return Err(Refusal::MissingEnd);
-        }
-        let place = |g: i32| i64::from(g) - 1 - t.first;
-        let yes = place(start) >= 0 && place(end) <= last(&t.genome);
+        let (start, end) = t.places(g)?;
+        let yes = start >= 0 && end <= last(&t.genome);
         Ok(Said { number: 0, yes: u32::from(yes) })
     }
 

@@ -1,14 +1,11 @@
 //! One question to a transcript, asked through the boundary or of document 01.
 
 use pulindraxi::{
-    boundary::{self, Answer, Said},
+    boundary::{self, Answer, Asked, AskedG, Said},
     Refusal,
 };
 
-use crate::{
-    paper::{Asked, Source},
-    Lent,
-};
+use crate::{paper::Source, Lent};
 
 /// Which entry is asked.
 #[derive(Clone, Copy, Debug, PartialEq, Eq, Hash, PartialOrd, Ord)]
@@ -35,6 +32,30 @@ impl Kind {
     /// Every kind.
     pub const ALL: [Kind; 8] =
         [Kind::GToN, Kind::GToC, Kind::NToG, Kind::NToC, Kind::CToN, Kind::CToG, Kind::InBounds, Kind::IsCoding];
+
+    /// The entry's name.
+    pub const fn entry(self) -> &'static str {
+        match self {
+            Kind::GToN => "txc_g_to_n",
+            Kind::GToC => "txc_g_to_c",
+            Kind::NToG => "txc_n_to_g",
+            Kind::NToC => "txc_n_to_c",
+            Kind::CToN => "txc_c_to_n",
+            Kind::CToG => "txc_c_to_g",
+            Kind::InBounds => "txc_in_bounds",
+            Kind::IsCoding => "txc_is_coding",
+        }
+    }
+
+    /// Whether a g. interval is asked about.
+    pub const fn is_about_g(self) -> bool {
+        matches!(self, Kind::GToN | Kind::GToC | Kind::InBounds)
+    }
+
+    /// Whether a c. interval is asked about.
+    pub const fn is_about_c(self) -> bool {
+        matches!(self, Kind::CToN | Kind::CToG)
+    }
 }
 
 /// A question. What its kind does not use is 0.
@@ -46,7 +67,7 @@ pub struct Question {
     pub start: Asked,
     /// The interval's end.
     pub end: Asked,
-    /// Bit 0 the start is missing, bit 1 the end.
+    /// Of a g. interval: which ends are missing, as in [`AskedG`].
     pub missing: u32,
     /// Whether bounds are strict.
     pub strict: bool,
@@ -58,19 +79,24 @@ fn as_answer(said: Said) -> Answer {
 }
 
 impl Question {
+    /// The g. interval that is asked about.
+    pub fn g(&self) -> AskedG {
+        AskedG { start: self.start.base, end: self.end.base, missing: self.missing }
+    }
+
     /// Asks through the boundary.
     pub fn ask(&self, lent: &Lent) -> Answer {
-        let Lent { head: h, genome: g, transcript: t, letters: l } = lent;
-        let Question { kind, start: a, end: b, missing, strict } = *self;
+        let (of, g) = (lent.reading(), self.g());
+        let Question { kind, start: a, end: b, strict, .. } = *self;
         match kind {
-            Kind::GToN => boundary::txc_g_to_n(h, g, t, l, a.base, b.base, missing, strict),
-            Kind::GToC => boundary::txc_g_to_c(h, g, t, l, a.base, b.base, missing, strict),
-            Kind::NToG => boundary::txc_n_to_g(h, g, t, l, a.base, a.offset, b.base, b.offset, strict),
-            Kind::NToC => boundary::txc_n_to_c(h, g, t, l, a.base, a.offset, b.base, b.offset, strict),
-            Kind::CToN => boundary::txc_c_to_n(h, g, t, l, a.base, a.offset, a.star, b.base, b.offset, b.star, strict),
-            Kind::CToG => boundary::txc_c_to_g(h, g, t, l, a.base, a.offset, a.star, b.base, b.offset, b.star, strict),
-            Kind::InBounds => as_answer(boundary::txc_in_bounds(h, g, t, l, a.base, b.base, missing)),
-            Kind::IsCoding => as_answer(boundary::txc_is_coding(h, g, t, l)),
+            Kind::GToN => boundary::g_to_n(of, g, strict),
+            Kind::GToC => boundary::g_to_c(of, g, strict),
+            Kind::NToG => boundary::n_to_g(of, a, b, strict),
+            Kind::NToC => boundary::n_to_c(of, a, b, strict),
+            Kind::CToN => boundary::c_to_n(of, a, b, strict),
+            Kind::CToG => boundary::c_to_g(of, a, b, strict),
+            Kind::InBounds => as_answer(boundary::in_bounds(of, g)),
+            Kind::IsCoding => as_answer(boundary::is_coding(of)),
         }
     }
 
@@ -81,15 +107,16 @@ impl Question {
 
     fn expect_of(&self, source: Option<&Source>) -> Result<Answer, Refusal> {
         let source = source.ok_or(Refusal::NotTogether)?;
-        let Question { kind, start: a, end: b, missing, strict } = *self;
+        let g = self.g();
+        let Question { kind, start: a, end: b, strict, .. } = *self;
         match kind {
-            Kind::GToN => source.g_to_n(a.base, b.base, missing, strict),
-            Kind::GToC => source.g_to_c(a.base, b.base, missing, strict),
+            Kind::GToN => source.g_to_n(g, strict),
+            Kind::GToC => source.g_to_c(g, strict),
             Kind::NToG => source.n_to_g(a, b, strict),
             Kind::NToC => source.n_to_c(a, b, strict),
             Kind::CToN => source.c_to_n(a, b, strict),
             Kind::CToG => source.c_to_g(a, b, strict),
-            Kind::InBounds => source.in_bounds(a.base, b.base, missing).map(as_answer),
+            Kind::InBounds => source.in_bounds(g).map(as_answer),
             Kind::IsCoding => Ok(as_answer(source.is_coding())),
         }
     }

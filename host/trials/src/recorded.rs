@@ -3,14 +3,11 @@
 //! `host/compare/README.md` describes the layout, for readers in other languages too.
 
 use pulindraxi::{
-    boundary::{self, Answer, Laid, Length, Part},
+    boundary::{self, Answer, Asked, Cds, Head, Laid, Length, Part},
     limits::MOST_SEGMENTS,
 };
 
-use crate::{
-    paper::{Asked, CARD_HEAD},
-    Kind, Lent, Question,
-};
+use crate::{paper, Kind, Lent, Place, Question};
 
 /// The size of a block.
 pub const BLOCK: usize = 64;
@@ -164,7 +161,7 @@ impl Row {
     /// The row at the front of a file, and what follows it.
     pub fn read(file: &[u8]) -> Option<(Row, &[u8])> {
         let (block, rest) = file.split_at_checked(BLOCK)?;
-        let length = word(block, 4) as usize;
+        let length = usize::try_from(word(block, 4)).ok()?;
         let (payload, rest) = rest.split_at_checked(length.next_multiple_of(BLOCK))?;
         let row = Row {
             call: *Call::ALL.get(usize::from(block[0]))?,
@@ -179,9 +176,9 @@ impl Row {
 
     /// Building's input of a row.
     fn laid(&self) -> Laid<'_> {
-        let [strand, cds_start, cds_end, count, ..] = self.numbers;
-        let records = &self.payload;
-        Laid { strand, cds: u32::from(self.flags), cds_start, cds_end, count: count as usize, records }
+        let [strand, start, end, count, ..] = self.numbers;
+        let cds = Cds { bits: u32::from(self.flags), start, end };
+        Laid { strand, cds, count: count as usize, records: &self.payload }
     }
 }
 
@@ -192,28 +189,35 @@ fn elements(bytes: &[u8]) -> impl Iterator<Item = (i32, u8)> + '_ {
 
 /// What building's row expects of the memory: strand, first start, segment count, both lengths.
 pub fn built(number: u32, lent: &Lent) -> [i32; 8] {
-    let [kind, strand, first, count, _, _, _, length] = *lent.head;
-    let last = count as usize;
-    match (number, kind) {
-        (0, 0) => [0, strand, first, count, lent.genome[last] as i32, lent.transcript[last] as i32, 0, 0],
-        (0, _) => [0, 0, 0, 0, 0, length, 0, 0],
-        _ => [number as i32, 0, 0, 0, 0, 0, 0, 0],
+    let Head { kind, strand, first_start, segment_count, length, .. } = *lent.head;
+    if number != 0 {
+        return [number as i32, 0, 0, 0, 0, 0, 0, 0];
     }
+    if kind != Head::RECORDS {
+        return [0, 0, 0, 0, 0, length, 0, 0];
+    }
+    let [genome, transcript] = [&lent.genome, &lent.transcript].map(|starts| starts[segment_count as usize] as i32);
+    [0, strand, first_start, segment_count, genome, transcript, 0, 0]
 }
 
 fn counted(length: Length) -> [i32; 8] {
     [length.number as i32, length.length as i32, 0, 0, 0, 0, 0, 0]
 }
 
-/// Changes one number of lent memory.
-pub fn damage(lent: &mut Lent, [table, index, value, ..]: [i32; 6]) {
+/// The place of lent memory that a row of damage names: table and index.
+pub fn place([table, index, ..]: [i32; 6]) -> Place {
     let index = index as usize;
     match table {
-        0 => lent.head[index] = value,
-        1 => lent.genome[index] = value as u32,
-        2 => lent.transcript[index] = value as u32,
-        _ => lent.letters[index] = value as u8,
+        0 => Place::Head(index),
+        1 => Place::Genome(index),
+        2 => Place::Transcript(index),
+        _ => Place::Letter(index),
     }
+}
+
+/// Changes one number of lent memory.
+pub fn damage(lent: &mut Lent, numbers: [i32; 6]) {
+    lent.put(place(numbers), numbers[2]);
 }
 
 fn read_cigar(row: &Row) -> Result<[i32; 8], String> {
@@ -229,6 +233,11 @@ fn read_cigar(row: &Row) -> Result<[i32; 8], String> {
     }
 }
 
+/// Whether a buffer that was 0 throughout has a text at its front and nothing else.
+fn is_front(buffer: &[u8], text: &[u8]) -> bool {
+    buffer.starts_with(text) && buffer[text.len()..].iter().all(|&byte| byte == 0)
+}
+
 fn write_cigar(row: &Row) -> Result<[i32; 8], String> {
     let [number, lent, room, ..] = row.numbers.map(|number| number as usize);
     let (given, expected) = row.payload.split_at(5 * lent);
@@ -239,7 +248,7 @@ fn write_cigar(row: &Row) -> Result<[i32; 8], String> {
     }
     let mut buffer = vec![0; room];
     let written = boundary::write_cigar(number, &counts, &letters, &mut buffer);
-    if buffer.starts_with(expected) && buffer[expected.len()..].iter().all(|&byte| byte == 0) {
+    if is_front(&buffer, expected) {
         Ok(counted(written))
     } else {
         Err("another text".into())
@@ -249,9 +258,8 @@ fn write_cigar(row: &Row) -> Result<[i32; 8], String> {
 fn write_card(row: &Row) -> Result<[i32; 8], String> {
     let mut buffer = vec![0; row.numbers[4] as usize];
     let written = boundary::write_card(row.laid(), &mut buffer);
-    if written.number != 0
-        || buffer[..written.length].ends_with(&row.payload) && written.length == CARD_HEAD + row.payload.len()
-    {
+    let expected = if row.answer[0] == 0 { paper::card(row.laid()) } else { Vec::new() };
+    if is_front(&buffer, &expected) {
         Ok(counted(written))
     } else {
         Err("another card".into())
@@ -273,7 +281,8 @@ fn call(row: &Row, lent: &mut Lent) -> Result<[i32; 8], String> {
         Call::Build => Ok(built(lent.build(row.laid()), lent)),
         Call::BuildLength => {
             let [length, start, end, ..] = row.numbers;
-            let number = boundary::txc_build_length(length, u32::from(row.flags), start, end, &mut lent.head);
+            let cds = Cds { bits: u32::from(row.flags), start, end };
+            let number = boundary::build_length(length, cds, &mut lent.head);
             Ok(built(number, lent))
         }
         Call::Damage => {

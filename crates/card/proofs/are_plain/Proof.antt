@@ -6,8 +6,7 @@ use lib.IntN.{ℤ}
 use mir.Syntax.{w32, w64}
 use mir.Val.{SFits, toZ, ofZ}
 use Rattle.whole.specs.Whole.{whole, eqZ, read, widened}
-use Rattle.transcript.specs.Judging.{startOf, endOf}
-use Rattle.transcript.specs.Outcome.{numberOf}
+use Rattle.transcript.specs.Heads.{startOf, endOf, numberOf}
 use Rattle.card.specs.Card.{arePlain}
 use borrow.Author.Needs.{needs}
 use Rattle.card.proofs.are_plain.Statement.{statement}

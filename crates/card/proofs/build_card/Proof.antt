@@ -1,22 +1,19 @@
--- `card::build_card` meets its contract: what the card reads as is handed to building, number by number.
--- Assumes nothing.
+-- What the card reads as is handed to building, and the bytes behind its numbers are the whole rest of the card. Assumes nothing.
 use mathlib.Core.Path.{_≡_, sym, ap, _∙_}
 use mathlib.Core.List.{List}
 use Prim.Native.Nat.{ℕ, _-_, _≤_}
 use native.Mathlib.Omega.{arith}
-use lib.IntN.{ℤ}
 use lib.ListN.{length, take, drop, length-drop}
 use lib.Seq.{take-all}
-use mir.Syntax.{w32}
-use mir.Val.{toZ, ofZ}
-use Rattle.whole.specs.Whole.{told}
-use Rattle.transcript.specs.Judging.{Judged, Made, refused, judge}
-use Rattle.transcript.specs.Outcome.{answerOf, genomeAfter, transcriptAfter, lettersAfter}
+use Rattle.refusals.specs.Outcome.{Outcome, refused}
+use Rattle.judging.specs.Judging.{Made, judge}
+use Rattle.segments.specs.Tables.{tables}
+use Rattle.building.specs.Afterwards.{answerOf, tablesAfter}
 use Rattle.card.specs.Layout.{recordsAt}
 use Rattle.card.specs.Card.{readCard}
 use Rattle.card.specs.Writing.{judgeRead, judgeCard}
-use Rattle.card.specs.RoundTrips.{read-means}
-use Rattle.card.specs.declared.Numbers.{Numbers}
+use Rattle.card.specs.laws.RoundTrips.{read-means}
+use Rattle.transcript.specs.declared.Numbers.{Numbers}
 use Rattle.card.specs.declared.ReadCard.the-variants as read
 use borrow.Author.Needs.{needs}
 use Rattle.card.proofs.build_card.Statement.{statement}
@@ -43,18 +40,10 @@ module _ (c : tie.After-known-told) where
   long = read-means bytes numbers read-is .0 .long
 
   -- what is handed to building is what the card says
-  handed : judge (toZ w32 (ofZ w32 (numbers .strand))) (numbers .cds) (toZ w32 (ofZ w32 (numbers .start))) (toZ w32 (ofZ w32 (numbers .end))) (numbers .count)
-      (take (length bytes - recordsAt) (drop recordsAt bytes))
-      ≡ judgeCard bytes
+  handed : judge numbers (take (length bytes - recordsAt) (drop recordsAt bytes)) ≡ judgeCard bytes
   handed =
-      let fit = c .known-told .given .0 .1 .1 in
-      same-judgment (told w32 (numbers .strand) (fit .0 .1)) (told w32 (numbers .start) (fit .1 .1 .0 .1)) (told w32 (numbers .end) (fit .1 .1 .1 .0 .1))
-      (take-all (length bytes - recordsAt) (drop recordsAt bytes) (omega (arith, length-drop recordsAt bytes)))
+      ap (judge numbers) (take-all (length bytes - recordsAt) (drop recordsAt bytes) (omega (arith, length-drop recordsAt bytes)))
       ∙ sym (ap (judgeRead bytes) read-is)
-    where
-      same-judgment : {z a x b y d : ℤ} {l m : List ℕ} → z ≡ a → x ≡ b → y ≡ d → l ≡ m
-          → judge z (numbers .cds) x y (numbers .count) l ≡ judge a (numbers .cds) b d (numbers .count) m
-      same-judgment e f g h = rw (e, f, g, h)
 
 sub-build : tie.Need-sub-build
 sub-build c = long c
@@ -73,33 +62,19 @@ enum-known-k c = search needs
 
 returns : tie.Need-returns
 returns c =
-    let k = c .before .before .before .before .before .before .before .before in
-    let a = c .before .before .before .before .before .before .before .before .before .before .before .before .before .args in
-    let b = c .build .ensures in (
-      b .0 ∙ ap answerOf (handed k),
-      (
-        b .1 .0 ∙ ap (λ (j : Judged Made). genomeAfter j (a .genome .now)) (handed k),
-        (
-          b .1 .1 .0 ∙ ap (λ (j : Judged Made). transcriptAfter j (a .transcript .now)) (handed k),
-          b .1 .1 .1 ∙ ap (λ (j : Judged Made). lettersAfter j (a .letters .now)) (handed k),
-        ),
-      ),
-    )
+    let k = c .before .before .before .before .before in
+    let a = k .before .before .before .before .before .args in
+    let was = tables (a .genome .now) (a .transcript .now) (a .letters .now) in
+    let b = c .build .ensures in
+    (b .0 ∙ ap answerOf (handed k), b .1 ∙ ap (λ (j : Outcome Made). tablesAfter j was) (handed k))
 
 returns-2 : tie.Need-returns-2
 returns-2 c =
     let a = c .before .before .before .before .before .args in
     let k = c .before .k .given in
-    let e : judgeCard (a .card .now) ≡ refused (k .0 .0) = ap (judgeRead (a .card .now)) (sym (c .before .before .before .read-card .ensures) ∙ k .1) in (
-      sym (ap answerOf e),
-      (
-        sym (ap (λ (j : Judged Made). genomeAfter j (a .genome .now)) e),
-        (
-          sym (ap (λ (j : Judged Made). transcriptAfter j (a .transcript .now)) e),
-          sym (ap (λ (j : Judged Made). lettersAfter j (a .letters .now)) e),
-        ),
-      ),
-    )
+    let was = tables (a .genome .now) (a .transcript .now) (a .letters .now) in
+    let e : judgeCard (a .card .now) ≡ refused (k .0 .0) = ap (judgeRead (a .card .now)) (sym (c .before .before .before .read-card .ensures) ∙ k .1) in
+    (sym (ap answerOf e), sym (ap (λ (j : Outcome Made). tablesAfter j was) e))
 
 pub build-card-spec : {M : Type 1} → statement M
 build-card-spec =

@@ -11,10 +11,10 @@ use mir.Syntax.{w32}
 use borrow.Author.Tests.{le-leb, lt-leb}
 use Rattle.whole.specs.Whole.{told}
 use Rattle.records.specs.Records.{exactly}
-use Rattle.transcript.specs.Judging.{bothBits}
+use Rattle.transcript.specs.Heads.{bothBits}
 use Rattle.card.specs.Layout.{recordsAt}
 use Rattle.card.specs.Card.{arePlain, isCard}
-use Rattle.card.specs.declared.Numbers.{Numbers}
+use Rattle.transcript.specs.declared.Numbers.{Numbers}
 use Rattle.card.proofs.Reading.{card-is}
 use borrow.Author.Needs.{needs}
 use Rattle.card.proofs.is_card.Statement.{statement}

@@ -7,7 +7,7 @@ use native.Mathlib.Numerals.{add-one}
 use native.Mathlib.Omega.{arith}
 use lib.ListN.{length, getD, take, set, length-set}
 use lib.Seq.{sets, take-suc, take-all, length-take-le}
-use Rattle.cigar.specs.Stores.{sets-snoc}
+use Rattle.cigar.specs.laws.Stores.{sets-snoc}
 use borrow.Author.Needs.{needs}
 use Rattle.card.proofs.put_bytes.Statement.{statement}
 use Rattle.card.proofs.put_bytes.Tie as tie

@@ -1,5 +1,4 @@
--- `card::put_mark` meets its contract.
--- Assumes nothing.
+-- `card::put_mark` meets its contract: three stores, at 0, 1 and 2, are what storing the three letters of `mark` from the front comes to. Assumes nothing.
 use native.Mathlib.Omega.{arith}
 use lib.ListN.{length-set}
 use borrow.Author.Needs.{needs}

@@ -1,5 +1,4 @@
--- `card::read_numbers` meets its contract, number by number.
--- Assumes nothing.
+-- `card::read_numbers` meets its contract: each number is read where `numbersIn` has it, and what `strand_of` and `i32_at` give fits 32 bits, so that the fields are the numbers. Assumes nothing.
 use mathlib.Core.Path.{_≡_, _∙_}
 use Prim.Native.Nat.{ℕ}
 use native.Mathlib.Omega.{arith}
@@ -8,7 +7,7 @@ use borrow.Author.Needs.{needs}
 use mir.Syntax.{w32}
 use Rattle.whole.specs.Whole.{told}
 use Rattle.card.specs.Card.{numbersIn}
-use Rattle.card.specs.declared.Numbers.{Numbers}
+use Rattle.transcript.specs.declared.Numbers.{Numbers}
 use Rattle.card.proofs.read_numbers.Statement.{statement}
 use Rattle.card.proofs.read_numbers.Tie as tie
 

@@ -1,5 +1,4 @@
--- `card::strand_of` meets its contract.
--- Assumes nothing.
+-- `card::strand_of` meets its contract: the branch says whether the byte is 0, and by that alone `strandOf` goes. Assumes nothing.
 use borrow.Author.Tests.{eq-eqb, ne-eqb}
 use Rattle.card.proofs.strand_of.Statement.{statement}
 use Rattle.card.proofs.strand_of.Tie as tie

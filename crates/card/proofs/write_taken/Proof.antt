@@ -1,5 +1,4 @@
--- `card::write_taken` meets its contract: the card's size is known first, so that a refusal stores nothing; then the header is stored, and the records behind it.
--- Assumes nothing.
+-- The card's size is known first, so that a refusal stores nothing; then the header is stored, and the records behind it. Assumes nothing.
 use mathlib.Core.Path.{_≡_, refl, sym, ap, _∙_}
 use mathlib.Core.List.{List}
 use Prim.Native.Nat.{ℕ, _+_, _≤_, _<_}
@@ -8,17 +7,20 @@ use borrow.Author.Tests.{lt-ltb, le-ltb}
 use lib.IntN.{ℤ}
 use lib.ListN.{length}
 use lib.Seq.{sets}
+use mir.Syntax.{w32}
 use Rattle.refusals.specs.Numbers.{mostCard}
-use Rattle.whole.specs.Whole.{read}
-use Rattle.fields.specs.RoundTrips.{Bytes}
-use Rattle.cigar.specs.Lent.{sets-front}
-use Rattle.cigar.specs.Stores.{sets-append}
+use Rattle.whole.specs.Whole.{told}
+use Rattle.fields.specs.laws.RoundTrips.{Bytes}
+use Rattle.cigar.specs.laws.Lent.{sets-front}
+use Rattle.cigar.specs.laws.Stores.{sets-append}
 use Rattle.cigar.specs.declared.write.Written.the-variants as answer
-use Rattle.transcript.specs.Judging.{startOf, endOf}
+use Rattle.transcript.specs.Heads.{startOf, endOf}
 use Rattle.transcript.specs.declared.Bound.{Bound}
+use Rattle.transcript.specs.declared.Numbers.{Numbers}
+use Rattle.judging.specs.Input.{inputOf}
 use Rattle.card.specs.Layout.{recordsAt}
-use Rattle.card.specs.Card.{headerText, cardText, inputOf}
-use Rattle.card.specs.Taken.{text-is, text-length}
+use Rattle.card.specs.Card.{headerText, cardText}
+use Rattle.card.specs.laws.Taken.{text-is, text-length}
 use borrow.Author.Needs.{needs}
 use Rattle.card.proofs.write_taken.Statement.{statement}
 use Rattle.card.proofs.write_taken.Tie as tie
@@ -32,15 +34,13 @@ module _ (c : tie.After-shared-slice-known) where
   entry = c .before
 
   abbrev text : List ℕ
-  text =
-      cardText (inputOf (entry .args .strand) (entry .args .cds) (entry .args .start) (entry .args .end) (entry .args .count) (entry .args .records .now))
+  text = cardText (inputOf (entry .args .numbers) (entry .args .records .now))
 
   bytes : Bytes (entry .args .records .now)
   bytes = record { below = λ i. c .shared-slice-known .given i .fits }
 
   size-is : length text ≡ recordsAt + length (entry .args .records .now)
-  size-is =
-      text-length (entry .args .strand) (entry .args .cds) (entry .args .start) (entry .args .end) (entry .args .count) (entry .args .records .now) bytes (entry .pre .1)
+  size-is = text-length (entry .args .numbers) (entry .args .records .now) bytes (entry .pre .1)
 
 returns : tie.Need-returns
 returns c =
@@ -78,22 +78,31 @@ same-header n e f g = rw (e, f, g)
 
 -- what is stored in the end
 module _ (c : tie.After-slice-known3) where
+  abbrev at-header : tie.After-put-header
+  at-header = c .before .before .before .before .before .before
+
+  abbrev at-end : tie.After-end-of
+  at-end = at-header .before .before .before .before
+
+  abbrev at-start : tie.After-start-of
+  at-start = at-end .before .before
+
   abbrev known : tie.After-shared-slice-known
-  known = c .before .before .before .before .before .before .before .before .before .before .before .before .before
+  known = at-start .before .before .before .before .before
+
+  abbrev n : Numbers
+  n = entry known .args .numbers
 
   abbrev header : List ℕ
-  header =
-      headerText (entry known .args .strand) (startOf (entry known .args .cds) (entry known .args .start)) (endOf (entry known .args .cds) (entry known .args .end))
-      (entry known .args .count)
+  header = headerText (n .strand) (startOf (n .cds) (n .start)) (endOf (n .cds) (n .end)) (n .count)
 
-  header-stored : c .before .before .before .before .before .before .put-header .last .0 ≡ sets (entry known .args .buffer .now) 0 header
+  header-stored : at-header .put-header .last .0 ≡ sets (entry known .args .buffer .now) 0 header
   header-stored =
-      let f = entry known .fits in
-      c .before .before .before .before .before .before .put-header .ensures
+      at-header .put-header .ensures
       ∙ ap (sets (entry known .args .buffer .now) 0)
-      (same-header (entry known .args .count) (read (f .strand))
-      (c .before .before .before .before .before .before .before .before .before .start-of .ensures ∙ ap (startOf (entry known .args .cds)) (read (f .start)))
-      (c .before .before .before .before .before .before .before .before .end-of .ensures ∙ ap (endOf (entry known .args .cds)) (read (f .end))))
+      (same-header (n .count) (told w32 (n .strand) (at-header .before .struct-told3 .given .0 .1))
+      (at-start .start-of .ensures ∙ ap (startOf (n .cds)) (told w32 (n .start) (at-start .before .struct-told .given .1 .1 .0 .1)))
+      (at-end .end-of .ensures ∙ ap (endOf (n .cds)) (told w32 (n .end) (at-end .before .struct-told2 .given .1 .1 .1 .0 .1))))
 
   stored : c .before .before .put-bytes .last .0 ≡ sets (entry known .args .buffer .now) 0 (text known)
   unfolding headerText
@@ -101,9 +110,7 @@ module _ (c : tie.After-slice-known3) where
       c .before .before .put-bytes .ensures
       ∙ ap (λ (b : List ℕ). sets b recordsAt (entry known .args .records .now)) header-stored
       ∙ sym
-      (ap (sets (entry known .args .buffer .now) 0)
-      (text-is (entry known .args .strand) (entry known .args .cds) (entry known .args .start) (entry known .args .end) (entry known .args .count) (entry known .args .records .now) (bytes known)
-      (entry known .pre .1))
+      (ap (sets (entry known .args .buffer .now) 0) (text-is n (entry known .args .records .now) (bytes known) (entry known .pre .1))
       ∙ sets-append header (entry known .args .records .now) (entry known .args .buffer .now) 0)
 
 returns-3 : tie.Need-returns-3

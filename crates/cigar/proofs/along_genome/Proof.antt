@@ -1,8 +1,8 @@
--- `cigar::along_genome` meets its contract. Assumes nothing.
+-- `cigar::along_genome` meets its contract: `D` alone goes nowhere along the genome, and any other letter goes its whole count (`genome-whole`). Assumes nothing.
 use mathlib.Core.Path.{refl}
 use native.Mathlib.Omega.{arith}
 use Rattle.cigar.specs.Elements.{kindOf}
-use Rattle.cigar.specs.Letters.{genome-whole}
+use Rattle.cigar.specs.laws.Letters.{genome-whole}
 use Rattle.cigar.proofs.along_genome.Statement.{statement}
 use Rattle.cigar.proofs.along_genome.Tie as tie
 

@@ -1,8 +1,8 @@
--- `cigar::along_transcript` meets its contract. Assumes nothing.
+-- `cigar::along_transcript` meets its contract: `I` and `N` go nowhere along the transcript, and a letter that is neither goes its whole count (`transcript-whole`). Assumes nothing.
 use mathlib.Core.Path.{refl}
 use native.Mathlib.Omega.{arith}
 use Rattle.cigar.specs.Elements.{kindOf}
-use Rattle.cigar.specs.Letters.{transcript-whole}
+use Rattle.cigar.specs.laws.Letters.{transcript-whole}
 use Rattle.cigar.proofs.along_transcript.Statement.{statement}
 use Rattle.cigar.proofs.along_transcript.Tie as tie
 

@@ -11,9 +11,10 @@ use mir.Syntax.{w32}
 use mir.Val.{toZ, ofZ}
 use mir.ValLaws.{toZ-pos}
 use Rattle.cigar.specs.declared.Step.the-variants.{Element}
-use Rattle.cigar.specs.Text.{stepAt, readAll, elementsIn, Answered}
-use Rattle.cigar.specs.Steps.{Moves, moves, Takes, takes, none-refused, all-taken}
-use Rattle.cigar.specs.Sound.{step-sound}
+use Rattle.refusals.specs.Outcome.{Answered}
+use Rattle.cigar.specs.Text.{stepAt, readAll, elementsIn}
+use Rattle.cigar.specs.laws.Steps.{Moves, moves, Takes, takes, none-refused, all-taken}
+use Rattle.cigar.specs.laws.Sound.{step-sound}
 use Rattle.cigar.specs.Read.{countsOf, lettersOf, Tables, Filled}
 use Rattle.cigar.proofs.Filling.{tables-set, fill-one, fill-none}
 use borrow.Author.Needs.{needs}

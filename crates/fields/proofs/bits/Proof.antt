@@ -1,5 +1,4 @@
--- `fields::bits` meets its contract.
--- Assumes nothing.
+-- `fields::bits` meets its contract: a number below 0 is `negsuc k`, where the code's `-1 - z` is k, and both sides take k off the largest word; any other number is its own bits. Assumes nothing.
 use mathlib.Core.Path.{_≡_, sym, ap, _∙_}
 use mathlib.Core.Bool.{true, false}
 use Prim.Native.Nat.{_-_, _<_}

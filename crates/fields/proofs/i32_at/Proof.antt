@@ -1,5 +1,4 @@
--- `fields::i32_at` meets its contract.
--- Assumes nothing.
+-- `fields::i32_at` meets its contract: `u32_at` reads the 32 bits that stand there, and `signed` takes them as `signed32` does. Assumes nothing.
 use mathlib.Core.Path.{ap, _∙_}
 use mir.Syntax.{w32}
 use mir.ValLaws.{toZ-ofZ}

@@ -1,5 +1,4 @@
--- `fields::put_i32` meets its contract.
--- Assumes nothing.
+-- `fields::put_i32` meets its contract: `bits` gives the number's 32 bits, and `put_u32` stores their four bytes. Assumes nothing.
 use mathlib.Core.Path.{ap, _∙_}
 use Prim.Native.Nat.{ℕ}
 use lib.Seq.{sets}

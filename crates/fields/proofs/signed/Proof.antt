@@ -1,5 +1,4 @@
--- `fields::signed` meets its contract.
--- Assumes nothing.
+-- `fields::signed` meets its contract: below 2^31 the cast keeps the number; from there on what lacks to the largest word is small, and `-1 - m` is `negsuc m`. Assumes nothing.
 use Prim.Native.Nat.{_-_, _<_}
 use native.Mathlib.Omega.{arith}
 use lib.IntN.{negsuc}

@@ -1,5 +1,4 @@
--- `fields::u16_at` meets its contract.
--- Assumes nothing.
+-- `fields::u16_at` meets its contract: `le16` is the byte at the place and 256 times the next one (`two-bytes`), and each is below 256, so that the sum is below 65536. Assumes nothing.
 use native.Mathlib.Omega.{arith}
 use Rattle.fields.proofs.Halves.{two-bytes}
 use borrow.Author.Needs.{needs}

@@ -1,5 +1,4 @@
--- `fields::u32_at` meets its contract.
--- Assumes nothing.
+-- `fields::u32_at` meets its contract: `le32` is its lower half and 65536 times its upper half (`two-halves`), which `u16_at` reads, each below 65536, so that the sum fits. Assumes nothing.
 use native.Mathlib.Omega.{arith}
 use Rattle.fields.proofs.Halves.{two-halves}
 use borrow.Author.Needs.{needs}

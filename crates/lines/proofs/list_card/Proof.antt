@@ -10,20 +10,25 @@ use lib.IntN.{ℤ, pos, natAbs}
 use lib.ListN.{length}
 use mir.Syntax.{w32}
 use mir.Val.{SFits}
+use Rattle.refusals.specs.Outcome.{Outcome}
 use Rattle.whole.specs.Whole.{eqZ, read, widened, fits-wider}
-use Rattle.cigar.specs.Lent.{atFront, sets-front}
-use Rattle.cigar.specs.Elements.{genome, transcript}
-use Rattle.segments.specs.Tables.{startTable, letterTable}
-use Rattle.transcript.specs.Judging.{Judged, Made}
-use Rattle.transcript.specs.Outcome.{strandOf, elementsMade, genomeAfter, transcriptAfter, lettersAfter}
-use Rattle.transcript.specs.Accepted.{Sane}
+use Rattle.cigar.specs.Lent.{atFront}
+use Rattle.cigar.specs.laws.Lent.{sets-front}
+use Rattle.segments.specs.Tables.{tables, tablesOf}
+use Rattle.judging.specs.Judging.{Made, elementsMade}
+use Rattle.transcript.specs.Heads.{strandOf}
+use Rattle.building.specs.Afterwards.{tablesAfter}
+use Rattle.judging.specs.laws.Accepted.{Sane}
 use Rattle.transcript.specs.declared.Head.{Head}
-use Rattle.card.specs.Putting.{Put, put-length, put-as}
-use Rattle.card.specs.Taken.{card-sane}
+use Rattle.card.specs.Putting.{Put}
+use Rattle.card.specs.laws.Putting.{put-length, put-as}
+use Rattle.card.specs.laws.Taken.{card-sane}
 use Rattle.card.specs.Writing.{judgeCard}
 use Rattle.lines.specs.Listing.{judgmentText}
 use Rattle.lines.specs.Lengths.{mostListing}
-use Rattle.lines.proofs.Built.{Makes, makes, refuses, strand-fits, plus-is, made-holds, made-listed}
+use Rattle.building.specs.laws.Standing.{Makes, makes, refuses}
+use Rattle.transcript.specs.laws.Heads.{plus-is}
+use Rattle.lines.proofs.Built.{strand-fits, made-holds, made-listed}
 use borrow.Author.Needs.{needs}
 use Rattle.lines.proofs.list_card.Statement.{statement}
 use Rattle.lines.proofs.list_card.Tie as tie
@@ -55,7 +60,7 @@ module _ (c : tie.After-head) where
   thing = makes-head .made
 
   sane : Sane thing
-  sane = card-sane bytes thing (makes-head .is)
+  sane = card-sane bytes thing (makes-head .judged)
 
   strand-is : head .strand ≡ strandOf (thing .forward)
   strand-is = ap (λ (h : Head). h .strand) (makes-head .head-is)
@@ -69,14 +74,10 @@ module _ (c : tie.After-head) where
   count-small : SFits w32 (head .count)
   count-small = rw count-is (record { sfits = omega (arith, sane .few) })
 
-  genome-is : call .build-card .last .1 .0 ≡ startTable genome (elementsMade thing)
-  genome-is = call .build-card .ensures .1 .0 ∙ ap (λ (j : Judged Made). genomeAfter j (entry call .args .genome .now)) (makes-head .is)
-
-  transcript-is : call .build-card .last .1 .1 .0 ≡ startTable transcript (elementsMade thing)
-  transcript-is = call .build-card .ensures .1 .1 .0 ∙ ap (λ (j : Judged Made). transcriptAfter j (entry call .args .transcript .now)) (makes-head .is)
-
-  letters-are : call .build-card .last .1 .1 .1 .0 ≡ letterTable (elementsMade thing)
-  letters-are = call .build-card .ensures .1 .1 .1 ∙ ap (λ (j : Judged Made). lettersAfter j (entry call .args .letters .now)) (makes-head .is)
+  tables-are : tables (call .build-card .last .1 .0) (call .build-card .last .1 .1 .0) (call .build-card .last .1 .1 .1 .0) ≡ tablesOf (elementsMade thing)
+  tables-are =
+      let a = entry call .args in
+      call .build-card .ensures .1 ∙ ap (λ (j : Outcome Made). tablesAfter j (tables (a .genome .now) (a .transcript .now) (a .letters .now))) (makes-head .judged)
 
 cast-is-plus : tie.Need-cast-is-plus
 cast-is-plus c = let h = c .before .before .before in rw (read (strand-small h)) (fits-wider (strand-small h))
@@ -107,7 +108,7 @@ put-listing-requires : tie.Need-put-listing-requires
 put-listing-requires c κs =
     let n = c .before .before .before .before in
     let h = known n in
-    ((omega (arith, number-is n, sane h .few), omega arith), made-holds (thing h) (genome-is h) (transcript-is h) (letters-are h) (number-is n) (sane h))
+    ((omega (arith, number-is n, sane h .few), omega arith), made-holds (thing h) (tables-are h) (number-is n) (sane h))
 
 enum-known-k : tie.Need-enum-known-k
 enum-known-k c = search needs
@@ -129,7 +130,7 @@ returns : tie.Need-returns
 returns c =
     let n = c .before .before .before .before .before .before .before in
     let h = known n in
-    let e = made-listed (thing h) (genome-is h) (transcript-is h) (letters-are h) (number-is n) (forward-is n) ∙ sym (ap judgmentText (makes-head h .is)) in
+    let e = made-listed (thing h) (tables-are h) (number-is n) (forward-is n) ∙ sym (ap judgmentText (makes-head h .judged)) in
     let b = call h .build-card .ensures in
     let p = c .before .before .put-listing .ensures in
     let w = in-front (put-as e (p .0)) (p .1) (entry (call h) .pre) in

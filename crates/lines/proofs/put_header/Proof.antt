@@ -7,7 +7,8 @@ use native.Mathlib.Omega.{arith}
 use lib.ListN.{set, length-set}
 use Rattle.card.specs.Layout.{mark}
 use Rattle.lines.specs.Listing.{signOf, headerText}
-use Rattle.card.specs.Putting.{Put, then-put, put-length}
+use Rattle.card.specs.Putting.{Put}
+use Rattle.card.specs.laws.Putting.{then-put, put-length}
 use borrow.Author.Needs.{needs}
 use Rattle.lines.proofs.put_header.Statement.{statement}
 use Rattle.lines.proofs.put_header.Tie as tie

@@ -2,8 +2,10 @@
 -- Assumes nothing.
 use native.Mathlib.Omega.{arith}
 use lib.ListN.{length-set}
+use Rattle.segments.specs.Tables.{tables}
 use Rattle.lines.specs.Tables.{lineAt}
-use Rattle.card.specs.Putting.{Put, byte-put, then-put, put-length}
+use Rattle.card.specs.Putting.{Put}
+use Rattle.card.specs.laws.Putting.{byte-put, then-put, put-length}
 use borrow.Author.Needs.{needs}
 use Rattle.lines.proofs.put_line.Statement.{statement}
 use Rattle.lines.proofs.put_line.Tie as tie
@@ -41,7 +43,7 @@ module _ (c : tie.After-slice-known2) where
   start = c .before .before .before .before .before .before .before .before .before
 
   whole : Put (start .args .buffer .now) (c .before .before .put-numbers .last .0) (start .args .at) (c .before .before .put-numbers .result)
-      (lineAt (start .args .genome .now) (start .args .transcript .now) (start .args .letters .now) (start .args .i))
+      (lineAt (tables (start .args .genome .now) (start .args .transcript .now) (start .args .letters .now)) (start .args .i))
   unfolding lineAt
   whole = then-put (byte-put (start .args .buffer .now) (start .args .at) _) (rw (c .before .before .before .before .before .before .before .count-at .ensures) at (c .before .before .put-numbers .ensures .0))
 

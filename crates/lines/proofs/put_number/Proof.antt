@@ -4,7 +4,8 @@ use native.Mathlib.Omega.{arith}
 use lib.ListN.{length-set}
 use Rattle.lines.specs.Listing.{numberText}
 use Rattle.lines.specs.Lengths.{number-short}
-use Rattle.card.specs.Putting.{Put, byte-put, then-put, put-length}
+use Rattle.card.specs.Putting.{Put}
+use Rattle.card.specs.laws.Putting.{byte-put, then-put, put-length}
 use borrow.Author.Needs.{needs}
 use Rattle.lines.proofs.put_number.Statement.{statement}
 use Rattle.lines.proofs.put_number.Tie as tie

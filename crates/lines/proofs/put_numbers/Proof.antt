@@ -5,7 +5,8 @@ use mathlib.Core.List.{_++_}
 use Prim.Native.Nat.{_+_}
 use lib.ListN.{set}
 use Rattle.lines.specs.Listing.{numberText, numbersText}
-use Rattle.card.specs.Putting.{Put, byte-put, then-put, put-length}
+use Rattle.card.specs.Putting.{Put}
+use Rattle.card.specs.laws.Putting.{byte-put, then-put, put-length}
 use borrow.Author.Needs.{needs}
 use Rattle.lines.proofs.put_numbers.Statement.{statement}
 use Rattle.lines.proofs.put_numbers.Tie as tie

@@ -6,7 +6,8 @@ use Prim.Native.Nat.{_+_}
 use native.Mathlib.Omega.{arith}
 use lib.ListN.{set, length-set}
 use Rattle.lines.specs.Listing.{numberText, refusalText}
-use Rattle.card.specs.Putting.{Put, byte-put, then-put, put-length}
+use Rattle.card.specs.Putting.{Put}
+use Rattle.card.specs.laws.Putting.{byte-put, then-put, put-length}
 use borrow.Author.Needs.{needs}
 use Rattle.lines.proofs.put_refusal.Statement.{statement}
 use Rattle.lines.proofs.put_refusal.Tie as tie

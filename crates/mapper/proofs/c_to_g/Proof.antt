@@ -1,23 +1,55 @@
--- `mapper::c_to_g` meets its contract. Assumes nothing.
+-- `mapper::c_to_g` meets its contract: what is lent is known once; the first mapping is asked wholly, and the second on its answer asked again, or 18. Assumes nothing.
 use mathlib.Core.Path.{sym, _∙_}
-use Rattle.mapper.specs.Asking.{answerCToG}
+use Rattle.mapper.specs.Asking.{askCToG, askCToN, askNToG}
+use Rattle.mapper.proofs.Known.{known-lies, lying-c-to-g, ask-length, ask-broken}
 use borrow.Author.Needs.{needs}
 use Rattle.mapper.proofs.c_to_g.Statement.{statement}
 use Rattle.mapper.proofs.c_to_g.Tie as tie
 
-check-requires : tie.Need-check-requires
-check-requires c κs = search needs
+known-of-requires : tie.Need-known-of-requires
+known-of-requires c κs = search needs
 
-c-to-g-requires : tie.Need-c-to-g-requires
-c-to-g-requires c κs = sym (c .before .check .ensures) ∙ c .if1 .taken
+enum-known-at : tie.Need-enum-known-at
+enum-known-at c = search needs
+
+last-requires : tie.Need-last-requires
+last-requires c κs = let p = c .before in known-lies _ _ _ (sym (p .before .before .known-of .ensures) ∙ p .at .given .1) .sound .count-to
+
+c-to-n-requires : tie.Need-c-to-n-requires
+c-to-n-requires c κs = search needs
+
+then-n-to-g-requires : tie.Need-then-n-to-g-requires
+then-n-to-g-requires c κs = let p = c .before .before .before in known-lies _ _ _ (sym (p .before .before .known-of .ensures) ∙ p .at .given .1) .sound
+
+enum-known-length : tie.Need-enum-known-length
+enum-known-length c = search needs
+
+c-to-n-requires-2 : tie.Need-c-to-n-requires-2
+c-to-n-requires-2 c κs = search needs
+
+then-no-genome-requires : tie.Need-then-no-genome-requires
+then-no-genome-requires c κs = search needs
+
+enum-told : tie.Need-enum-told
+enum-told c = search needs
 
 returns : tie.Need-returns
-unfolding answerCToG
-returns c = rw (sym (c .before .before .check .ensures) ∙ c .before .if1 .taken) (c .c-to-g .ensures)
+returns c =
+    let n = c .before in
+    let l = n .before in
+    let p = l .before .before in
+    let o = p .before .before in
+    rw (n .c-to-n .ensures, l .last .ensures) at (c .then-n-to-g .ensures) ∙ sym (lying-c-to-g _ _ _ (sym (o .known-of .ensures) ∙ p .at .given .1) (o .before .args .strict) _)
 
 returns-2 : tie.Need-returns-2
-unfolding answerCToG
-returns-2 c = rw (sym (c .before .check .ensures) ∙ c .if1 .left)
+unfolding askCToG askCToN askNToG
+returns-2 c =
+    let n = c .before in
+    let p = n .before .before in
+    rw (n .c-to-n2 .ensures) at (c .then-no-genome .ensures) ∙ sym (ask-length _ _ (sym (p .before .before .known-of .ensures) ∙ p .length .given .1))
+
+returns-3 : tie.Need-returns-3
+returns-3 c = sym (ask-broken _ _ (sym (c .before .before .known-of .ensures) ∙ c .enum-told .given .1))
 
 pub c-to-g-spec : {M : Type 1} → statement M
-c-to-g-spec = tie.close (tie.spec check-requires c-to-g-requires returns returns-2)
+c-to-g-spec = tie.close (tie.spec known-of-requires enum-known-at last-requires c-to-n-requires then-n-to-g-requires enum-known-length c-to-n-requires-2 then-no-genome-requires enum-told returns returns-2 returns-3)

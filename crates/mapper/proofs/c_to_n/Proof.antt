@@ -1,23 +1,46 @@
--- `mapper::c_to_n` meets its contract. Assumes nothing.
+-- `mapper::c_to_n` meets its contract: what is lent is known once, its length is the last entry or the head's number, and each arm is what the question then is. Assumes nothing.
 use mathlib.Core.Path.{sym, _∙_}
-use Rattle.mapper.specs.Asking.{answerCToN}
+use Rattle.mapper.specs.Asking.{askCToN}
+use Rattle.mapper.proofs.Known.{known-lies, lying-c-to-n, ask-length, ask-broken}
 use borrow.Author.Needs.{needs}
 use Rattle.mapper.proofs.c_to_n.Statement.{statement}
 use Rattle.mapper.proofs.c_to_n.Tie as tie
 
-check-requires : tie.Need-check-requires
-check-requires c κs = search needs
+known-of-requires : tie.Need-known-of-requires
+known-of-requires c κs = search needs
+
+enum-known-at : tie.Need-enum-known-at
+enum-known-at c = search needs
+
+last-requires : tie.Need-last-requires
+last-requires c κs = let p = c .before in known-lies _ _ _ (sym (p .before .before .known-of .ensures) ∙ p .at .given .1) .sound .count-to
 
 c-to-n-requires : tie.Need-c-to-n-requires
-c-to-n-requires c κs = sym (c .before .check .ensures) ∙ c .if1 .taken
+c-to-n-requires c κs = search needs
+
+enum-known-length : tie.Need-enum-known-length
+enum-known-length c = search needs
+
+c-to-n-requires-2 : tie.Need-c-to-n-requires-2
+c-to-n-requires-2 c κs = search needs
+
+enum-told : tie.Need-enum-told
+enum-told c = search needs
 
 returns : tie.Need-returns
-unfolding answerCToN
-returns c = rw (sym (c .before .before .check .ensures) ∙ c .before .if1 .taken) (c .c-to-n .ensures)
+returns c =
+    let p = c .before .before .before in
+    let o = p .before .before in
+    rw (c .before .last .ensures) at (c .c-to-n .ensures) ∙ sym (lying-c-to-n _ _ _ (sym (o .known-of .ensures) ∙ p .at .given .1) (o .before .args .strict) _)
 
 returns-2 : tie.Need-returns-2
-unfolding answerCToN
-returns-2 c = rw (sym (c .before .check .ensures) ∙ c .if1 .left)
+unfolding askCToN
+returns-2 c =
+    let p = c .before .before in
+    c .c-to-n2 .ensures ∙ sym (ask-length _ _ (sym (p .before .before .known-of .ensures) ∙ p .length .given .1))
+
+returns-3 : tie.Need-returns-3
+returns-3 c = sym (ask-broken _ _ (sym (c .before .before .known-of .ensures) ∙ c .enum-told .given .1))
 
 pub c-to-n-spec : {M : Type 1} → statement M
-c-to-n-spec = tie.close (tie.spec check-requires c-to-n-requires returns returns-2)
+c-to-n-spec = tie.close (tie.spec known-of-requires enum-known-at last-requires c-to-n-requires enum-known-length c-to-n-requires-2 enum-told returns returns-2 returns-3)

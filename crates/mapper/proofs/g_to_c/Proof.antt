@@ -1,23 +1,46 @@
--- `mapper::g_to_c` meets its contract. Assumes nothing.
+-- `mapper::g_to_c` meets its contract: what is lent is known once; the first mapping is asked wholly, and the second on its answer asked again. Assumes nothing.
 use mathlib.Core.Path.{sym, _∙_}
-use Rattle.mapper.specs.Asking.{answerGToC}
+use Rattle.mapper.specs.Asking.{askGToC, askGToN}
+use Rattle.mapper.proofs.Known.{known-lies, lying-g-to-c, ask-length, ask-broken}
 use borrow.Author.Needs.{needs}
 use Rattle.mapper.proofs.g_to_c.Statement.{statement}
 use Rattle.mapper.proofs.g_to_c.Tie as tie
 
-check-requires : tie.Need-check-requires
-check-requires c κs = search needs
+known-of-requires : tie.Need-known-of-requires
+known-of-requires c κs = search needs
 
-g-to-c-requires : tie.Need-g-to-c-requires
-g-to-c-requires c κs = sym (c .before .check .ensures) ∙ c .if1 .taken
+enum-known-at : tie.Need-enum-known-at
+enum-known-at c = search needs
+
+last-requires : tie.Need-last-requires
+last-requires c κs = let p = c .before in known-lies _ _ _ (sym (p .before .before .known-of .ensures) ∙ p .at .given .1) .sound .count-to
+
+g-to-n-requires : tie.Need-g-to-n-requires
+g-to-n-requires c κs = let p = c .before .before in known-lies _ _ _ (sym (p .before .before .known-of .ensures) ∙ p .at .given .1) .sound
+
+then-n-to-c-requires : tie.Need-then-n-to-c-requires
+then-n-to-c-requires c κs = search needs
+
+enum-told : tie.Need-enum-told
+enum-told c = search needs
+
+enum-told-2 : tie.Need-enum-told-2
+enum-told-2 c = search needs
 
 returns : tie.Need-returns
-unfolding answerGToC
-returns c = rw (sym (c .before .before .check .ensures) ∙ c .before .if1 .taken) (c .g-to-c .ensures)
+returns c =
+    let n = c .before in
+    let l = n .before in
+    let p = l .before .before in
+    let o = p .before .before in
+    rw (l .last .ensures, n .g-to-n .ensures) at (c .then-n-to-c .ensures) ∙ sym (lying-g-to-c _ _ _ (sym (o .known-of .ensures) ∙ p .at .given .1) (o .before .args .strict) _)
 
 returns-2 : tie.Need-returns-2
-unfolding answerGToC
-returns-2 c = rw (sym (c .before .check .ensures) ∙ c .if1 .left)
+unfolding askGToC askGToN
+returns-2 c = sym (ask-length _ _ (sym (c .before .before .known-of .ensures) ∙ c .enum-told .given .1))
+
+returns-3 : tie.Need-returns-3
+returns-3 c = sym (ask-broken _ _ (sym (c .before .before .known-of .ensures) ∙ c .enum-told2 .given .1))
 
 pub g-to-c-spec : {M : Type 1} → statement M
-g-to-c-spec = tie.close (tie.spec check-requires g-to-c-requires returns returns-2)
+g-to-c-spec = tie.close (tie.spec known-of-requires enum-known-at last-requires g-to-n-requires then-n-to-c-requires enum-told enum-told-2 returns returns-2 returns-3)

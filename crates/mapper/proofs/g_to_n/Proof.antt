@@ -1,23 +1,38 @@
--- `mapper::g_to_n` meets its contract. Assumes nothing.
+-- `mapper::g_to_n` meets its contract: what is lent is known once, and each arm is what the question then is. Assumes nothing.
 use mathlib.Core.Path.{sym, _∙_}
-use Rattle.mapper.specs.Asking.{answerGToN}
+use Rattle.mapper.specs.Asking.{askGToN}
+use Rattle.mapper.proofs.Known.{known-lies, lying-g-to-n, ask-length, ask-broken}
 use borrow.Author.Needs.{needs}
 use Rattle.mapper.proofs.g_to_n.Statement.{statement}
 use Rattle.mapper.proofs.g_to_n.Tie as tie
 
-check-requires : tie.Need-check-requires
-check-requires c κs = search needs
+known-of-requires : tie.Need-known-of-requires
+known-of-requires c κs = search needs
+
+enum-known-at : tie.Need-enum-known-at
+enum-known-at c = search needs
 
 g-to-n-requires : tie.Need-g-to-n-requires
-g-to-n-requires c κs = sym (c .before .check .ensures) ∙ c .if1 .taken
+g-to-n-requires c κs = let p = c .before in known-lies _ _ _ (sym (p .before .before .known-of .ensures) ∙ p .at .given .1) .sound
+
+enum-told : tie.Need-enum-told
+enum-told c = search needs
+
+enum-told-2 : tie.Need-enum-told-2
+enum-told-2 c = search needs
 
 returns : tie.Need-returns
-unfolding answerGToN
-returns c = rw (sym (c .before .before .check .ensures) ∙ c .before .if1 .taken) (c .g-to-n .ensures)
+returns c =
+    let p = c .before .before in
+    let o = p .before .before in
+    c .g-to-n .ensures ∙ sym (lying-g-to-n _ _ _ (sym (o .known-of .ensures) ∙ p .at .given .1) (o .before .args .strict) _)
 
 returns-2 : tie.Need-returns-2
-unfolding answerGToN
-returns-2 c = rw (sym (c .before .check .ensures) ∙ c .if1 .left)
+unfolding askGToN
+returns-2 c = sym (ask-length _ _ (sym (c .before .before .known-of .ensures) ∙ c .enum-told .given .1))
+
+returns-3 : tie.Need-returns-3
+returns-3 c = sym (ask-broken _ _ (sym (c .before .before .known-of .ensures) ∙ c .enum-told2 .given .1))
 
 pub g-to-n-spec : {M : Type 1} → statement M
-g-to-n-spec = tie.close (tie.spec check-requires g-to-n-requires returns returns-2)
+g-to-n-spec = tie.close (tie.spec known-of-requires enum-known-at g-to-n-requires enum-told enum-told-2 returns returns-2 returns-3)

@@ -1,24 +1,42 @@
--- `mapper::is_coding_transcript` meets its contract. Assumes nothing.
+-- `mapper::is_coding_transcript` meets its contract: what is lent is known once, and a transcript of either kind codes where it has a CDS. Assumes nothing.
 use mathlib.Core.Path.{sym, _∙_}
-use Rattle.mapper.specs.Asking.{answerCoding}
+use Rattle.mapper.specs.Asking.{askCoding}
+use Rattle.mapper.proofs.Known.{lying-coding, ask-length, ask-broken}
 use borrow.Author.Needs.{needs}
 use Rattle.mapper.proofs.is_coding_transcript.Statement.{statement}
 use Rattle.mapper.proofs.is_coding_transcript.Tie as tie
 
-check-requires : tie.Need-check-requires
-check-requires c κs = search needs
+known-of-requires : tie.Need-known-of-requires
+known-of-requires c κs = search needs
+
+enum-known-cds : tie.Need-enum-known-cds
+enum-known-cds c = search needs
 
 is-coding-requires : tie.Need-is-coding-requires
-is-coding-requires c κs = sym (c .before .check .ensures) ∙ c .if1 .taken
+is-coding-requires c κs = search needs
+
+enum-known-cds-2 : tie.Need-enum-known-cds-2
+enum-known-cds-2 c = search needs
+
+is-coding-requires-2 : tie.Need-is-coding-requires-2
+is-coding-requires-2 c κs = search needs
+
+enum-told : tie.Need-enum-told
+enum-told c = search needs
 
 returns : tie.Need-returns
-unfolding answerCoding
-returns c = rw (sym (c .before .before .check .ensures) ∙ c .before .if1 .taken) (c .is-coding .ensures)
+returns c =
+    let p = c .before .before in
+    c .is-coding .ensures ∙ sym (lying-coding _ _ _ (sym (p .before .before .known-of .ensures) ∙ p .cds .given .1))
 
 returns-2 : tie.Need-returns-2
-unfolding answerCoding
-returns-2 c = rw (sym (c .before .check .ensures) ∙ c .if1 .left)
+unfolding askCoding
+returns-2 c =
+    let p = c .before .before in
+    c .is-coding2 .ensures ∙ sym (ask-length _ _ (sym (p .before .before .known-of .ensures) ∙ p .cds2 .given .1))
+
+returns-3 : tie.Need-returns-3
+returns-3 c = sym (ask-broken _ _ (sym (c .before .before .known-of .ensures) ∙ c .enum-told .given .1))
 
 pub is-coding-transcript-spec : {M : Type 1} → statement M
-is-coding-transcript-spec =
-    tie.close (tie.spec check-requires is-coding-requires returns returns-2)
+is-coding-transcript-spec = tie.close (tie.spec known-of-requires enum-known-cds is-coding-requires enum-known-cds-2 is-coding-requires-2 enum-told returns returns-2 returns-3)

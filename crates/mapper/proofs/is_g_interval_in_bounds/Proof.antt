@@ -1,24 +1,38 @@
--- `mapper::is_g_interval_in_bounds` meets its contract. Assumes nothing.
+-- `mapper::is_g_interval_in_bounds` meets its contract: what is lent is known once, and each arm is what the question then is. Assumes nothing.
 use mathlib.Core.Path.{sym, _∙_}
-use Rattle.mapper.specs.Asking.{answerInBounds}
+use Rattle.mapper.specs.Asking.{askInBounds}
+use Rattle.mapper.proofs.Known.{known-lies, lying-in-bounds, ask-length, ask-broken}
 use borrow.Author.Needs.{needs}
 use Rattle.mapper.proofs.is_g_interval_in_bounds.Statement.{statement}
 use Rattle.mapper.proofs.is_g_interval_in_bounds.Tie as tie
 
-check-requires : tie.Need-check-requires
-check-requires c κs = search needs
+known-of-requires : tie.Need-known-of-requires
+known-of-requires c κs = search needs
+
+enum-known-at : tie.Need-enum-known-at
+enum-known-at c = search needs
 
 is-in-bounds-requires : tie.Need-is-in-bounds-requires
-is-in-bounds-requires c κs = sym (c .before .check .ensures) ∙ c .if1 .taken
+is-in-bounds-requires c κs = let p = c .before in known-lies _ _ _ (sym (p .before .before .known-of .ensures) ∙ p .at .given .1) .sound .count-to
+
+enum-told : tie.Need-enum-told
+enum-told c = search needs
+
+enum-told-2 : tie.Need-enum-told-2
+enum-told-2 c = search needs
 
 returns : tie.Need-returns
-unfolding answerInBounds
-returns c = rw (sym (c .before .before .check .ensures) ∙ c .before .if1 .taken) (c .is-in-bounds .ensures)
+returns c =
+    let p = c .before .before in
+    let o = p .before .before in
+    c .is-in-bounds .ensures ∙ sym (lying-in-bounds _ _ _ (sym (o .known-of .ensures) ∙ p .at .given .1) _)
 
 returns-2 : tie.Need-returns-2
-unfolding answerInBounds
-returns-2 c = rw (sym (c .before .check .ensures) ∙ c .if1 .left)
+unfolding askInBounds
+returns-2 c = sym (ask-length _ _ (sym (c .before .before .known-of .ensures) ∙ c .enum-told .given .1))
+
+returns-3 : tie.Need-returns-3
+returns-3 c = sym (ask-broken _ _ (sym (c .before .before .known-of .ensures) ∙ c .enum-told2 .given .1))
 
 pub is-g-interval-in-bounds-spec : {M : Type 1} → statement M
-is-g-interval-in-bounds-spec =
-    tie.close (tie.spec check-requires is-in-bounds-requires returns returns-2)
+is-g-interval-in-bounds-spec = tie.close (tie.spec known-of-requires enum-known-at is-in-bounds-requires enum-told enum-told-2 returns returns-2 returns-3)

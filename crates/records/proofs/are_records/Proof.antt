@@ -4,7 +4,7 @@ use Prim.Native.Nat.{_≤_}
 use native.Mathlib.Omega.{arith}
 use lib.ListN.{length}
 use Rattle.records.specs.Records.{exactly}
-use Rattle.records.specs.Walk.{no-numbers, no-text, one-more, all-walked}
+use Rattle.records.specs.laws.Walk.{no-numbers, no-text, one-more, all-walked}
 use borrow.Author.Needs.{needs}
 use Rattle.records.proofs.are_records.Statement.{statement}
 use Rattle.records.proofs.are_records.Tie as tie

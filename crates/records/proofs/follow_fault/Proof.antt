@@ -1,4 +1,4 @@
--- `records::follow_fault` meets its contract. The first of two tests that refuses counts. Assumes nothing.
+-- `records::follow_fault` meets its contract: a refusal of the two `ord`s counts at once (`refuses`), and without one that of the transcript end and start does (`passes`). Assumes nothing.
 use mathlib.Core.Path.{_≡_, ap₂, _∙_}
 use Prim.Native.Nat.{_+_}
 use mir.Syntax.{w64}
@@ -6,7 +6,7 @@ use Rattle.whole.specs.Whole.{told}
 use Rattle.records.specs.Layout.{ordAt}
 use Rattle.records.specs.Records.{recordAt, fieldAt}
 use Rattle.records.specs.Faults.{riseFault, joinFault, followFault}
-use Rattle.records.specs.Chain.{refuses, passes}
+use Rattle.records.specs.laws.Chain.{refuses, passes}
 use borrow.Author.Needs.{needs}
 use Rattle.records.proofs.follow_fault.Statement.{statement}
 use Rattle.records.proofs.follow_fault.Tie as tie

@@ -1,4 +1,4 @@
--- `records::next_at` meets its contract. Assumes nothing.
+-- `records::next_at` meets its contract: `u16_at` reads the CIGAR's size where `nextAt` has it, and a size below 65536 after a place inside the bytes does not wrap. Assumes nothing.
 use native.Mathlib.Omega.{arith}
 use borrow.Author.Needs.{needs}
 use Rattle.records.proofs.next_at.Statement.{statement}

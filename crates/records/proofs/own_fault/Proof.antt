@@ -1,4 +1,4 @@
--- `records::own_fault` meets its contract. The first of two tests that refuses counts. Assumes nothing.
+-- `records::own_fault` meets its contract: a refusal of the genome bounds counts at once (`refuses`), and without one that of the transcript bounds does (`passes`). Assumes nothing.
 use mathlib.Core.Path.{_≡_, ap₂, _∙_}
 use Prim.Native.Nat.{_+_}
 use mir.Syntax.{w64}
@@ -6,7 +6,7 @@ use Rattle.whole.specs.Whole.{told}
 use Rattle.records.specs.Layout.{altStart, altEnd}
 use Rattle.records.specs.Records.{recordAt, fieldAt}
 use Rattle.records.specs.Faults.{spanFault, ownFault}
-use Rattle.records.specs.Chain.{refuses, passes}
+use Rattle.records.specs.laws.Chain.{refuses, passes}
 use borrow.Author.Needs.{needs}
 use Rattle.records.proofs.own_fault.Statement.{statement}
 use Rattle.records.proofs.own_fault.Tie as tie

@@ -1,4 +1,4 @@
--- `records::pair_fault` meets its contract. The first of two tests that refuses counts. Assumes nothing.
+-- `records::pair_fault` meets its contract: a refusal of the genome start counts at once (`refuses`); without one `follow_fault` decides (`passes`), asked the other way round on strand -1. Assumes nothing.
 use mathlib.Core.Path.{_≡_, ap₂, _∙_}
 use Prim.Native.Nat.{_+_}
 use mir.Syntax.{w64}
@@ -6,7 +6,7 @@ use Rattle.whole.specs.Whole.{told}
 use Rattle.records.specs.Layout.{altStart, altEnd}
 use Rattle.records.specs.Records.{recordAt, fieldAt}
 use Rattle.records.specs.Faults.{startFault, pairFault}
-use Rattle.records.specs.Chain.{refuses, passes}
+use Rattle.records.specs.laws.Chain.{refuses, passes}
 use borrow.Author.Needs.{needs}
 use Rattle.records.proofs.pair_fault.Statement.{statement}
 use Rattle.records.proofs.pair_fault.Tie as tie

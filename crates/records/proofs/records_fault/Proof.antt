@@ -8,8 +8,9 @@ use lib.ListN.{length}
 use Rattle.records.specs.Layout.{cigarText}
 use Rattle.records.specs.Records.{nextAt, recordAt, recordsFrom, exactly}
 use Rattle.records.specs.Faults.{_orElse_, ownFault, pairFault, faultsAfter, faults}
-use Rattle.records.specs.Chain.{refuses, passes}
-use Rattle.records.specs.Walk.{Begins, begins, faults-first, faults-one, faults-none, no-faults}
+use Rattle.records.specs.laws.Chain.{refuses, passes}
+use Rattle.records.specs.Walk.{Begins}
+use Rattle.records.specs.laws.Walk.{begins, faults-first, faults-one, faults-none, no-faults}
 use borrow.Author.Needs.{needs}
 use Rattle.records.proofs.records_fault.Statement.{statement}
 use Rattle.records.proofs.records_fault.Tie as tie

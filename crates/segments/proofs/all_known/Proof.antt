@@ -1,4 +1,4 @@
--- `segments::all_known` meets its contract. The loop's invariant: the flag is what `allBelow` says of the segments passed. Assumes nothing.
+-- After each turn the flag is what `allBelow` says of the letters passed. Assumes nothing.
 use Prim.Native.Nat.{_≤_, _-_}
 use mathlib.Core.Path.{_≡_}
 use borrow.Author.Needs.{needs}

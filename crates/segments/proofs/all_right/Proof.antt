@@ -1,14 +1,14 @@
--- `segments::all_right` meets its contract. The loop's invariant: the flag is what `allBelow` says of the segments passed. Each read of a table asks two things, that the index is within it and that the index times four does not wrap. Assumes nothing.
+-- After each turn the flag is what `allBelow` says of the segments passed. Each read of a table asks two things, that the index is within it and that the index times four does not wrap. Assumes nothing.
 use Prim.Native.Nat.{_≤_, _-_}
 use mathlib.Core.Path.{_≡_}
 use borrow.Author.Needs.{needs}
-use Rattle.segments.specs.Tables.{allBelow, rightAt}
+use Rattle.segments.specs.Tables.{tables, allBelow, rightAt}
 use Rattle.segments.proofs.All.{all-none, all-more, all-done}
 use Rattle.segments.proofs.all_right.Statement.{statement}
 use Rattle.segments.proofs.all_right.Tie as tie
 
 abbrev Inv-loop : tie.InvT-loop
-Inv-loop genome transcript letters count ok₀ i₀ ok i = (i ≤ count) × (ok ≡ allBelow (rightAt genome transcript letters) i)
+Inv-loop genome transcript letters count ok₀ i₀ ok i = (i ≤ count) × (ok ≡ allBelow (rightAt (tables genome transcript letters)) i)
 
 abbrev μ-loop : tie.MeasureT-loop
 μ-loop genome transcript letters count ok₀ i₀ ok i = count - i

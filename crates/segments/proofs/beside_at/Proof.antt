@@ -1,9 +1,9 @@
--- `segments::beside_at` meets its contract, one arm for each end. Assumes nothing.
+-- One arm for each end: the machine's t - 1 and t are the definition's. Assumes nothing.
 use mathlib.Core.Path.{refl}
 use native.Mathlib.Omega.{arith}
 use borrow.Author.Needs.{needs}
 use Rattle.whole.specs.Whole.{read, fits-38}
-use Rattle.segments.specs.Entries.{entry}
+use Rattle.whole.specs.laws.Machine.{entry}
 use Rattle.segments.proofs.Bounds.{before-38, entry-38}
 use Rattle.segments.proofs.beside_at.Statement.{statement}
 use Rattle.segments.proofs.beside_at.Tie as tie

@@ -1,22 +1,20 @@
--- `segments::find` meets its contract. The loop's invariant: each segment passed ends at p or before. A signed number stands in an invariant as its bits, so p is `toZ w64 p` there. Assumes nothing.
-use Prim.Native.Nat.{ℕ, _+_, _≤_, _<_, _-_}
+-- Each segment that the loop passed ends at p or before, so that the one where it stops is the first whose end is above p, or the last: there is only one such number. A signed number stands in an invariant as its bits, so p is `toZ w64 p` there. Assumes nothing.
+use Prim.Native.Nat.{ℕ, _-_, _≤_, _<_}
 use native.Mathlib.Omega.{arith}
 use mathlib.Core.Bool.{false}
 use mathlib.Core.Path.{_≡_, sym, _∙_}
 use borrow.Author.Count.{below-none, below-more}
 use borrow.Author.Needs.{needs}
-use lib.IntN.{pos}
-use lib.ListN.{getD}
-use lib.Signed.{ltZ}
 use mir.Syntax.{w64}
 use mir.Val.{toZ}
 use Rattle.whole.specs.Whole.{read}
-use Rattle.segments.proofs.Finding.{first-is}
+use Rattle.segments.specs.Places.{endsAbove}
+use Rattle.segments.specs.laws.Finding.{index-is}
 use Rattle.segments.proofs.find.Statement.{statement}
 use Rattle.segments.proofs.find.Tie as tie
 
 abbrev Inv-loop : tie.InvT-loop
-Inv-loop starts count p last i₀ i = (i ≤ last) × ((k : ℕ) → k < i → ltZ (toZ w64 p) (pos (getD starts (k + 1) 0)) ≡ false)
+Inv-loop starts count p last i₀ i = (i ≤ last) × ((k : ℕ) → k < i → endsAbove starts (toZ w64 p) k ≡ false)
 
 abbrev μ-loop : tie.MeasureT-loop
 μ-loop starts count p last i₀ i = last - i
@@ -43,7 +41,7 @@ returns : tie.Need-returns Inv-loop μ-loop
 returns c =
     let at-loop = c .before .before .before .before in
     let p = read (at-loop .before .fits .p) in
-    (search needs, first-is _ _ _ _ _ (omega arith) (omega arith) (simp p at (at-loop .loop .inv .1)) (λ _. simp p at (sym (c .before .is-above .ensures) ∙ c .if1 .taken)))
+    (search needs, index-is _ _ _ (record { below = omega arith; passed = simp p at (at-loop .loop .inv .1); here = λ _. simp p at (sym (c .before .is-above .ensures) ∙ c .if1 .taken) }))
 
 add-i : tie.Need-add-i Inv-loop μ-loop
 add-i c = search needs
@@ -59,7 +57,7 @@ loop-again c =
 returns-2 : tie.Need-returns-2 Inv-loop μ-loop
 returns-2 c =
     let p = read (c .before .before .fits .p) in
-    (search needs, first-is _ _ _ _ _ (omega arith) (omega arith) (simp p at (c .before .loop .inv .1)) (λ more. absurd (omega arith)))
+    (search needs, index-is _ _ _ (record { below = omega arith; passed = simp p at (c .before .loop .inv .1); here = λ more. absurd (omega arith) }))
 
 pub find-spec : {M : Type 1} → statement M
 find-spec =

@@ -1,9 +1,10 @@
--- `segments::genome_to_transcript` meets its contract: the tables hold together, so that what they map a place to is what their elements do. Assumes nothing.
+-- The tables hold together, so that what they map a place to is what their elements do. Assumes nothing.
 use mathlib.Core.Path.{_∙_}
 use native.Mathlib.Omega.{arith}
 use borrow.Author.Needs.{needs}
-use Rattle.segments.specs.Meaning.{holds-means}
-use Rattle.segments.specs.Reading.{by-genome}
+use Rattle.segments.specs.Tables.{tables}
+use Rattle.segments.specs.laws.Meaning.{holds-means}
+use Rattle.segments.specs.laws.Reading.{by-genome}
 use Rattle.segments.proofs.genome_to_transcript.Statement.{statement}
 use Rattle.segments.proofs.genome_to_transcript.Tie as tie
 
@@ -13,8 +14,8 @@ map-place-requires c κs = search needs
 returns : tie.Need-returns
 returns c =
     let a = c .before .args in
-    let holds = holds-means (a .genome .now) (a .transcript .now) (a .letters .now) (a .count) (c .before .pre .1 .0) in
-    (c .map-place .ensures .0 ∙ by-genome _ _ _ _ holds (omega arith) _ _ _, c .map-place .ensures .1)
+    let holds = holds-means (tables (a .genome .now) (a .transcript .now) (a .letters .now)) (a .count) (c .before .pre .1 .0) in
+    (c .map-place .ensures .0 ∙ by-genome _ _ holds (omega arith) _ _ _, c .map-place .ensures .1)
 
 pub genome-to-transcript-spec : {M : Type 1} → statement M
 genome-to-transcript-spec = tie.close (tie.spec map-place-requires returns)

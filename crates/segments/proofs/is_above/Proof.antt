@@ -1,7 +1,7 @@
--- `segments::is_above` meets its contract: what the machine reads back from its two numbers are the numbers. Assumes nothing.
+-- What the machine reads back from its two numbers are the numbers. Assumes nothing.
 use borrow.Author.Needs.{needs}
 use Rattle.whole.specs.Whole.{read}
-use Rattle.segments.specs.Entries.{entry}
+use Rattle.whole.specs.laws.Machine.{entry}
 use Rattle.segments.proofs.is_above.Statement.{statement}
 use Rattle.segments.proofs.is_above.Tie as tie
 

@@ -1,4 +1,4 @@
--- `segments::is_known` meets its contract: the code's tests are the definition's. Assumes nothing.
+-- The code's six tests are the definition's. Assumes nothing.
 use mathlib.Core.Path.{refl}
 use Rattle.cigar.specs.Elements.{isLetter}
 use Rattle.segments.proofs.is_known.Statement.{statement}

@@ -1,4 +1,4 @@
--- `segments::is_left_nearer` meets its contract: one test for each strand. Assumes nothing.
+-- One test for each strand, of numbers that the machine reads back. Assumes nothing.
 use Rattle.whole.specs.Whole.{read}
 use Rattle.segments.proofs.is_left_nearer.Statement.{statement}
 use Rattle.segments.proofs.is_left_nearer.Tie as tie

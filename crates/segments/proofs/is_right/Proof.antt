@@ -1,4 +1,4 @@
--- `segments::is_right` meets its contract. Where no step is negative, the differences that wrap are the steps. Assumes nothing.
+-- Where no step is negative, the differences that wrap are the steps, and the one test of what each letter leaves of them is the letter's own. Assumes nothing.
 use native.Mathlib.Omega.{arith}
 use borrow.Author.Needs.{needs}
 use Rattle.segments.proofs.Steps.{right-wrapped}

@@ -1,7 +1,7 @@
--- `segments::map_place` meets its contract: what `spot_in` ensures at the segment that `find` ensures. Assumes nothing.
+-- `spot_in` answers for what stands in the tables at the number that `find` gives, and that is the definition. Assumes nothing.
 use mathlib.Core.Path.{sym}
 use Rattle.whole.specs.Whole.{read}
-use Rattle.segments.specs.Tables.{mapByTables}
+use Rattle.segments.specs.Places.{mapByTables}
 use Rattle.segments.proofs.Bounds.{fits-36}
 use borrow.Author.Needs.{needs}
 use Rattle.segments.proofs.map_place.Statement.{statement}

@@ -1,9 +1,9 @@
--- `segments::nearer_edge` meets its contract. Each return rewrites with the test, and with what the machine reads back. Assumes nothing.
+-- The test goes the definition's way, and what the machine reads back from the edge and the distance are the definition's. Assumes nothing.
 use mathlib.Core.Path.{refl, sym, _∙_}
 use borrow.Author.Needs.{needs}
 use Rattle.whole.specs.Whole.{read, fits-38}
 use Rattle.segments.specs.Places.{nearer}
-use Rattle.segments.specs.Entries.{entry}
+use Rattle.whole.specs.laws.Machine.{entry}
 use Rattle.segments.proofs.Bounds.{negated, before-38, entry-38, kept-38, back-38}
 use Rattle.segments.proofs.nearer_edge.Statement.{statement}
 use Rattle.segments.proofs.nearer_edge.Tie as tie

@@ -1,4 +1,4 @@
--- `segments::segments_hold` meets its contract: what the two loops ensure, beside the two tests of the first entries. Assumes nothing.
+-- What the two loops say, beside the tests of the two first entries, is the definition, part by part. Assumes nothing.
 use Rattle.segments.specs.Tables.{segmentsHold}
 use borrow.Author.Needs.{needs}
 use Rattle.segments.proofs.segments_hold.Statement.{statement}

@@ -1,12 +1,12 @@
--- `segments::spot_in` meets its contract, one arm for each kind of letter. In each the machine's numbers are read back: `along`, `left`, `right` and `place` are the code's. Assumes nothing.
+-- One arm for each kind of letter. In each the machine's numbers are read back: `along`, `left`, `right` and `place` are the code's. Assumes nothing.
 use mathlib.Core.Path.{refl}
 use native.Mathlib.Omega.{arith}
 use borrow.Author.Needs.{needs}
 use borrow.Author.Tests.{ne-eqb}
 use Rattle.whole.specs.Whole.{read, fits-38}
-use Rattle.cigar.specs.Elements.{kindOf}
+use Rattle.cigar.specs.Elements.{kindOf, letterD, letterI, letterN}
 use Rattle.segments.specs.Places.{spotIn}
-use Rattle.segments.specs.Entries.{entry}
+use Rattle.whole.specs.laws.Machine.{entry}
 use Rattle.segments.proofs.Bounds.{kept-38, along-38, left-37, right-37, place-38}
 use Rattle.segments.proofs.spot_in.Statement.{statement}
 use Rattle.segments.proofs.spot_in.Tie as tie
@@ -79,7 +79,7 @@ returns-4 c =
     let along = along-38 (a .pre) (a .fits .f) in
     let place = place-38 (a .pre) (a .fits .f) (a .fits .t) in
     let not = c .match .rest in
-    simp (entry (a .fits .t), entry (a .fits .f), read (a .fits .p), read (fits-38 along), read (fits-38 place), ne-eqb _ 78 (not .0 .0 .1), ne-eqb _ 73 (not .0 .1), ne-eqb _ 68 (not .1))
+    simp (entry (a .fits .t), entry (a .fits .f), read (a .fits .p), read (fits-38 along), read (fits-38 place), ne-eqb _ letterN (not .0 .0 .1), ne-eqb _ letterI (not .0 .1), ne-eqb _ letterD (not .1))
     (refl, record { place-small = place; offset-small = omega arith })
 
 pub spot-in-spec : {M : Type 1} → statement M

@@ -1,9 +1,10 @@
--- `sequences::changed` meets its contract: the bounds that `changed_part` gives lie inside their allele, and what stands between them is what changed.
+-- The bounds that `changed_part` gives lie inside the allele that it names, so that they can be cut out of it, and the definition names the same allele and bounds.
 -- Assumes nothing.
-use mathlib.Core.Path.{_≡_}
+use mathlib.Core.Path.{_≡_, _∙_}
 use native.Mathlib.Omega.{arith}
-use Rattle.sequences.specs.Alleles.{changedOf}
-use Rattle.sequences.specs.Changed.{Inside, partOf, part-inside, part-changed}
+use Rattle.sequences.specs.Alleles.{changedPart}
+use Rattle.sequences.specs.Slices.{sliceOf, partOf}
+use Rattle.sequences.proofs.Remaining.{Inside, inside}
 use borrow.Author.Needs.{needs}
 use Rattle.sequences.proofs.changed.Statement.{statement}
 use Rattle.sequences.proofs.changed.Tie as tie
@@ -11,47 +12,24 @@ use Rattle.sequences.proofs.changed.Tie as tie
 changed-part-requires : tie.Need-changed-part-requires
 changed-part-requires c κs = search needs
 
--- the part is inside its allele, and is what changed
-inside : (c : tie.After-changed-part) → Inside (c .changed-part .result) (c .before .before .before .args .reference .now) (c .before .before .before .args .alternative .now)
-inside c = rw (c .changed-part .ensures) (part-inside _ _)
+-- of what `changed_part` gave
+within : (c : tie.After-changed-part) → let a = c .before .before .before .args in Inside (c .changed-part .result) (a .reference .now) (a .alternative .now)
+within c = rw (c .changed-part .ensures) (inside _ _ _)
 
-is-changed : (c : tie.After-changed-part) → partOf (c .changed-part .result) (c .before .before .before .args .reference .now) (c .before .before .before .args .alternative .now) ≡ changedOf (c .before .before .before .args .reference .now) (c .before .before .before .args .alternative .now)
-is-changed c = rw (c .changed-part .ensures) (part-changed _ _)
+named : (c : tie.After-changed-part) → let a = c .before .before .before .args in partOf (c .changed-part .result) (sliceOf (a .reference)) (sliceOf (a .alternative)) ≡ partOf (changedPart (a .reference .now) (a .alternative .now)) (sliceOf (a .reference)) (sliceOf (a .alternative))
+named c = rw (c .changed-part .ensures)
 
-sub-result : tie.Need-sub-result
-sub-result c = omega (arith, inside (c .before))
+cut-requires : tie.Need-cut-requires
+cut-requires c κs = omega (arith, within (c .before), rw (c .if1 .taken) at (within (c .before) .ends))
 
-part-result-start : tie.Need-part-result-start
-part-result-start c = omega (arith, inside (c .before))
-
-part-result-end : tie.Need-part-result-end
-part-result-end c = omega (arith, inside (c .before), rw (c .if1 .taken) at (inside (c .before) .ends))
-
-sub-result-2 : tie.Need-sub-result-2
-sub-result-2 c = omega (arith, inside (c .before))
-
-part-result-start-2 : tie.Need-part-result-start-2
-part-result-start-2 c = omega (arith, inside (c .before))
-
-part-result-end-2 : tie.Need-part-result-end-2
-part-result-end-2 c = omega (arith, inside (c .before), rw (c .if1 .left) at (inside (c .before) .ends))
+cut-requires-2 : tie.Need-cut-requires-2
+cut-requires-2 c κs = omega (arith, within (c .before), rw (c .if1 .left) at (within (c .before) .ends))
 
 returns : tie.Need-returns
-returns c = rw (c .before .if1 .taken) at (is-changed (c .before .before))
+returns c = c .cut .ensures ∙ rw (c .before .if1 .taken) at (named (c .before .before))
 
 returns-2 : tie.Need-returns-2
-returns-2 c = rw (c .before .if1 .left) at (is-changed (c .before .before))
+returns-2 c = c .cut2 .ensures ∙ rw (c .before .if1 .left) at (named (c .before .before))
 
 pub changed-spec : {M : Type 1} → statement M
-changed-spec =
-    tie.close
-    (tie.spec
-    changed-part-requires
-    sub-result
-    part-result-start
-    part-result-end
-    sub-result-2
-    part-result-start-2
-    part-result-end-2
-    returns
-    returns-2)
+changed-spec = tie.close (tie.spec changed-part-requires cut-requires cut-requires-2 returns returns-2)

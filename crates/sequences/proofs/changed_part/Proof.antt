@@ -1,11 +1,13 @@
--- `sequences::changed_part` meets its contract: the test picks the case of `changedPart`, and the callees' contracts put together say how many bytes go.
+-- The callees' contracts put together say how many bytes go at the front and at the back, and the test says which allele is the longer.
 -- Assumes nothing.
-use mathlib.Core.Path.{_≡_}
+use mathlib.Core.Path.{_≡_, _∙_}
 use native.Mathlib.Omega.{arith}
 use lib.ListN.{length}
-use borrow.Author.Tests.{le-leb, lt-leb}
-use Rattle.sequences.specs.Alleles.{after, changedPart}
-use Rattle.sequences.specs.Changed.{apart}
+use borrow.Author.Tests.{le-ltb, lt-ltb}
+use Rattle.sequences.specs.Alleles.{after}
+use Rattle.sequences.specs.Slices.{sliceOf}
+use Rattle.sequences.proofs.Standing.{after-rests}
+use Rattle.sequences.proofs.Remaining.{apart}
 use borrow.Author.Needs.{needs}
 use Rattle.sequences.proofs.changed_part.Statement.{statement}
 use Rattle.sequences.proofs.changed_part.Tie as tie
@@ -22,9 +24,13 @@ rest-requires-2 c κs = search needs
 trim-common-suffixes-requires : tie.Need-trim-common-suffixes-requires
 trim-common-suffixes-requires c κs = search needs
 
--- the callees' contracts put together: how many bytes go at the back
-removed : (c : tie.After-trim-common-suffixes) → c .trim-common-suffixes .result ≡ after (c .before .before .before .before .before .before .args .reference .now) (c .before .before .before .before .before .before .args .alternative .now)
-removed c = cc
+-- how many bytes go at the back
+removed : (c : tie.After-trim-common-suffixes) → let a = c .before .before .before .before .before .before .args in c .trim-common-suffixes .result ≡ after (a .reference .now) (a .alternative .now)
+removed c =
+    let a = c .before .before .before .before .before .before .args in
+    c .trim-common-suffixes .ensures
+    ∙ after-rests (sliceOf (a .reference)) (sliceOf (a .alternative)) _ _ _
+    (c .before .before .before .trim-common-prefixes .ensures) (c .before .before .rest .ensures) (c .before .rest2 .ensures)
 
 sub-to : tie.Need-sub-to
 sub-to c =
@@ -37,16 +43,14 @@ sub-to-2 c =
     omega (arith, apart (a .reference .now) (a .alternative .now), removed (c .before))
 
 returns : tie.Need-returns
-unfolding changedPart
 returns c =
     let a = c .before .before .before .before .before .before .before .args in
-    rw (le-leb (length (a .alternative .now)) (length (a .reference .now)) (omega arith)) (cc (removed (c .before)))
+    rw (le-ltb (length (a .reference .now)) (length (a .alternative .now)) (omega arith)) (cc (removed (c .before)))
 
 returns-2 : tie.Need-returns-2
-unfolding changedPart
 returns-2 c =
     let a = c .before .before .before .before .before .before .before .args in
-    rw (lt-leb (length (a .alternative .now)) (length (a .reference .now)) (omega arith)) (cc (removed (c .before)))
+    rw (lt-ltb (length (a .reference .now)) (length (a .alternative .now)) (omega arith)) (cc (removed (c .before)))
 
 pub changed-part-spec : {M : Type 1} → statement M
 changed-part-spec =

@@ -11,8 +11,11 @@ use std::{
 use benches::{Bench, POSITIONS, SIZES};
 use clap::Parser;
 use compare::original::{self, Outcome};
-use pulindraxi::boundary;
-use trials::{paper::Asked, Lent, Question};
+use pulindraxi::{
+    boundary::{self, Asked, AskedG},
+    Room,
+};
+use trials::{Lent, Question};
 
 /// Times the port beside the crate.
 #[derive(Parser)]
@@ -41,25 +44,26 @@ fn questions(rounds: usize) {
     for segments in SIZES {
         for strand in [1, -1] {
             let Bench { asking, mapper, c_to_g, crate_g, crate_c, .. } = Bench::new(segments, strand);
-            let Lent { head: h, genome: g, transcript: t, letters: l } = black_box(&asking.lent);
+            let of = black_box(&asking.lent).reading();
             let check = || {
                 for _ in 0..POSITIONS {
-                    black_box(boundary::txc_is_coding(h, g, t, l));
+                    black_box(boundary::is_coding(of));
                 }
             };
+            let g = |at: i32| AskedG { start: at, end: at, missing: 0 };
             let to_n = || {
                 for &at in &asking.g {
-                    black_box(boundary::txc_g_to_n(h, g, t, l, at, at, 0, true));
+                    black_box(boundary::g_to_n(of, g(at), true));
                 }
             };
             let to_c = || {
                 for &at in &asking.g {
-                    black_box(boundary::txc_g_to_c(h, g, t, l, at, at, 0, true));
+                    black_box(boundary::g_to_c(of, g(at), true));
                 }
             };
             let to_g = || {
-                for Question { start: Asked { base, offset, star }, .. } in c_to_g.iter().copied() {
-                    black_box(boundary::txc_c_to_g(h, g, t, l, base, offset, star, base, offset, star, true));
+                for question in &c_to_g {
+                    black_box(boundary::c_to_g(of, question.start, question.end, true));
                 }
             };
             let crate_to_n = || crate_g.iter().for_each(|g| drop(black_box(mapper.g_to_n(g))));
@@ -95,10 +99,11 @@ fn buildings(rounds: usize) {
             + size_of_val(&cigar.tgt_pos[..])
             + size_of_val(&cigar.cigar_op[..])
             + size_of_val(&cigar.cigar_string.elems[..]);
-        let Lent { head, genome, transcript, letters } = &bench.asking.lent;
-        let of_port =
-            size_of_val(&**head) + size_of_val(&**genome) + size_of_val(&**transcript) + size_of_val(&**letters);
-        println!("| {segments} | {original:.1} | {port:.1} | {:.2} | {of_crate} | {of_port} |", port / original);
+        println!(
+            "| {segments} | {original:.1} | {port:.1} | {:.2} | {of_crate} | {} |",
+            port / original,
+            size_of::<Room>()
+        );
     }
 }
 

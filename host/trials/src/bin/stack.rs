@@ -6,7 +6,7 @@ use std::{arch::asm, collections::BTreeMap};
 
 use clap::Parser;
 use pulindraxi::{
-    boundary::{self, Laid},
+    boundary::{self, Asked, AskedG, Cds, Laid},
     limits::MOST_SEGMENTS,
 };
 use rand::{Rng, SeedableRng};
@@ -132,23 +132,25 @@ fn measure(count: usize) -> BTreeMap<&'static str, usize> {
         measure!(deepest, stack, "txc_write_cigar", boundary::write_cigar(number, &counts, &letters, &mut buffer));
         if rng.gen_ratio(1, 8) {
             let length = rng.gen_range(0..30);
-            measure!(deepest, stack, "txc_build_length", boundary::txc_build_length(length, 3, 2, 5, &mut lent.head));
+            let cds = Cds::new(Some(2), Some(5));
+            measure!(deepest, stack, "txc_build_length", boundary::build_length(length, cds, &mut lent.head));
         }
         if rng.gen_ratio(1, 8) {
             draw::damage(&mut rng, &mut lent);
         }
-        let (a, b, ao, bo) =
-            (rng.gen_range(-5..60), rng.gen_range(-5..60), rng.gen_range(-3..3), draw::number(&mut rng));
-        let (m, star, strict) = (u32::from(rng.gen_ratio(1, 9)), rng.gen(), rng.gen());
-        let Lent { head: h, genome: g, transcript: t, letters: l } = &lent;
-        measure!(deepest, stack, "txc_g_to_n", boundary::txc_g_to_n(h, g, t, l, a, b, m, strict));
-        measure!(deepest, stack, "txc_g_to_c", boundary::txc_g_to_c(h, g, t, l, a, b, m, strict));
-        measure!(deepest, stack, "txc_n_to_g", boundary::txc_n_to_g(h, g, t, l, a, ao, b, bo, strict));
-        measure!(deepest, stack, "txc_n_to_c", boundary::txc_n_to_c(h, g, t, l, a, ao, b, bo, strict));
-        measure!(deepest, stack, "txc_c_to_n", boundary::txc_c_to_n(h, g, t, l, a, ao, star, b, bo, star, strict));
-        measure!(deepest, stack, "txc_c_to_g", boundary::txc_c_to_g(h, g, t, l, a, ao, star, b, bo, star, strict));
-        measure!(deepest, stack, "txc_in_bounds", boundary::txc_in_bounds(h, g, t, l, a, b, m));
-        measure!(deepest, stack, "txc_is_coding", boundary::txc_is_coding(h, g, t, l));
+        let star = rng.gen();
+        let a = Asked { base: rng.gen_range(-5..60), offset: rng.gen_range(-3..3), star };
+        let b = Asked { base: rng.gen_range(-5..60), offset: draw::number(&mut rng), star };
+        let g = AskedG { start: a.base, end: b.base, missing: u32::from(rng.gen_ratio(1, 9)) };
+        let (of, strict) = (lent.reading(), rng.gen());
+        measure!(deepest, stack, "txc_g_to_n", boundary::g_to_n(of, g, strict));
+        measure!(deepest, stack, "txc_g_to_c", boundary::g_to_c(of, g, strict));
+        measure!(deepest, stack, "txc_n_to_g", boundary::n_to_g(of, a, b, strict));
+        measure!(deepest, stack, "txc_n_to_c", boundary::n_to_c(of, a, b, strict));
+        measure!(deepest, stack, "txc_c_to_n", boundary::c_to_n(of, a, b, strict));
+        measure!(deepest, stack, "txc_c_to_g", boundary::c_to_g(of, a, b, strict));
+        measure!(deepest, stack, "txc_in_bounds", boundary::in_bounds(of, g));
+        measure!(deepest, stack, "txc_is_coding", boundary::is_coding(of));
         measure!(deepest, stack, "txc_trim_prefix", boundary::trim_prefix(&bytes, &card));
         measure!(deepest, stack, "txc_trim_suffix", boundary::trim_suffix(&bytes, &card));
         measure!(deepest, stack, "txc_changed", boundary::changed(&bytes, &card));

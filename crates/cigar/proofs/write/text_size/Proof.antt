@@ -6,8 +6,9 @@ use native.Mathlib.Omega.{arith}
 use lib.IntN.{ℤ, pos}
 use lib.ListN.{getD}
 use mir.Syntax.{w32}
+use Rattle.refusals.specs.Outcome.{answered}
 use Rattle.whole.specs.Whole.{told}
-use Rattle.cigar.specs.Text.{Reading, elements}
+use Rattle.cigar.specs.Text.{Reading}
 use Rattle.cigar.specs.Write.{judged, given, sizeOf, AtMost}
 use Rattle.cigar.proofs.Writing.{leftOf, left-all, left-more, left-none, sizeFrom, size-all, size-none, size-more, size-refused}
 use borrow.Author.Needs.{needs}
@@ -38,8 +39,8 @@ module _ (c : tie.After-element-size Inv-loop μ-loop) where
   abbrev rest : ℕ → Reading
   rest i = leftOf (start .args .counts .now) (start .args .letters .now) (start .args .number) i
 
-  sized : c .element-size .result ≡ sizeOf (judged count letter (elements []))
-  sized = c .element-size .ensures .0 ∙ ap (λ (z : ℤ). sizeOf (judged z letter (elements []))) (told w32 count (c .before .before .element-size-arg .given))
+  sized : c .element-size .result ≡ sizeOf (judged count letter (answered []))
+  sized = c .element-size .ensures .0 ∙ ap (λ (z : ℤ). sizeOf (judged z letter (answered []))) (told w32 count (c .before .before .element-size-arg .given))
 
   left : sizeOf (given (start .args .counts .now) (start .args .letters .now) (start .args .number))
       ≡ sizeFrom (c .before .before .before .before .loop .total) (judged count letter (rest (place + 1)))

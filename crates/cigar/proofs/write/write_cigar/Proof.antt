@@ -5,7 +5,7 @@ use native.Mathlib.Omega.{arith}
 use lib.ListN.{length}
 use Rattle.refusals.specs.Numbers.{mostSegments}
 use Rattle.cigar.specs.Text.{Reading, elementsIn}
-use Rattle.cigar.specs.Lent.{sets-front}
+use Rattle.cigar.specs.laws.Lent.{sets-front}
 use Rattle.cigar.specs.Write.{elementsText, given, sizeOf}
 use Rattle.cigar.specs.declared.write.Written.the-variants as answer
 use Rattle.cigar.proofs.Writing.{sized, many-written, refused-written, large-written, full-written, text-written}
@@ -54,7 +54,7 @@ put-elements-requires : tie.Need-put-elements-requires
 put-elements-requires c κs =
     let s = c .before .before .before .before .before .before in
     let z = sized (all s) (measured s) in
-    ((record { counts-long = omega arith; letters-long = omega arith }, few s), (z .answered, omega arith))
+    ((record { counts-long = omega arith; letters-long = omega arith }, few s), (z .granted, omega arith))
 
 enum-known-k : tie.Need-enum-known-k
 enum-known-k c = search needs

@@ -1,4 +1,4 @@
--- `entry::ask::txc_c_to_n` meets its contract: what the mapper answers is laid out.
+-- `entry::ask::txc_c_to_n` meets its contract: `c_asked` and `head_of` read what is handed over, the mapper's `c_to_n` answers, and `lay_n_plain` lays the answer out. Assumes nothing.
 use Rattle.whole.specs.Whole.{read}
 use borrow.Author.Needs.{needs}
 use Rattle.entry.proofs.ask.txc_c_to_n.Statement.{statement}

@@ -1,4 +1,4 @@
--- `entry::ask::txc_g_to_c` meets its contract: what the mapper answers is laid out.
+-- `entry::ask::txc_g_to_c` meets its contract: `g_asked` and `head_of` read what is handed over, the mapper's `g_to_c` answers, and `lay_c` lays the answer out. Assumes nothing.
 use Rattle.whole.specs.Whole.{read}
 use borrow.Author.Needs.{needs}
 use Rattle.entry.proofs.ask.txc_g_to_c.Statement.{statement}

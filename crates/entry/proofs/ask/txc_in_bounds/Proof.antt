@@ -1,4 +1,4 @@
--- `entry::ask::txc_in_bounds` meets its contract: what the mapper answers is laid out.
+-- `entry::ask::txc_in_bounds` meets its contract: `g_asked` and `head_of` read what is handed over, the mapper's `is_g_interval_in_bounds` answers, and `lay_said` lays the answer out. Assumes nothing.
 use Rattle.whole.specs.Whole.{read}
 use borrow.Author.Needs.{needs}
 use Rattle.entry.proofs.ask.txc_in_bounds.Statement.{statement}

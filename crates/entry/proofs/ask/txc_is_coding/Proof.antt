@@ -1,4 +1,4 @@
--- `entry::ask::txc_is_coding` meets its contract: what the mapper answers is laid out.
+-- `entry::ask::txc_is_coding` meets its contract: `head_of` reads the head, the mapper's `is_coding_transcript` answers, and `lay_said` lays the answer out. Assumes nothing.
 use borrow.Author.Needs.{needs}
 use Rattle.entry.proofs.ask.txc_is_coding.Statement.{statement}
 use Rattle.entry.proofs.ask.txc_is_coding.Tie as tie

@@ -1,4 +1,4 @@
--- `entry::build::lay_built` meets its contract.
+-- `entry::build::lay_built` meets its contract: an arm knows what was built: `lay_head` lays a head out, and a refusal's number leaves the head as it was. Assumes nothing.
 use mathlib.Core.Path.{refl}
 use borrow.Author.Needs.{needs}
 use Rattle.entry.proofs.build.lay_built.Statement.{statement}

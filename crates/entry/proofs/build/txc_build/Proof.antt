@@ -7,6 +7,9 @@ use borrow.Author.Needs.{needs}
 use Rattle.entry.proofs.build.txc_build.Statement.{statement}
 use Rattle.entry.proofs.build.txc_build.Tie as tie
 
+numbers-of-requires : tie.Need-numbers-of-requires
+numbers-of-requires c κs = search needs
+
 build-requires : tie.Need-build-requires
 build-requires c κs = search needs
 
@@ -15,9 +18,11 @@ lay-built-requires c κs = search needs
 
 returns : tie.Need-returns
 returns c =
-    let a = c .before .before .before .before .before .before .before in
-    let b = simp (read (a .fits .strand), read (a .fits .cds-start), read (a .fits .cds-end)) at (c .before .before .build .ensures) in
+    let n = c .before .before .before .before .before .before in
+    let a = n .before .before in
+    let numbers = simp (read (a .fits .strand), read (a .fits .cds-start), read (a .fits .cds-end)) at (n .numbers-of .ensures) in
+    let b = simp numbers at (c .before .before .build .ensures) in
     (c .lay-built .ensures .0 ∙ ap builtNumber (b .0), (c .lay-built .ensures .1 ∙ ap (λ (x : Built). builtHead x (a .args .head .now)) (b .0), b .1))
 
 pub txc-build-spec : {M : Type 1} → statement M
-txc-build-spec = tie.close (tie.spec build-requires lay-built-requires returns)
+txc-build-spec = tie.close (tie.spec numbers-of-requires build-requires lay-built-requires returns)

@@ -1,4 +1,4 @@
--- `entry::text::txc_changed` meets its contract.
+-- `entry::text::txc_changed` meets its contract: `changed_part` says where the part stands, and `star_number` makes its side the number that `partLaid` has. Assumes nothing.
 use mathlib.Core.Path.{ap}
 use Rattle.entry.specs.Boundary.{partLaid}
 use borrow.Author.Needs.{needs}

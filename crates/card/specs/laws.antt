@@ -1,0 +1,5 @@
+-- What is shown of the definitions.
+pub mod Records
+pub mod RoundTrips
+pub mod Taken
+pub mod Putting

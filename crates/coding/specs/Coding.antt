@@ -1,0 +1,52 @@
+-- Between n. and c., with the transcript's length and its CDS. `strict` is true in strict mode. Assumes nothing.
+use Prim.Native.Nat.{ℕ}
+use mathlib.Core.Bool.{Bool, _&&_, _||_}
+use lib.IntN.{ℤ, pos}
+use lib.Signed.{ltZ, leZ}
+use Rattle.refusals.specs.Numbers.{notCoding, nOutside, cOutside}
+use Rattle.refusals.specs.Outcome.{Outcome, refused}
+use Rattle.whole.specs.Whole.{if_then_else_}
+use Rattle.numbering.specs.Numbers.{cOfN, nOfC}
+use Rattle.positions.specs.Positions.{Interval, each, NAsked, CAsked, NPosition, CPosition}
+use Rattle.positions.specs.Answers.{unmarked, Answer, plainly, ends, nFits, cFits, fitted, fitting}
+use Rattle.transcript.specs.Transcript.{Cds, noCds, cds}
+
+-- strict: the one number is 0 or less, or the other is above the length
+unfoldable pub beyond : Bool → ℕ → ℤ → ℤ → Bool
+beyond strict len low high = strict && (leZ low (pos 0) || ltZ (pos len) high)
+
+-- ---- n. to c.: 13, 15, 17
+
+-- 15 looks at the start number from below and at the end number from above; no other test
+abbrev pub refuses15 : Bool → ℕ → Interval NAsked → Bool
+refuses15 strict len i = beyond strict len (i .from .base) (i .to .base)
+
+-- the number crosses over, the offset stays
+unfoldable pub cPosition : ℕ → ℕ → NAsked → CPosition
+cPosition s e a = record { base = cOfN (pos s) (pos e) (a .base); offset = a .offset }
+
+-- before 17 is asked
+unfoldable pub cOfInterval : Bool → ℕ → Cds → Interval NAsked → Answer CPosition
+cOfInterval strict len noCds i = refused notCoding
+cOfInterval strict len (cds s e) i =
+    if refuses15 strict len i then refused nOutside
+    else plainly (each (cPosition s e) i)
+
+unfoldable pub nToC : Bool → ℕ → Cds → Interval NAsked → Answer CPosition
+nToC strict len coding i = fitting cFits (cOfInterval strict len coding i)
+
+-- ---- c. to n.: 13, then the start's 16 and 17, then the end's
+
+-- 16 looks at each number from both sides
+abbrev pub refuses16 : Bool → ℕ → ℤ → Bool
+refuses16 strict len n = beyond strict len n n
+
+unfoldable pub nPosition : Bool → ℕ → ℕ → ℕ → CAsked → Outcome NPosition
+nPosition strict len s e a =
+    let n = nOfC (pos s) (pos e) (a .base) in
+    if refuses16 strict len n then refused cOutside
+    else fitted nFits (record { base = n; offset = a .offset })
+
+unfoldable pub cToN : Bool → ℕ → Cds → Interval CAsked → Answer NPosition
+cToN strict len noCds i = refused notCoding
+cToN strict len (cds s e) i = ends unmarked (nPosition strict len s e (i .from)) (nPosition strict len s e (i .to))

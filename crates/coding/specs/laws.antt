@@ -1,0 +1,4 @@
+-- What is shown of the definitions.
+pub mod Refusing
+pub mod Keeping
+pub mod Answered

@@ -1,0 +1,54 @@
+-- What is known where n. to c. or c. to n. answers: there is no mark, and c. to n. crossed both numbers over to ones that 16 does not refuse. Assumes nothing.
+use Prim.Native.Nat.{ℕ}
+use mathlib.Core.Bool.{Bool, true, false}
+use mathlib.Core.Path.{_≡_, sym, ap, subst}
+use lib.IntN.{pos}
+use Rattle.refusals.specs.Numbers.{nOutside}
+use Rattle.refusals.specs.Outcome.{answered, refused}
+use Rattle.refusals.specs.laws.Outcomes.{clash, same}
+use Rattle.whole.specs.Whole.{if_then_else_, by-test}
+use Rattle.numbering.specs.Numbers.{nOfC}
+use Rattle.positions.specs.Positions.{Interval, each, NAsked, CAsked, NPosition, CPosition}
+use Rattle.positions.specs.Answers.{unmarked, Marked, plainly, nFits, cFits}
+use Rattle.positions.specs.laws.Ends.{ends-answered, fitting-is}
+use Rattle.transcript.specs.Transcript.{Cds, noCds, cds}
+use Rattle.coding.specs.Coding.{refuses15, cPosition, cOfInterval, nToC, refuses16, nPosition, cToN}
+
+-- the n. position n is that of the c. position a, and 16 does not refuse it
+pub record Crossed (strict : Bool) (len s e : ℕ) (a : CAsked) (n : NPosition) : Type 0 where
+  pub is : record { base = nOfC (pos s) (pos e) (a .base); offset = a .offset } ≡ n
+  pub taken : refuses16 strict len (n .base) ≡ false
+
+module _ (strict : Bool) (len : ℕ) where
+  position-crossed : (s e : ℕ) (a : CAsked) (n : NPosition) → nPosition strict len s e a ≡ answered n → Crossed strict len s e a n
+  unfolding nPosition
+  position-crossed s e a n h =
+      let there : NPosition = record { base = nOfC (pos s) (pos e) (a .base); offset = a .offset } in
+      by-test (refuses16 strict len (there .base))
+      (λ t. absurd (clash (simp t at h)))
+      (λ t.
+      by-test (nFits there)
+      (λ f.
+      let is : there ≡ n = same (simp (t, f) at h) in
+      record { is = is; taken = subst (λ (x : NPosition). refuses16 strict len (x .base) ≡ false) is t })
+      (λ f. absurd (clash (simp (t, f) at h))))
+
+  pub c-to-n-crossed : (s e : ℕ) (i : Interval CAsked) (n : Marked NPosition) → cToN strict len (cds s e) i ≡ answered n → Crossed strict len s e (i .from) (n .interval .from) × Crossed strict len s e (i .to) (n .interval .to)
+  unfolding cToN
+  c-to-n-crossed s e i n h =
+      let (m, from, to) = ends-answered unmarked (nPosition strict len s e (i .from)) (nPosition strict len s e (i .to)) n h in
+      (position-crossed s e (i .from) (n .interval .from) from, position-crossed s e (i .to) (n .interval .to) to)
+
+  pub c-to-n-plain : (c : Cds) (i : Interval CAsked) (n : Marked NPosition) → cToN strict len c i ≡ answered n → n .mark ≡ unmarked
+  unfolding cToN
+  c-to-n-plain noCds i n h = absurd (clash h)
+  c-to-n-plain (cds s e) i n h = sym (ends-answered unmarked (nPosition strict len s e (i .from)) (nPosition strict len s e (i .to)) n h .0)
+
+  pub n-to-c-plain : (c : Cds) (i : Interval NAsked) (a : Marked CPosition) → nToC strict len c i ≡ answered a → a .mark ≡ unmarked
+  unfolding nToC cOfInterval
+  n-to-c-plain noCds i a h = absurd (clash h)
+  n-to-c-plain (cds s e) i a h = go (refuses15 strict len i) (fitting-is cFits (cOfInterval strict len (cds s e) i) a h)
+    where
+      go : (t : Bool) → (if t then refused nOutside else plainly (each (cPosition s e) i)) ≡ answered a → a .mark ≡ unmarked
+      go true k = absurd (clash k)
+      go false k = sym (ap (λ (x : Marked CPosition). x .mark) (same k))

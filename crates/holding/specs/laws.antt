@@ -1,0 +1,3 @@
+-- What is shown of the definitions.
+--     Held    holding together as facts, and what a question goes by
+pub mod Held

@@ -1,0 +1,128 @@
+// Refusal 23: whether a transcript that a host lends holds together. Every number may be wrong, so the head is looked at before the tables are.
+ghost use mathlib.Core.Path.{_≡_};
+ghost use mathlib.Core.Bool.{true};
+ghost use Prim.Native.Nat.{_≤_};
+ghost use lib.IntN.{pos, natAbs};
+ghost use lib.Signed.{leZ};
+ghost use Rattle.refusals.specs.Numbers.{mostSegments};
+ghost use Rattle.holding.specs.Holding.{segmentsIn, headHolds, cdsHolds, totalsHold, lent, recordsHold, lengthHolds, holds};
+use refusals::MOST_BASES;
+use refusals::MOST_SEGMENTS;
+use refusals::MOST_STARTS;
+use transcript::BOTH_GIVEN;
+use transcript::Head;
+use transcript::NONE_GIVEN;
+use transcript::OF_LENGTH;
+use transcript::OF_RECORDS;
+
+// A number that is not negative.
+pub fn natural(x: i32) -> u32
+    requires { ⌜ leZ (pos 0) x ≡ true ⌝ }
+    ensures { λ r. ⌜ r ≡ natAbs x ⌝ }
+{
+    x as u32
+}
+
+// Whether neither CDS bound is given, or both are and 0 <= start <= end <= length.
+fn cds_holds(head: Head, length: u32) -> bool
+    ensures { λ r. ⌜ r ≡ cdsHolds head length ⌝ }
+{
+    let bits = head.bits;
+    let start = head.start;
+    let end = head.end;
+    if bits == NONE_GIVEN {
+        return true;
+    }
+    if bits == BOTH_GIVEN {
+        return (0 <= start) & (start <= end) & ((end as i64) <= (length as i64));
+    }
+    false
+}
+
+// Whether the strand is 1 or -1, there are 1 to 2,048 segments, and the first start is not negative.
+fn head_holds(head: Head) -> bool
+    ensures { λ r. ⌜ r ≡ headHolds head ⌝ }
+{
+    let strand = head.strand;
+    let count = head.count;
+    let first = head.first;
+    ((strand == 1) | (strand == -1))
+        & ((1 <= count) & ((count as i64) <= (MOST_SEGMENTS as i64)))
+        & (0 <= first)
+}
+
+// How many segments a right head tells of.
+pub fn segment_count(head: Head) -> usize
+    requires { ⌜ headHolds head ≡ true ⌝ }
+    ensures { λ r. ⌜ (r ≡ segmentsIn head) × (r ≤ mostSegments) ⌝ }
+{
+    let count = natural(head.count);
+    count as usize
+}
+
+// The first start of a right head.
+pub fn first_start(head: Head) -> u32
+    requires { ⌜ headHolds head ≡ true ⌝ }
+    ensures { λ r. ⌜ r ≡ natAbs (head .first) ⌝ }
+{
+    natural(head.first)
+}
+
+// Whether neither the genome's end nor the transcript length is above the largest.
+fn totals_hold(first: u32, genome: u32, transcript: u32) -> bool
+    ensures { λ r. ⌜ r ≡ totalsHold first genome transcript ⌝ }
+{
+    ((first as u64) + (genome as u64) <= (MOST_BASES as u64)) & (transcript <= MOST_BASES)
+}
+
+// Whether a transcript built from records holds together.
+fn records_hold(
+    head: Head,
+    genome: &[u32; MOST_STARTS],
+    transcript: &[u32; MOST_STARTS],
+    letters: &[u8; MOST_SEGMENTS],
+) -> bool
+    ensures { λ r. ⌜ r ≡ recordsHold (lent head (now (genome .entry)) (now (transcript .entry)) (now (letters .entry))) ⌝ }
+{
+    if head_holds(head) {
+        let first = first_start(head);
+        let count = segment_count(head);
+        let totals = totals_hold(first, genome[count], transcript[count]);
+        let cds = cds_holds(head, transcript[count]);
+        let segments = segments::segments_hold(genome, transcript, letters, count);
+        segments & totals & cds
+    } else {
+        false
+    }
+}
+
+// Whether a transcript built from a length holds together.
+fn length_holds(head: Head) -> bool
+    ensures { λ r. ⌜ r ≡ lengthHolds head ⌝ }
+{
+    let length = head.length;
+    if length < 0 {
+        return false;
+    }
+    let bases = natural(length);
+    (bases <= MOST_BASES) & cds_holds(head, bases)
+}
+
+// Whether a transcript of either kind holds together.
+pub fn check(
+    head: Head,
+    genome: &[u32; MOST_STARTS],
+    transcript: &[u32; MOST_STARTS],
+    letters: &[u8; MOST_SEGMENTS],
+) -> bool
+    ensures { λ r. ⌜ r ≡ holds (lent head (now (genome .entry)) (now (transcript .entry)) (now (letters .entry))) ⌝ }
+{
+    let kind = head.kind;
+    if kind == OF_RECORDS {
+        return records_hold(head, genome, transcript, letters);
+    }
+    if kind == OF_LENGTH {
+        return length_holds(head);
+    }
+    false
+}

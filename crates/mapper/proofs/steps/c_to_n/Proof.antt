@@ -1,0 +1,24 @@
+-- `mapper::steps::c_to_n` meets its contract: with a CDS the mapping of `coding` is asked, and without one it is 13. Assumes nothing.
+use Rattle.coding.specs.Coding.{cToN}
+use borrow.Author.Needs.{needs}
+use Rattle.mapper.proofs.steps.c_to_n.Statement.{statement}
+use Rattle.mapper.proofs.steps.c_to_n.Tie as tie
+
+enum-known-cds : tie.Need-enum-known-cds
+enum-known-cds c = search needs
+
+to-n-requires : tie.Need-to-n-requires
+to-n-requires c κs = search needs
+
+enum-told : tie.Need-enum-told
+enum-told c = search needs
+
+returns : tie.Need-returns
+returns c = rw (c .before .before .cds .given .1) (c .to-n .ensures)
+
+returns-2 : tie.Need-returns-2
+unfolding cToN
+returns-2 c = rw (c .enum-told .given .1)
+
+pub c-to-n-spec : {M : Type 1} → statement M
+c-to-n-spec = tie.close (tie.spec enum-known-cds to-n-requires enum-told returns returns-2)

@@ -1,0 +1,24 @@
+-- `mapper::steps::n_to_c` meets its contract: with a CDS the mapping of `coding` is asked, and without one it is 13. Assumes nothing.
+use Rattle.coding.specs.Coding.{nToC, cOfInterval}
+use borrow.Author.Needs.{needs}
+use Rattle.mapper.proofs.steps.n_to_c.Statement.{statement}
+use Rattle.mapper.proofs.steps.n_to_c.Tie as tie
+
+enum-known-cds : tie.Need-enum-known-cds
+enum-known-cds c = search needs
+
+to-c-requires : tie.Need-to-c-requires
+to-c-requires c κs = search needs
+
+enum-told : tie.Need-enum-told
+enum-told c = search needs
+
+returns : tie.Need-returns
+returns c = rw (c .before .before .cds .given .1) (c .to-c .ensures)
+
+returns-2 : tie.Need-returns-2
+unfolding nToC cOfInterval
+returns-2 c = rw (c .enum-told .given .1)
+
+pub n-to-c-spec : {M : Type 1} → statement M
+n-to-c-spec = tie.close (tie.spec enum-known-cds to-c-requires enum-told returns returns-2)

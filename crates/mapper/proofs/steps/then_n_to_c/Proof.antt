@@ -1,0 +1,49 @@
+-- `mapper::steps::then_n_to_c` meets its contract: the first answer's mark stays, since n. to c. bears none, and its refusal counts first. Assumes nothing.
+use borrow.Author.Needs.{needs}
+use Rattle.mapper.proofs.steps.then_n_to_c.Statement.{statement}
+use Rattle.mapper.proofs.steps.then_n_to_c.Tie as tie
+
+enum-known-n : tie.Need-enum-known-n
+enum-known-n c = search needs
+
+asked-again-requires : tie.Need-asked-again-requires
+asked-again-requires c κs = search needs
+
+n-to-c-requires : tie.Need-n-to-c-requires
+n-to-c-requires c κs = search needs
+
+c-marked-requires : tie.Need-c-marked-requires
+c-marked-requires c κs = search needs
+
+enum-known-n-2 : tie.Need-enum-known-n-2
+enum-known-n-2 c = search needs
+
+asked-again-requires-2 : tie.Need-asked-again-requires-2
+asked-again-requires-2 c κs = search needs
+
+n-to-c-requires-2 : tie.Need-n-to-c-requires-2
+n-to-c-requires-2 c κs = search needs
+
+c-marked-requires-2 : tie.Need-c-marked-requires-2
+c-marked-requires-2 c κs = search needs
+
+enum-known-n-3 : tie.Need-enum-known-n-3
+enum-known-n-3 c = search needs
+
+returns : tie.Need-returns
+returns c =
+    let n = c .before in
+    let q = n .before in
+    rw (q .before .before .n .given .1, ← q .asked-again .ensures, ← n .n-to-c .ensures) (c .c-marked .ensures)
+
+returns-2 : tie.Need-returns-2
+returns-2 c =
+    let n = c .before in
+    let q = n .before in
+    rw (q .before .before .n2 .given .1, ← q .asked-again2 .ensures, ← n .n-to-c2 .ensures) (c .c-marked2 .ensures)
+
+returns-3 : tie.Need-returns-3
+returns-3 c = rw (c .before .n3 .given .1)
+
+pub then-n-to-c-spec : {M : Type 1} → statement M
+then-n-to-c-spec = tie.close (tie.spec enum-known-n asked-again-requires n-to-c-requires c-marked-requires enum-known-n-2 asked-again-requires-2 n-to-c-requires-2 c-marked-requires-2 enum-known-n-3 returns returns-2 returns-3)

@@ -1,0 +1,9 @@
+-- What is shown of the definitions.
+--     Refusing     which refusals each question can give
+--     Occurring    each of them occurs
+--     Keeping      a strict answer is also the lenient one
+--     Marks        when an answer of a chain is uncertain
+pub mod Refusing
+pub mod Occurring
+pub mod Keeping
+pub mod Marks

@@ -1,0 +1,54 @@
+-- The mark of a chain's answer: it is uncertain exactly where either end fell in an I or a D segment. Between n. and c. no mark is borne, so it is that of the other step. Assumes nothing.
+use Prim.Native.Nat.{ℕ}
+use mathlib.Core.Bool.{Bool, false, _||_}
+use mathlib.Core.Path.{_≡_, refl, sym, ap, _∙_}
+use lib.IntN.{ℤ, pos}
+use Rattle.refusals.specs.Outcome.{answered, refused, through}
+use Rattle.refusals.specs.laws.Outcomes.{clash, same}
+use Rattle.numbering.specs.Numbers.{nOfC}
+use Rattle.transcript.specs.Transcript.{Transcript, Cds, transcriptLength}
+use Rattle.transcript.specs.Transcript.Cds.{noCds, cds}
+use Rattle.positions.specs.Positions.{Interval, each, CAsked, GPosition, NPosition, CPosition, asksN}
+use Rattle.positions.specs.Answers.{Mark, Marked, Answer, inARow, after, chain}
+use Rattle.positions.specs.laws.Ends.{row-plain}
+use Rattle.coding.specs.Coding.{nToC, cToN}
+use Rattle.coding.specs.laws.Answered.{c-to-n-crossed, c-to-n-plain, n-to-c-plain}
+use Rattle.places.specs.Mapping.{gToN, nToG}
+use Rattle.places.specs.laws.Marks.{markIf, gFell, nFell, g-to-n-marked, n-to-g-marked}
+use Rattle.mapper.specs.Chains.{gToC, cToG}
+
+-- a chain that answers bears the mark of its two steps in a row
+chain-mark : {P Q R : Type 0} (asks : P → Q) (first : Answer P) (second : Interval Q → Answer R) (m : Mark)
+    → ((a : Marked P) (b : Marked R) → first ≡ answered a → second (each asks (a .interval)) ≡ answered b → inARow (a .mark) (b .mark) ≡ m)
+    → (c : Marked R) → chain asks first second ≡ answered c → c .mark ≡ m
+chain-mark {R = R} asks (answered a) second m h c e = go (second (each asks (a .interval))) refl e
+  where
+    go : (o : Answer R) → second (each asks (a .interval)) ≡ o → through (after (a .mark)) o ≡ answered c → c .mark ≡ m
+    go (answered b) s e = sym (ap (λ (x : Marked R). x .mark) (same e)) ∙ h a b refl s
+    go (refused k) s e = absurd (clash e)
+chain-mark asks (refused k) second m h c e = absurd (clash e)
+
+-- the place of the n. number that a c. number stands for fell so
+abbrev pub cFell : Transcript → Cds → CAsked → Bool
+cFell t noCds a = false
+cFell t (cds s e) a = nFell t (nOfC (pos s) (pos e) (a .base))
+
+module _ (strict : Bool) (t : Transcript) where
+  abbrev len : ℕ
+  len = transcriptLength t
+
+  pub g-to-c-marked : (i : Interval ℤ) (a : Marked CPosition) → gToC strict t i ≡ answered a → a .mark ≡ markIf (gFell t (i .from) || gFell t (i .to))
+  unfolding gToC
+  g-to-c-marked i = chain-mark asksN (gToN strict t i) (nToC strict len (t .coding)) _ (λ n c f s. ap (inARow (n .mark)) (n-to-c-plain strict len (t .coding) _ c s) ∙ row-plain (n .mark) ∙ g-to-n-marked strict t i n f)
+
+  -- an n. interval that c. to n. answered fell where the c. interval did
+  fell-alike : (c : Cds) (i : Interval CAsked) (n : Marked NPosition) → cToN strict len c i ≡ answered n → (nFell t (n .interval .from .base) || nFell t (n .interval .to .base)) ≡ (cFell t c (i .from) || cFell t c (i .to))
+  unfolding cToN
+  fell-alike noCds i n h = absurd (clash h)
+  fell-alike (cds s e) i n h =
+      let (from, to) = c-to-n-crossed strict len s e i n h in
+      rw (← from .is, ← to .is)
+
+  pub c-to-g-marked : (i : Interval CAsked) (a : Marked GPosition) → cToG strict t i ≡ answered a → a .mark ≡ markIf (cFell t (t .coding) (i .from) || cFell t (t .coding) (i .to))
+  unfolding cToG
+  c-to-g-marked i = chain-mark asksN (cToN strict len (t .coding) i) (nToG strict t) _ (λ n g f s. ap (λ (m : Mark). inARow m (g .mark)) (c-to-n-plain strict len (t .coding) i n f) ∙ n-to-g-marked strict t (each asksN (n .interval)) g s ∙ ap markIf (fell-alike (t .coding) i n f))

@@ -1,0 +1,78 @@
+-- g. to n. and back of a transcript that lies on the genome, as the code goes: the lengths are the tables' last entries, 14 is tested first, and 17 is asked of each end. Assumes nothing.
+use mathlib.Core.Path.{_≡_}
+use mathlib.Core.Bool.{Bool, true, false, _&&_}
+use lib.IntN.{ℤ}
+use lib.ListN.{getD}
+use Rattle.refusals.specs.Numbers.{outside}
+use Rattle.refusals.specs.Outcome.{refused}
+use Rattle.numbering.specs.Numbers.{placeOfN}
+use Rattle.segments.specs.Tables.{Tables}
+use Rattle.segments.specs.Places.{Spot}
+use Rattle.segments.specs.Places.End.{start, stop}
+use Rattle.segments.specs.laws.Meaning.{holds-means}
+use Rattle.segments.specs.laws.Reading.{last-genome, last-transcript}
+use Rattle.segments.specs.Paper.{toTranscript, toGenome}
+use Rattle.transcript.specs.Transcript.{genomeLength, transcriptLength}
+use Rattle.positions.specs.Positions.{NAsked}
+use Rattle.positions.specs.Answers.{gFits, nFits, fitting}
+use Rattle.positions.specs.laws.Ends.{ends-fit}
+use Rattle.places.specs.Mapping.{inside, turned, placeOfG, nOfSpot, wholeN, gToN, gOfSpot, gOfEnds}
+use Rattle.places.specs.Aligned.{alignedBy, Aligns, nJoined, gJoined}
+use Rattle.places.specs.declared.Alignment.{Alignment}
+
+module _ (a : Alignment) (x : Tables) (sound : Aligns a x) where
+  pub span-is : genomeLength (alignedBy a x) ≡ getD (x .genome) (a .count) 0
+  span-is = last-genome x (a .count) (holds-means x (a .count) (sound .segments))
+
+  pub length-is : transcriptLength (alignedBy a x) ≡ getD (x .transcript) (a .count) 0
+  length-is = last-transcript x (a .count) (holds-means x (a .count) (sound .segments))
+
+  -- g. to n.: the places of the two numbers, whether strict mode takes them, and what they map to
+  module _ (strict : Bool) (from to : ℤ) where
+    abbrev pub g-from : ℤ
+    g-from = placeOfG (a .first) from
+
+    abbrev pub g-to : ℤ
+    g-to = placeOfG (a .first) to
+
+    abbrev pub g-inside : Bool
+    g-inside = inside strict (getD (x .genome) (a .count) 0) g-from && inside strict (getD (x .genome) (a .count) 0) g-to
+
+    abbrev pub n-from : Spot
+    n-from = toTranscript x (a .count) g-from start (a .forward)
+
+    abbrev pub n-to : Spot
+    n-to = toTranscript x (a .count) g-to stop (a .forward)
+
+    pub n-answered : g-inside ≡ true → gToN strict (alignedBy a x) (record { from = from; to = to }) ≡ nJoined (a .forward) (getD (x .transcript) (a .count) 0) n-from n-to
+    unfolding gToN wholeN nOfSpot nJoined
+    n-answered e = simp (span-is, length-is, e) (ends-fit nFits _ _ _)
+
+    pub n-refused : g-inside ≡ false → gToN strict (alignedBy a x) (record { from = from; to = to }) ≡ refused outside
+    unfolding gToN wholeN
+    n-refused e = simp (span-is, e)
+
+  -- n. to g. of two positions in genomic order, likewise
+  module _ (strict : Bool) (u v : NAsked) where
+    abbrev pub t-from : ℤ
+    t-from = turned (a .forward) (getD (x .transcript) (a .count) 0) (placeOfN (u .base))
+
+    abbrev pub t-to : ℤ
+    t-to = turned (a .forward) (getD (x .transcript) (a .count) 0) (placeOfN (v .base))
+
+    abbrev pub t-inside : Bool
+    t-inside = inside strict (getD (x .transcript) (a .count) 0) t-from && inside strict (getD (x .transcript) (a .count) 0) t-to
+
+    abbrev pub s-from : Spot
+    s-from = toGenome x (a .count) t-from start
+
+    abbrev pub s-to : Spot
+    s-to = toGenome x (a .count) t-to stop
+
+    pub g-answered : t-inside ≡ true → fitting gFits (gOfEnds strict (alignedBy a x) u v) ≡ gJoined (a .forward) (a .first) s-from s-to (u .offset) (v .offset)
+    unfolding gOfEnds gOfSpot gJoined
+    g-answered e = simp (length-is, e) (ends-fit gFits _ _ _)
+
+    pub g-refused : t-inside ≡ false → fitting gFits (gOfEnds strict (alignedBy a x) u v) ≡ refused outside
+    unfolding gOfEnds
+    g-refused e = simp (length-is, e)

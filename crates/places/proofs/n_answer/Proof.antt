@@ -1,0 +1,57 @@
+-- `places::n_answer` meets its contract: `n_of_spot` gives the two ends, which the strand puts in order, and the mark of both spots on ends that bore none is `nJoined`'s (`ends-after`). Assumes nothing.
+use mathlib.Core.Bool.{_&&_}
+use mathlib.Core.Path.{_∙_}
+use Rattle.positions.specs.Paper.{paperNEnd}
+use Rattle.positions.specs.laws.Ends.{ends-after}
+use borrow.Author.Needs.{needs}
+use Rattle.places.specs.Aligned.{nJoined}
+use Rattle.places.proofs.n_answer.Statement.{statement}
+use Rattle.places.proofs.n_answer.Tie as tie
+
+n-of-spot-requires : tie.Need-n-of-spot-requires
+n-of-spot-requires c κs = search needs
+
+n-of-spot-requires-2 : tie.Need-n-of-spot-requires-2
+n-of-spot-requires-2 c κs = search needs
+
+n-both-requires : tie.Need-n-both-requires
+n-both-requires c κs = search needs
+
+n-marked-requires : tie.Need-n-marked-requires
+n-marked-requires c κs = search needs
+
+n-both-requires-2 : tie.Need-n-both-requires-2
+n-both-requires-2 c κs = search needs
+
+n-marked-requires-2 : tie.Need-n-marked-requires-2
+n-marked-requires-2 c κs = search needs
+
+-- the two ends, which bore no mark, with the mark of both spots
+returns : tie.Need-returns
+unfolding nJoined
+returns c =
+    let f = c .before .before in
+    let b = f .before in
+    let joined = simp (c .before .n-both .ensures) at (c .n-marked .ensures) ∙ ends-after (b .before .before .before .before .args .a .sure && b .before .before .before .before .args .b .sure) (paperNEnd (b .before .n-of-spot .result)) (paperNEnd (b .n-of-spot2 .result)) in
+    simp (f .if1 .taken) (simp (f .if1 .taken, b .n-of-spot2 .ensures, b .before .n-of-spot .ensures) at joined)
+
+returns-2 : tie.Need-returns-2
+unfolding nJoined
+returns-2 c =
+    let f = c .before .before in
+    let b = f .before in
+    let joined = simp (c .before .n-both2 .ensures) at (c .n-marked2 .ensures) ∙ ends-after (b .before .before .before .before .args .a .sure && b .before .before .before .before .args .b .sure) (paperNEnd (b .n-of-spot2 .result)) (paperNEnd (b .before .n-of-spot .result)) in
+    simp (f .if1 .left) (simp (f .if1 .left, b .n-of-spot2 .ensures, b .before .n-of-spot .ensures) at joined)
+
+pub n-answer-spec : {M : Type 1} → statement M
+n-answer-spec =
+    tie.close
+    (tie.spec
+    n-of-spot-requires
+    n-of-spot-requires-2
+    n-both-requires
+    n-marked-requires
+    n-both-requires-2
+    n-marked-requires-2
+    returns
+    returns-2)

@@ -1,0 +1,42 @@
+-- How a transcript lies on the genome as the code holds it, and what the steps of g. to n. and back give at one end. Assumes nothing.
+use Prim.Native.Nat.{ℕ, _≤_}
+use mathlib.Core.Path.{_≡_}
+use mathlib.Core.Bool.{Bool, true, _&&_}
+use lib.IntN.{ℤ, pos, _+ℤ_}
+use Rattle.refusals.specs.Numbers.{mostSegments}
+use Rattle.refusals.specs.Outcome.{Outcome}
+use Rattle.numbering.specs.Numbers.{nOfPlace}
+use Rattle.segments.specs.Places.{Spot}
+use Rattle.segments.specs.Tables.{Tables, segmentsHold, read}
+use Rattle.transcript.specs.Transcript.{Transcript}
+use Rattle.transcript.specs.Transcript.Cds.{noCds}
+use Rattle.positions.specs.Positions.{GPosition, NPosition}
+use Rattle.positions.specs.Answers.{Answer, markOf, ends, gFits, nFits, fitted}
+use Rattle.places.specs.Mapping.{turned, signed, earlier, later}
+use Rattle.places.specs.declared.Alignment.{Alignment}
+
+-- the transcript that lies so. Between g. and n. its CDS is not looked at
+abbrev pub alignedBy : Alignment → Tables → Transcript
+alignedBy a x = record { forward = a .forward; first = a .first; elements = read x (a .count); coding = noCds }
+
+-- its tables hold together
+pub record Aligns (a : Alignment) (x : Tables) : Type 0 where
+  pub count-from : 1 ≤ a .count
+  pub count-to : a .count ≤ mostSegments
+  pub segments : segmentsHold x (a .count) ≡ true
+
+-- a spot of a transcript of that strand and length as an n. position, or 17
+abbrev pub nEndAt : Bool → ℕ → Spot → Outcome NPosition
+nEndAt forward len a = fitted nFits (record { base = nOfPlace (turned forward len (a .place)); offset = signed forward (a .offset) })
+
+-- an interval's two spots as an n. interval with its mark, or 17: on strand -1 start and end change places
+unfoldable pub nJoined : Bool → ℕ → Spot → Spot → Answer NPosition
+nJoined forward len a b = ends (markOf (a .sure && b .sure)) (nEndAt forward len (earlier forward a b)) (nEndAt forward len (later forward a b))
+
+-- a place of the genome with an n. number's own offset as a g. position, or 17
+abbrev pub gEndAt : Bool → ℕ → ℤ → ℤ → Outcome GPosition
+gEndAt forward first p o = fitted gFits (record { base = p +ℤ pos first +ℤ pos 1 +ℤ signed forward o })
+
+-- an interval's two spots, with the numbers' own offsets, as a g. interval with its mark, or 17
+unfoldable pub gJoined : Bool → ℕ → Spot → Spot → ℤ → ℤ → Answer GPosition
+gJoined forward first a b o u = ends (markOf (a .sure && b .sure)) (gEndAt forward first (a .place) o) (gEndAt forward first (b .place) u)

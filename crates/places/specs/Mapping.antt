@@ -1,0 +1,85 @@
+-- The mappings of g. intervals to n. and of n. intervals to g., of a transcript built from records. `strict` is true in strict mode. Assumes nothing.
+use Prim.Native.Nat.{ℕ}
+use mathlib.Core.Bool.{Bool, true, false, cond, not, _&&_, _||_}
+use lib.IntN.{ℤ, pos, negℤ, _+ℤ_, _-ℤ_}
+use lib.Signed.{leZ}
+use Rattle.refusals.specs.Numbers.{outside}
+use Rattle.refusals.specs.Outcome.{answered, refused}
+use Rattle.whole.specs.Whole.{if_then_else_}
+use Rattle.numbering.specs.Numbers.{nOfPlace, placeOfN}
+use Rattle.cigar.specs.Elements.{genome, transcript}
+use Rattle.segments.specs.Places.{Spot, mapPlace}
+use Rattle.segments.specs.Places.End.{start, stop}
+use Rattle.transcript.specs.Transcript.{Transcript, genomeLength, transcriptLength}
+use Rattle.positions.specs.Positions.{Interval, NAsked, GPosition, NPosition}
+use Rattle.positions.specs.Answers.{Answer, markOf, gFits, nFits, fitting}
+
+-- in strict mode a place lies in 0 to the last entry, inclusive
+unfoldable pub inside : Bool → ℕ → ℤ → Bool
+inside strict len p = not strict || (leZ (pos 0) p && leZ p (pos len))
+
+-- the turn of strand -1: a place becomes length - 1 - place, an offset changes its sign, start and end change places
+unfoldable pub turned : Bool → ℕ → ℤ → ℤ
+turned true len p = p
+turned false len p = pos len -ℤ pos 1 -ℤ p
+
+abbrev pub signed : Bool → ℤ → ℤ
+signed true o = o
+signed false o = negℤ o
+
+abbrev pub earlier : {A : Type 0} → Bool → A → A → A
+earlier forward a b = cond forward a b
+
+abbrev pub later : {A : Type 0} → Bool → A → A → A
+later forward a b = cond forward b a
+
+-- ---- g. to n.
+
+-- the place of a g. number, where the first start is this
+abbrev pub placeOfG : ℕ → ℤ → ℤ
+placeOfG first g = g -ℤ pos 1 -ℤ pos first
+
+unfoldable pub nOfSpot : Transcript → Spot → NPosition
+nOfSpot t a = record { base = nOfPlace (turned (t .forward) (transcriptLength t) (a .place)); offset = signed (t .forward) (a .offset) }
+
+abbrev pub nAnswer : Transcript → Spot → Spot → Answer NPosition
+nAnswer t a b = answered (record { mark = markOf (a .sure && b .sure); interval = record { from = nOfSpot t (earlier (t .forward) a b); to = nOfSpot t (later (t .forward) a b) } })
+
+-- before 17 is asked
+unfoldable pub wholeN : Bool → Transcript → Interval ℤ → Answer NPosition
+wholeN strict t i =
+    let p = placeOfG (t .first) (i .from) in
+    let q = placeOfG (t .first) (i .to) in
+    if inside strict (genomeLength t) p && inside strict (genomeLength t) q
+    then nAnswer t (mapPlace genome transcript (t .elements) p start (t .forward)) (mapPlace genome transcript (t .elements) q stop (t .forward))
+    else refused outside
+
+unfoldable pub gToN : Bool → Transcript → Interval ℤ → Answer NPosition
+gToN strict t i = fitting nFits (wholeN strict t i)
+
+-- ---- n. to g.
+
+-- the number's own offset counts; the rule's is dropped
+unfoldable pub gOfSpot : Transcript → Spot → ℤ → GPosition
+gOfSpot t a o = record { base = a .place +ℤ pos (t .first) +ℤ pos 1 +ℤ signed (t .forward) o }
+
+abbrev pub gAnswer : Transcript → Spot → Spot → ℤ → ℤ → Answer GPosition
+gAnswer t a b o u = answered (record { mark = markOf (a .sure && b .sure); interval = record { from = gOfSpot t a o; to = gOfSpot t b u } })
+
+-- two positions in genomic order
+unfoldable pub gOfEnds : Bool → Transcript → NAsked → NAsked → Answer GPosition
+gOfEnds strict t a b =
+    let p = turned (t .forward) (transcriptLength t) (placeOfN (a .base)) in
+    let q = turned (t .forward) (transcriptLength t) (placeOfN (b .base)) in
+    if inside strict (transcriptLength t) p && inside strict (transcriptLength t) q
+    then gAnswer t (mapPlace transcript genome (t .elements) p start true) (mapPlace transcript genome (t .elements) q stop true) (a .offset) (b .offset)
+    else refused outside
+
+unfoldable pub nToG : Bool → Transcript → Interval NAsked → Answer GPosition
+nToG strict t i = fitting gFits (gOfEnds strict t (earlier (t .forward) (i .from) (i .to)) (later (t .forward) (i .from) (i .to)))
+
+-- ---- in bounds
+
+-- the start place is at 0 or above, and the end place at most the genome length
+abbrev pub inBounds : ℕ → ℕ → Interval ℤ → Bool
+inBounds first len i = leZ (pos 0) (placeOfG first (i .from)) && leZ (placeOfG first (i .to)) (pos len)

@@ -1,0 +1,97 @@
+-- The mark of an answer: it is uncertain exactly where either end fell in an I or a D segment. Assumes nothing.
+use Prim.Native.Nat.{ℕ}
+use mathlib.Core.Bool.{Bool, true, false, not, _&&_, _||_, or-comm}
+use mathlib.Core.List.{List}
+use mathlib.Core.Path.{_≡_, refl, sym, ap, _∙_}
+use lib.IntN.{ℤ}
+use lib.ListN.{getD, length}
+use Rattle.refusals.specs.Numbers.{outside}
+use Rattle.refusals.specs.Outcome.{answered, refused}
+use Rattle.refusals.specs.laws.Outcomes.{clash, same}
+use Rattle.whole.specs.Whole.{if_then_else_, by-test}
+use Rattle.numbering.specs.Numbers.{placeOfN}
+use Rattle.cigar.specs.Elements.{Element, Side, Kind, kindOf, genome, transcript}
+use Rattle.cigar.specs.Elements.Kind.{matches, inserts, deletes, skips}
+use Rattle.segments.specs.Tables.{entriesOf, lettersOf}
+use Rattle.segments.specs.Places.{End, leftNearer, indexOf, nearer, spotIn, mapByTables, mapPlace}
+use Rattle.segments.specs.Places.End.{start, stop}
+use Rattle.transcript.specs.Transcript.{Transcript, genomeLength, transcriptLength}
+use Rattle.positions.specs.Positions.{Interval, NAsked, GPosition, NPosition}
+use Rattle.positions.specs.Answers.{Mark, certain, uncertain, markOf, Marked, gFits, nFits}
+use Rattle.positions.specs.laws.Ends.{fitting-is}
+use Rattle.places.specs.Mapping.{inside, turned, earlier, later, placeOfG, wholeN, gToN, gOfEnds, nToG}
+use Rattle.places.specs.laws.Refusing.{nInside}
+
+-- an I or a D
+abbrev pub gap : Kind → Bool
+gap matches = false
+gap inserts = true
+gap deletes = true
+gap skips = false
+
+-- the place p of that side falls in an I or a D segment of the elements
+abbrev pub fell : Side → List Element → ℤ → Bool
+fell from es p = gap (kindOf (getD (lettersOf es) (indexOf (entriesOf from es) (length es) p) 0))
+
+-- the mark of an interval, where this says that an end fell so
+abbrev pub markIf : Bool → Mark
+markIf gaps = if gaps then uncertain else certain
+
+-- ---- a spot is sure exactly where its place did not fall so
+
+edge-sure : (i : ℕ) (forward : Bool) (t : ℕ) (left right : ℤ) → nearer i forward t left right .sure ≡ true
+unfolding nearer
+edge-sure i forward t left right = by-test (leftNearer forward left right) (λ e. rw e) (λ e. rw e)
+
+spot-sure : (i : ℕ) (k : Kind) (f h t : ℕ) (p : ℤ) (e : End) (forward : Bool) → spotIn i k f h t p e forward .sure ≡ not (gap k)
+unfolding spotIn
+spot-sure i matches f h t p e forward = refl
+spot-sure i inserts f h t p e forward = refl
+spot-sure i deletes f h t p e forward = refl
+spot-sure i skips f h t p e forward = edge-sure i forward t _ _
+
+sure-is : (from to : Side) (es : List Element) (p : ℤ) (e : End) (forward : Bool) → mapPlace from to es p e forward .sure ≡ not (fell from es p)
+unfolding mapPlace mapByTables
+sure-is from to es p e forward = spot-sure _ (kindOf (getD (lettersOf es) (indexOf (entriesOf from es) (length es) p) 0)) _ _ _ p e forward
+
+mark-of : (x y : Bool) → markOf (not x && not y) ≡ markIf (x || y)
+mark-of true y = refl
+mark-of false true = refl
+mark-of false false = refl
+
+-- an interval of two spots that passed a test
+spots-marked : {P : Type 0} (from to : Side) (es : List Element) (forward : Bool) (p q : ℤ) (test : Bool) (k : ℕ) (i : Interval P) (a : Marked P)
+    → (if test then answered (record { mark = markOf (mapPlace from to es p start forward .sure && mapPlace from to es q stop forward .sure); interval = i }) else refused k) ≡ answered a
+    → a .mark ≡ markIf (fell from es p || fell from es q)
+spots-marked {P} from to es forward p q true k i a e =
+    sym (ap (λ (x : Marked P). x .mark) (same e)) ∙ rw (sure-is from to es p start forward, sure-is from to es q stop forward) (mark-of (fell from es p) (fell from es q))
+spots-marked from to es forward p q false k i a e = absurd (clash e)
+
+-- ---- the mappings
+
+-- a g. number's place fell so, and an n. number's, turned
+abbrev pub gFell : Transcript → ℤ → Bool
+gFell t g = fell genome (t .elements) (placeOfG (t .first) g)
+
+abbrev pub nFell : Transcript → ℤ → Bool
+nFell t n = fell transcript (t .elements) (turned (t .forward) (transcriptLength t) (placeOfN n))
+
+module _ (strict : Bool) (t : Transcript) where
+  pub g-to-n-marked : (i : Interval ℤ) (a : Marked NPosition) → gToN strict t i ≡ answered a → a .mark ≡ markIf (gFell t (i .from) || gFell t (i .to))
+  unfolding gToN wholeN
+  g-to-n-marked i a e =
+      let p = placeOfG (t .first) (i .from) in
+      let q = placeOfG (t .first) (i .to) in
+      spots-marked genome transcript (t .elements) (t .forward) p q (inside strict (genomeLength t) p && inside strict (genomeLength t) q) outside _ a (fitting-is nFits (wholeN strict t i) a e)
+
+  ends-marked : (u v : NAsked) (a : Marked GPosition) → gOfEnds strict t u v ≡ answered a → a .mark ≡ markIf (nFell t (u .base) || nFell t (v .base))
+  unfolding gOfEnds
+  ends-marked u v a e = spots-marked transcript genome (t .elements) true _ _ (nInside strict t u && nInside strict t v) outside _ a e
+
+  pub n-to-g-marked : (i : Interval NAsked) (a : Marked GPosition) → nToG strict t i ≡ answered a → a .mark ≡ markIf (nFell t (i .from .base) || nFell t (i .to .base))
+  unfolding nToG
+  n-to-g-marked i a e = ends-marked _ _ a (fitting-is gFits _ a e) ∙ ap markIf (go (t .forward))
+    where
+      go : (f : Bool) → (nFell t (earlier f (i .from) (i .to) .base) || nFell t (later f (i .from) (i .to) .base)) ≡ (nFell t (i .from .base) || nFell t (i .to .base))
+      go true = refl
+      go false = or-comm (nFell t (i .to .base)) (nFell t (i .from .base))

@@ -1,0 +1,263 @@
+// Between g. and n. of a transcript that lies on the genome: places, then ends, then intervals.
+ghost use mathlib.Core.Path.{_≡_};
+ghost use mathlib.Core.Bool.{_&&_};
+ghost use Prim.Native.Nat.{_≤_};
+ghost use lib.ListN.{getD};
+ghost use Rattle.refusals.specs.Numbers.{mostSegments};
+ghost use Rattle.whole.specs.Whole.{Within};
+ghost use Rattle.numbering.specs.Numbers.{placeOfN};
+ghost use Rattle.segments.specs.Tables.{tables};
+ghost use Rattle.segments.specs.Paper.{Small, spotSaid};
+ghost use Rattle.positions.specs.Answers.{gFits, fitting};
+ghost use Rattle.positions.specs.Paper.{paperNAsked, paperNQuestion, paperGEnd, paperNEnd, paperG, paperN};
+ghost use Rattle.places.specs.Mapping.{inside, turned, signed, placeOfG, gToN, gOfEnds, nToG, inBounds};
+ghost use Rattle.places.specs.Aligned.{alignedBy, Aligns, nEndAt, nJoined, gEndAt, gJoined};
+use numbering::Place;
+use positions::GAnswer;
+use positions::NAnswer;
+use positions::NAsked;
+use positions::NQuestion;
+use positions::fitting;
+use positions::fitting::GEnd;
+use positions::fitting::NEnd;
+use refusals::MOST_SEGMENTS;
+use refusals::MOST_STARTS;
+use segments::End;
+use segments::Spot;
+
+// How a transcript lies on the genome, beside its tables: whether its strand is 1, its first start, how many segments it has.
+pub struct Alignment {
+    pub forward: bool,
+    pub first: u32,
+    pub count: usize,
+}
+
+// The last entry of a table of count segments: how far they go in all.
+pub fn last(starts: &[u32; MOST_STARTS], count: usize) -> u32
+    requires { ⌜ count ≤ mostSegments ⌝ }
+    ensures { λ r. ⌜ r ≡ getD (now (starts .entry)) count 0 ⌝ }
+{
+    starts[count]
+}
+
+// The place of a g. number. g. numbers are counted from 1 and run through 0, so this 1 is not the missing zero's.
+fn place_of_g(first: u32, g: i32) -> Place
+    ensures { λ r. ⌜ (r .0 ≡ placeOfG first g) × Within 36 (r .0) ⌝ }
+{
+    let number = g as i64;
+    let start = first as i64;
+    let place = number - 1 - start;
+    Place(place)
+}
+
+// Whether a place lies in 0 to the last entry, which is asked in strict mode alone.
+fn is_inside(strict: bool, len: u32, p: Place) -> bool
+    ensures { λ r. ⌜ r ≡ inside strict len (p .0) ⌝ }
+{
+    if strict {
+        let z = p.0;
+        let end = len as i64;
+        if 0 <= z {
+            return z <= end;
+        }
+        return false;
+    }
+    true
+}
+
+// Whether both places do.
+fn are_inside(strict: bool, len: u32, p: Place, q: Place) -> bool
+    ensures { λ r. ⌜ r ≡ (inside strict len (p .0) && inside strict len (q .0)) ⌝ }
+{
+    is_inside(strict, len, p) & is_inside(strict, len, q)
+}
+
+// The turn of a place: on strand -1 it becomes length - 1 - place.
+fn turn(forward: bool, len: u32, p: Place) -> Place
+    requires { ⌜ Within 38 (p .0) ⌝ }
+    ensures { λ r. ⌜ r .0 ≡ turned forward len (p .0) ⌝ }
+{
+    if forward {
+        p
+    } else {
+        let z = p.0;
+        let end = len as i64;
+        let place = end - 1 - z;
+        Place(place)
+    }
+}
+
+// The turn of an offset: on strand -1 its sign changes.
+fn sign(forward: bool, offset: i64) -> i64
+    requires { ⌜ Within 38 offset ⌝ }
+    ensures { λ r. ⌜ r ≡ signed forward offset ⌝ }
+{
+    if forward { offset } else { -offset }
+}
+
+// The place of an n. number, turned.
+fn place_of_n(forward: bool, len: u32, base: i32) -> Place
+    ensures { λ r. ⌜ (r .0 ≡ turned forward len (placeOfN base)) × Within 36 (r .0) ⌝ }
+{
+    let p = numbering::n_to_place(fitting::whole_n(base));
+    turn(forward, len, p)
+}
+
+// The n. position of a spot of the transcript: place and offset turned; 17.
+fn n_of_spot(forward: bool, len: u32, s: Spot) -> NEnd
+    requires { ⌜ Small s ⌝ }
+    ensures { λ r. ⌜ paperNEnd r ≡ nEndAt forward len (spotSaid s) ⌝ }
+{
+    let p = turn(forward, len, s.place);
+    let n = numbering::place_to_n(p);
+    let offset = sign(forward, s.offset);
+    fitting::n_end(n, offset)
+}
+
+// The g. number of a place of the genome with an n. number's own offset, which is turned; 17.
+fn g_of_place(forward: bool, first: u32, p: Place, offset: i32) -> GEnd
+    requires { ⌜ Within 38 (p .0) ⌝ }
+    ensures { λ r. ⌜ paperGEnd r ≡ gEndAt forward first (p .0) offset ⌝ }
+{
+    let z = p.0;
+    let start = first as i64;
+    let given = offset as i64;
+    let own = sign(forward, given);
+    let g = z + start + 1 + own;
+    fitting::g_end(g)
+}
+
+// The n. interval of an interval's two spots: on strand -1 start and end change places.
+fn n_answer(forward: bool, len: u32, a: Spot, b: Spot) -> NAnswer
+    requires { ⌜ Small a × Small b ⌝ }
+    ensures { λ r. ⌜ paperN r ≡ nJoined forward len (spotSaid a) (spotSaid b) ⌝ }
+{
+    let sure = a.sure & b.sure;
+    let first = n_of_spot(forward, len, a);
+    let second = n_of_spot(forward, len, b);
+    if forward {
+        fitting::n_marked(sure, fitting::n_both(first, second))
+    } else {
+        fitting::n_marked(sure, fitting::n_both(second, first))
+    }
+}
+
+// g. to n.: 14, then 17.
+pub fn to_n(
+    at: Alignment,
+    genome: &[u32; MOST_STARTS],
+    transcript: &[u32; MOST_STARTS],
+    letters: &[u8; MOST_SEGMENTS],
+    from: i32,
+    to: i32,
+    strict: bool,
+) -> NAnswer
+    requires { ⌜ Aligns at (tables (now genome) (now transcript) (now letters)) ⌝ }
+    ensures { λ r. ⌜ paperN r ≡ gToN strict (alignedBy at (tables (now (genome .entry)) (now (transcript .entry)) (now (letters .entry)))) (record { from = from; to = to }) ⌝ }
+{
+    let forward = at.forward;
+    let count = at.count;
+    let p = place_of_g(at.first, from);
+    let q = place_of_g(at.first, to);
+    if are_inside(strict, last(genome, count), p, q) {
+        let a = segments::genome_to_transcript(
+            genome,
+            transcript,
+            letters,
+            count,
+            p,
+            End::Start,
+            forward,
+        );
+        let b = segments::genome_to_transcript(
+            genome,
+            transcript,
+            letters,
+            count,
+            q,
+            End::Stop,
+            forward,
+        );
+        return n_answer(forward, last(transcript, count), a, b);
+    }
+    NAnswer::Refused(refusals::OUTSIDE)
+}
+
+// The g. interval of an interval's two spots, with the numbers' own offsets o and u.
+fn g_answer(forward: bool, first: u32, a: Spot, b: Spot, o: i32, u: i32) -> GAnswer
+    requires { ⌜ Small a × Small b ⌝ }
+    ensures { λ r. ⌜ paperG r ≡ gJoined forward first (spotSaid a) (spotSaid b) o u ⌝ }
+{
+    let sure = a.sure & b.sure;
+    fitting::g_marked(
+        sure,
+        g_of_place(forward, first, a.place, o),
+        g_of_place(forward, first, b.place, u),
+    )
+}
+
+// n. to g. of two positions in genomic order.
+fn g_of_ends(
+    at: Alignment,
+    genome: &[u32; MOST_STARTS],
+    transcript: &[u32; MOST_STARTS],
+    letters: &[u8; MOST_SEGMENTS],
+    a: NAsked,
+    b: NAsked,
+    strict: bool,
+) -> GAnswer
+    requires { ⌜ Aligns at (tables (now genome) (now transcript) (now letters)) ⌝ }
+    ensures { λ r. ⌜ paperG r ≡ fitting gFits (gOfEnds strict (alignedBy at (tables (now (genome .entry)) (now (transcript .entry)) (now (letters .entry)))) (paperNAsked a) (paperNAsked b)) ⌝ }
+{
+    let forward = at.forward;
+    let first = at.first;
+    let count = at.count;
+    let len = last(transcript, count);
+    let p = place_of_n(forward, len, a.base);
+    let q = place_of_n(forward, len, b.base);
+    if are_inside(strict, len, p, q) {
+        let x = segments::transcript_to_genome(genome, transcript, letters, count, p, End::Start);
+        let y = segments::transcript_to_genome(genome, transcript, letters, count, q, End::Stop);
+        return g_answer(forward, first, x, y, a.offset, b.offset);
+    }
+    GAnswer::Refused(refusals::OUTSIDE)
+}
+
+// n. to g.: 14, then 17. On strand -1 start and end change places.
+pub fn to_g(
+    at: Alignment,
+    genome: &[u32; MOST_STARTS],
+    transcript: &[u32; MOST_STARTS],
+    letters: &[u8; MOST_SEGMENTS],
+    q: NQuestion,
+    strict: bool,
+) -> GAnswer
+    requires { ⌜ Aligns at (tables (now genome) (now transcript) (now letters)) ⌝ }
+    ensures { λ r. ⌜ paperG r ≡ nToG strict (alignedBy at (tables (now (genome .entry)) (now (transcript .entry)) (now (letters .entry)))) (paperNQuestion q) ⌝ }
+{
+    let from = q.from;
+    let to = q.to;
+    let forward = at.forward;
+    if forward {
+        g_of_ends(at, genome, transcript, letters, from, to, strict)
+    } else {
+        g_of_ends(at, genome, transcript, letters, to, from, strict)
+    }
+}
+
+// Whether the start place is at 0 or above, and the end place at most the genome length.
+pub fn is_in_bounds(at: Alignment, genome: &[u32; MOST_STARTS], from: i32, to: i32) -> bool
+    requires { ⌜ at .count ≤ mostSegments ⌝ }
+    ensures { λ r. ⌜ r ≡ inBounds (at .first) (getD (now (genome .entry)) (at .count) 0) (record { from = from; to = to }) ⌝ }
+{
+    let count = at.count;
+    let p = place_of_g(at.first, from);
+    let q = place_of_g(at.first, to);
+    let start = p.0;
+    let stop = q.0;
+    let end = last(genome, count) as i64;
+    if 0 <= start {
+        return stop <= end;
+    }
+    false
+}

@@ -1,0 +1,3 @@
+-- What the proofs of several functions use.
+--     Gaps    a bound that is not negative
+pub mod Gaps

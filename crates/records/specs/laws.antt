@@ -1,0 +1,3 @@
+-- What is shown of the definitions.
+pub mod Chain
+pub mod Walk

@@ -1,0 +1,92 @@
+-- The number of a place's segment: what is so of it, and that it is the only such number. Assumes nothing.
+use Prim.Native.Nat.{ℕ, zero, suc, _+_, _-_, _≤_, _<_}
+use native.Mathlib.Numerals.{add-one}
+use native.Mathlib.Omega.{arith}
+use mathlib.Core.Bool.{Bool, true, false}
+use mathlib.Core.List.{List, [], _∷_}
+use mathlib.Core.Path.{_≡_, sym, ap, subst, _∙_}
+use lib.Dec.{ltb}
+use lib.IntN.{ℤ, pos}
+use lib.ListN.{getD, length}
+use lib.Signed.{ltZ}
+use borrow.Author.Tests.{ltb-true, ltb-false}
+use Rattle.whole.specs.Whole.{by-test}
+use Rattle.cigar.specs.Elements.{Element, Side, total}
+use Rattle.segments.specs.Tables.{entriesOf}
+use Rattle.segments.specs.Places.{firstBelow, endsAbove, indexOf}
+use Rattle.segments.specs.laws.Made.{entry-first, entry-total}
+
+-- of the numbers below n, i is the first at which f is true, or else the last
+pub record Found (f : ℕ → Bool) (n i : ℕ) : Type 0 where
+  pub below : i < n
+  pub passed : (k : ℕ) → k < i → f k ≡ false
+  pub here : i + 1 < n → f i ≡ true
+
+first-says : (f : ℕ → Bool) (n : ℕ) → Found f (suc n) (firstBelow f n)
+unfolding firstBelow
+first-says f zero = record { below = omega arith; passed = λ k l. absurd (omega arith); here = λ l. absurd (omega arith) }
+first-says f (suc n) =
+    by-test (f 0)
+    (λ e. rw e (record { below = omega arith; passed = λ k l. absurd (omega arith); here = λ l. e }))
+    (λ e.
+    let s = first-says (λ (i : ℕ). f (suc i)) n in
+    rw e (record { below = omega (arith, s .below); passed = one-more e (s .passed); here = λ l. s .here (omega arith) }))
+  where
+    one-more : {i : ℕ} → f 0 ≡ false → ((k : ℕ) → k < i → f (suc k) ≡ false) → (k : ℕ) → k < suc i → f k ≡ false
+    one-more e h zero l = e
+    one-more e h (suc k) l = h k (omega arith)
+
+first-is : (f : ℕ → Bool) (n i : ℕ) → Found f (suc n) i → i ≡ firstBelow f n
+unfolding firstBelow
+first-is f zero i s = omega (arith, s .below)
+first-is f (suc n) zero s = rw (s .here (omega arith))
+first-is f (suc n) (suc i) s =
+    rw (s .passed 0 (omega arith))
+    (ap suc (first-is (λ (k : ℕ). f (suc k)) n i (record { below = omega (arith, s .below); passed = λ k l. s .passed (suc k) (omega arith); here = λ l. s .here (omega arith) })))
+
+-- `indexOf` is what it says, and nothing else is
+module _ (from : List ℕ) (n : ℕ) (p : ℤ) where
+  pub index-says : 0 < n → Found (endsAbove from p) n (indexOf from n p)
+  unfolding indexOf
+  index-says some = let v : n ≡ suc (n - 1) = omega arith in subst (λ (m : ℕ). Found (endsAbove from p) m (indexOf from n p)) (sym v) (first-says (endsAbove from p) (n - 1))
+
+  pub index-is : {i : ℕ} → Found (endsAbove from p) n i → i ≡ indexOf from n p
+  unfolding indexOf
+  index-is {i} s = let v : n ≡ suc (n - 1) = omega (arith, s .below) in first-is (endsAbove from p) (n - 1) i (subst (λ (m : ℕ). Found (endsAbove from p) m i) v s)
+
+-- tables that have the same ends find the same segment
+pub same-index : (a b : List ℕ) (n : ℕ) (p : ℤ) → 0 < n → ((k : ℕ) → k ≤ n → getD a k 0 ≡ getD b k 0) → indexOf a n p ≡ indexOf b n p
+same-index a b n p some same =
+    let s = index-says a n p some in
+    let ends : (k : ℕ) → k < n → endsAbove b p k ≡ endsAbove a p k = λ k l. ap (λ (e : ℕ). ltZ p (pos e)) (sym (same (k + 1) (omega arith))) in
+    index-is b n p (record { below = s .below; passed = λ k l. ends k (omega (arith, s .below)) ∙ s .passed k l; here = λ l. ends (indexOf a n p) (omega arith) ∙ s .here l })
+
+-- a place k of the elements lies in the segment i
+pub record Inside (side : Side) (es : List Element) (k i : ℕ) : Type 0 where
+  pub below : i < length es
+  pub begun : getD (entriesOf side es) i 0 ≤ k
+  pub goes-on : k < getD (entriesOf side es) (i + 1) 0
+
+some-elements : (side : Side) (es : List Element) (k : ℕ) → k < total side es → 0 < length es
+unfolding total
+some-elements side [] k h = absurd (omega arith)
+some-elements side (x ∷ xs) k h = omega arith
+
+pub inside : (side : Side) (es : List Element) (k : ℕ) → k < total side es → Inside side es k (indexOf (entriesOf side es) (length es) (pos k))
+inside side es k h = go _ (index-says from (length es) (pos k) (some-elements side es k h))
+  where
+    from : List ℕ
+    from = entriesOf side es
+
+    begun-at : (i : ℕ) → ((j : ℕ) → j < i → endsAbove from (pos k) j ≡ false) → getD from i 0 ≤ k
+    begun-at zero passed = omega (arith, entry-first side es)
+    begun-at (suc j) passed = rw (← add-one j) (ltb-false _ _ (passed j (omega arith)))
+
+    go : (i : ℕ) → Found (endsAbove from (pos k)) (length es) i → Inside side es k i
+    go i s = record {
+      below = s .below;
+      begun = begun-at i (s .passed);
+      goes-on = by-test (ltb (i + 1) (length es))
+          (λ e. ltb-true _ _ (s .here (ltb-true _ _ e)))
+          (λ e. let last : i + 1 ≡ length es = omega (arith, s .below, ltb-false) in rw last (omega (arith, entry-total side es)));
+    }

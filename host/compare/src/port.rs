@@ -1,0 +1,71 @@
+//! What is compared: the proved entries, or in a test something that answers otherwise.
+
+use pulindraxi::{
+    boundary::{self, Answer, Cds},
+    cigar, Element, Refusal,
+};
+use trials::{draw::Case, paper::Source, Lent, Question};
+
+/// The calls that are compared.
+pub trait Port {
+    /// Builds from records. What memory stands for then, none where it doesn't hold together.
+    fn build(&mut self, case: &Case) -> Result<Option<Source>, Refusal>;
+    /// Builds from a length. What memory stands for then, none where it doesn't hold together.
+    fn build_length(&mut self, length: i32, cds: Cds) -> Result<Option<Source>, Refusal>;
+    /// Answers a question to what was built last.
+    fn ask(&self, question: &Question) -> Result<Answer, Refusal>;
+    /// Reads CIGAR text.
+    fn read_cigar(&self, text: &[u8]) -> Result<Vec<Element>, Refusal>;
+    /// Writes CIGAR text into so many bytes.
+    fn write_cigar(&self, elements: &[Element], room: usize) -> Result<Vec<u8>, Refusal>;
+    /// The length of the common prefix.
+    fn trim_prefix(&self, reference: &[u8], alternative: &[u8]) -> usize;
+    /// The length of the common suffix.
+    fn trim_suffix(&self, reference: &[u8], alternative: &[u8]) -> usize;
+}
+
+/// The proved entries.
+pub struct Entries {
+    lent: Lent,
+}
+
+impl Default for Entries {
+    fn default() -> Entries {
+        Entries { lent: Lent::filled(0) }
+    }
+}
+
+impl Port for Entries {
+    fn build(&mut self, case: &Case) -> Result<Option<Source>, Refusal> {
+        let bytes = case.lay();
+        Refusal::check(self.lent.build(case.laid(&bytes))).map(|()| self.lent.source())
+    }
+
+    fn build_length(&mut self, length: i32, cds: Cds) -> Result<Option<Source>, Refusal> {
+        Refusal::check(boundary::build_length(length, cds, &mut self.lent.head)).map(|()| self.lent.source())
+    }
+
+    fn ask(&self, question: &Question) -> Result<Answer, Refusal> {
+        let answer = question.ask(&self.lent);
+        Refusal::check(answer.number).map(|()| answer)
+    }
+
+    fn read_cigar(&self, text: &[u8]) -> Result<Vec<Element>, Refusal> {
+        cigar::read(text)
+    }
+
+    fn write_cigar(&self, elements: &[Element], room: usize) -> Result<Vec<u8>, Refusal> {
+        let mut buffer = vec![0; room];
+        let length = cigar::write_into(elements, &mut buffer)?;
+        buffer.truncate(length);
+        Ok(buffer)
+    }
+
+    fn trim_prefix(&self, reference: &[u8], alternative: &[u8]) -> usize {
+        boundary::trim_prefix(reference, alternative)
+    }
+
+    fn trim_suffix(&self, reference: &[u8], alternative: &[u8]) -> usize {
+        boundary::trim_suffix(reference, alternative)
+    }
+}

@@ -1,0 +1,180 @@
+//! The comparison reports what is wrong: the proved entries with one answer changed differ just where they were changed. Among
+//! them are the wrong programs that document 01 names: a mapper that refuses everything or always says n.1, a trimmer that
+//! removes nothing, a builder that fills the first segment and leaves the rest zero.
+
+use compare::{original, random, Entries, Judge, Port};
+use pulindraxi::{
+    boundary::{Answer, Cds, Position},
+    limits::MOST_SEGMENTS,
+    Element, Refusal,
+};
+use trials::{draw::Case, paper::Source, Kind, Question};
+
+type Said<T> = Result<T, Refusal>;
+/// The text that is written for elements, made from the right one.
+type Writing = fn(&[Element], Said<Vec<u8>>) -> Said<Vec<u8>>;
+
+/// The proved entries, and what becomes of each answer; by default nothing.
+struct Wrong {
+    entries: Entries,
+    build: fn(Source) -> Said<Source>,
+    ask: fn(Kind, Answer) -> Said<Answer>,
+    read: fn(Vec<Element>) -> Said<Vec<Element>>,
+    write: Writing,
+    trim: fn(usize) -> usize,
+}
+
+impl Default for Wrong {
+    fn default() -> Wrong {
+        Wrong {
+            entries: Entries::default(),
+            build: Ok,
+            ask: |_, answer| Ok(answer),
+            read: Ok,
+            write: |_, text| text,
+            trim: |length| length,
+        }
+    }
+}
+
+impl Port for Wrong {
+    fn build(&mut self, case: &Case) -> Said<Option<Source>> {
+        self.entries.build(case)?.map(self.build).transpose()
+    }
+
+    fn build_length(&mut self, length: i32, cds: Cds) -> Said<Option<Source>> {
+        self.entries.build_length(length, cds)?.map(self.build).transpose()
+    }
+
+    fn ask(&self, question: &Question) -> Said<Answer> {
+        (self.ask)(question.kind, self.entries.ask(question)?)
+    }
+
+    fn read_cigar(&self, text: &[u8]) -> Said<Vec<Element>> {
+        (self.read)(self.entries.read_cigar(text)?)
+    }
+
+    fn write_cigar(&self, elements: &[Element], room: usize) -> Said<Vec<u8>> {
+        (self.write)(elements, self.entries.write_cigar(elements, room))
+    }
+
+    fn trim_prefix(&self, reference: &[u8], alternative: &[u8]) -> usize {
+        (self.trim)(self.entries.trim_prefix(reference, alternative))
+    }
+
+    fn trim_suffix(&self, reference: &[u8], alternative: &[u8]) -> usize {
+        (self.trim)(self.entries.trim_suffix(reference, alternative))
+    }
+}
+
+/// The entries of a port that differ.
+fn differing(port: Wrong) -> Vec<&'static str> {
+    original::silence_panics();
+    let mut judge = Judge::new(port);
+    random::run(&mut judge, 1, 8_000);
+    judge.differing()
+}
+
+/// The entries that differ where writing is changed.
+fn writing(write: Writing) -> Vec<&'static str> {
+    differing(Wrong { write, ..Wrong::default() })
+}
+
+#[test]
+fn the_entries_as_they_are() {
+    assert_eq!(differing(Wrong::default()), [""; 0]);
+}
+
+#[test]
+fn a_writer_that_refuses_everything() {
+    assert_eq!(writing(|_, _| Err(Refusal::TooMuch)), ["txc_write_cigar"]);
+}
+
+#[test]
+fn a_writer_that_refuses_nothing() {
+    assert_eq!(writing(|_, text| Ok(text.unwrap_or_default())), ["txc_write_cigar"]);
+}
+
+#[test]
+fn a_writer_that_leaves_out_a_0() {
+    let bare = |elements: &[Element], text: Said<Vec<u8>>| match elements {
+        [Element { count: 0, letter }] => text.map(|_| vec![*letter]),
+        _ => text,
+    };
+    assert_eq!(writing(bare), ["txc_write_cigar"]);
+}
+
+#[test]
+fn a_writer_with_another_order_of_refusals() {
+    // The count before the letter, and the room before the text's limit.
+    let count_first = |elements: &[Element], text: Said<Vec<u8>>| {
+        let negative = elements.iter().any(|element| element.count < 0);
+        text.map_err(|refusal| if refusal == Refusal::NoElement && negative { Refusal::BadCount } else { refusal })
+    };
+    assert_eq!(writing(count_first), ["txc_write_cigar"]);
+    let room_first = |elements: &[Element], text: Said<Vec<u8>>| {
+        let fits = elements.len() <= MOST_SEGMENTS;
+        text.map_err(|refusal| if refusal == Refusal::TooMuch && fits { Refusal::NoRoom } else { refusal })
+    };
+    assert_eq!(writing(room_first), ["txc_write_cigar"]);
+}
+
+#[test]
+fn a_writer_that_gives_a_number_without_a_name() {
+    assert_eq!(
+        writing(|_, text| text.map_err(|refusal| Refusal::check(refusal.number() + 100).unwrap_err())),
+        ["txc_write_cigar"]
+    );
+}
+
+#[test]
+fn a_reader_that_refuses_everything() {
+    let port = Wrong { read: |_| Err(Refusal::NoElement), ..Wrong::default() };
+    assert_eq!(differing(port), ["txc_read_cigar"]);
+}
+
+#[test]
+fn a_mapper_that_refuses_everything() {
+    let port = Wrong { ask: |_, _| Err(Refusal::NotTogether), ..Wrong::default() };
+    let mut all = Kind::ALL.map(Kind::entry);
+    all.sort_unstable();
+    assert_eq!(differing(port), all);
+}
+
+#[test]
+fn a_mapper_that_always_says_n_1() {
+    let port = Wrong {
+        ask: |kind, answer| match kind {
+            Kind::GToN | Kind::CToN => {
+                let n_1 = Position { base: 1, ..Position::default() };
+                Ok(Answer { start: n_1, end: n_1, ..answer })
+            }
+            _ => Ok(answer),
+        },
+        ..Wrong::default()
+    };
+    assert_eq!(differing(port), ["txc_c_to_n", "txc_g_to_n"]);
+}
+
+#[test]
+fn a_builder_that_fills_the_first_segment_alone() {
+    let port = Wrong {
+        build: |source| match source {
+            Source::Records(mut aligned) => {
+                for starts in [&mut aligned.genome, &mut aligned.transcript] {
+                    starts[2..].fill(0);
+                }
+                Ok(Source::Records(aligned))
+            }
+            source => Ok(source),
+        },
+        ..Wrong::default()
+    };
+    assert_eq!(differing(port), ["txc_build"]);
+}
+
+#[test]
+fn a_trimmer_that_removes_nothing() {
+    let port = Wrong { trim: |_| 0, ..Wrong::default() };
+    assert_eq!(differing(port), ["txc_trim_prefix", "txc_trim_suffix"]);
+}

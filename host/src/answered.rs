@@ -1,0 +1,135 @@
+//! Positions and intervals as they are answered, and the mark of a mapping to or from g. Only an answer makes them; each
+//! becomes a question by `into` (see [`asked`](crate::asked)).
+
+use crate::{
+    boundary::{Answer, Position},
+    Refusal,
+};
+
+/// A g. interval.
+#[derive(Clone, Copy, Debug, PartialEq, Eq, Hash)]
+#[non_exhaustive]
+pub struct GInterval {
+    /// The first base.
+    pub start: i32,
+    /// The last base.
+    pub end: i32,
+}
+
+/// An n. number with an intron offset, 0 for none.
+#[derive(Clone, Copy, Debug, PartialEq, Eq, Hash)]
+#[non_exhaustive]
+pub struct NPosition {
+    /// The number.
+    pub base: i32,
+    /// The offset.
+    pub offset: i32,
+}
+
+/// An n. interval.
+#[derive(Clone, Copy, Debug, PartialEq, Eq, Hash)]
+#[non_exhaustive]
+pub struct NInterval {
+    /// Its first position.
+    pub start: NPosition,
+    /// Its last position.
+    pub end: NPosition,
+}
+
+/// A c. number with an intron offset, 0 for none.
+#[derive(Clone, Copy, Debug, PartialEq, Eq, Hash)]
+#[non_exhaustive]
+pub struct CPosition {
+    /// The number.
+    pub base: i32,
+    /// The offset.
+    pub offset: i32,
+    /// Whether the number counts from the end of the CDS, as in `*3`.
+    pub star: bool,
+}
+
+/// A c. interval.
+#[derive(Clone, Copy, Debug, PartialEq, Eq, Hash)]
+#[non_exhaustive]
+pub struct CInterval {
+    /// Its first position.
+    pub start: CPosition,
+    /// Its last position.
+    pub end: CPosition,
+}
+
+/// What a mapping to or from g. answers: an interval, uncertain where an end fell in an I or D segment.
+#[derive(Clone, Copy, Debug, PartialEq, Eq, Hash)]
+pub enum Mapped<T> {
+    /// Both ends lie in matched columns or introns.
+    Certain(T),
+    /// An end lies in a gap of the alignment.
+    Uncertain(T),
+}
+
+impl<T> Mapped<T> {
+    /// The interval, whatever the mark.
+    pub fn interval(self) -> T {
+        match self {
+            Mapped::Certain(interval) | Mapped::Uncertain(interval) => interval,
+        }
+    }
+
+    /// Whether the mark is certain.
+    pub const fn is_certain(&self) -> bool {
+        matches!(self, Mapped::Certain(_))
+    }
+}
+
+// ---- From the boundary
+
+impl From<Position> for NPosition {
+    fn from(n: Position) -> NPosition {
+        NPosition { base: n.base, offset: n.offset }
+    }
+}
+
+impl From<Position> for CPosition {
+    fn from(c: Position) -> CPosition {
+        CPosition { base: c.base, offset: c.offset, star: c.star != 0 }
+    }
+}
+
+impl TryFrom<Answer> for GInterval {
+    type Error = Refusal;
+
+    fn try_from(answer: Answer) -> Result<GInterval, Refusal> {
+        Refusal::check(answer.number)?;
+        Ok(GInterval { start: answer.start.base, end: answer.end.base })
+    }
+}
+
+impl TryFrom<Answer> for NInterval {
+    type Error = Refusal;
+
+    fn try_from(answer: Answer) -> Result<NInterval, Refusal> {
+        Refusal::check(answer.number)?;
+        Ok(NInterval { start: answer.start.into(), end: answer.end.into() })
+    }
+}
+
+impl TryFrom<Answer> for CInterval {
+    type Error = Refusal;
+
+    fn try_from(answer: Answer) -> Result<CInterval, Refusal> {
+        Refusal::check(answer.number)?;
+        Ok(CInterval { start: answer.start.into(), end: answer.end.into() })
+    }
+}
+
+impl<T: TryFrom<Answer, Error = Refusal>> TryFrom<Answer> for Mapped<T> {
+    type Error = Refusal;
+
+    fn try_from(answer: Answer) -> Result<Mapped<T>, Refusal> {
+        let interval = T::try_from(answer)?;
+        Ok(match answer.mark {
+            Answer::CERTAIN => Mapped::Certain(interval),
+            _ => Mapped::Uncertain(interval),
+        })
+    }
+}
