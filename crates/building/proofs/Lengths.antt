@@ -1,24 +1,13 @@
--- The judgment of a length, link by link, and a length as the machine casts it. Assumes nothing.
+-- The judgment of a length, link by link. Assumes nothing.
 use mathlib.Core.Path.{_≡_}
 use Prim.Native.Nat.{ℕ, _≤_, _<_}
-use native.Mathlib.Omega.{arith}
-use lib.Dec.{T}
-use lib.IntN.{ℤ, pos, negsuc, natAbs}
-use lib.Signed.{nonNeg}
-use mir.Syntax.{w32, w64}
-use mir.Val.{Fits, SFits}
+use lib.IntN.{ℤ, natAbs}
 use borrow.Author.Tests.{lt-ltb, le-ltb}
 use Rattle.refusals.specs.Numbers.{notTogether}
 use Rattle.refusals.specs.Outcome.{answered, refused}
-use Rattle.whole.specs.Whole.{order}
 use Rattle.judging.specs.Judging.{halfFault, cdsFault, cdsOf, lengthFault, judgeLength}
 use Rattle.transcript.specs.Heads.{bothBits, startOf, endOf}
 use Rattle.judging.specs.laws.Chain.{refuses}
-
--- what a cast of a length to an unsigned number asks
-pub cast-asks : (z : ℤ) → SFits w32 z → z ≡ pos (natAbs z) → T (nonNeg z) × Fits w64 (natAbs z)
-cast-asks (pos n) f e = (tt, omega (arith, f .sfits))
-cast-asks (negsuc n) f e = absurd (omega order)
 
 module _ (len : ℤ) (bits : ℕ) (start end : ℤ) where
   pub bits-unknown : bothBits < bits → judgeLength len bits start end ≡ refused notTogether

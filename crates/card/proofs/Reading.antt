@@ -9,7 +9,7 @@ use Prim.Native.Nat.{ℕ, _≤_}
 use borrow.Author.Tests.{le-leb, leb-true}
 use lib.Dec.{leb}
 use lib.ListN.{length, getD, drop}
-use Rattle.whole.specs.Whole.{both}
+use Rattle.whole.specs.laws.Whole.{both}
 use Rattle.records.specs.Records.{exactly}
 use Rattle.transcript.specs.Heads.{bothBits}
 use Rattle.card.specs.Layout.{strandAt, recordsAt}

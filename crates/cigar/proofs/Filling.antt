@@ -13,12 +13,12 @@ use Rattle.refusals.specs.Outcome.{answered, refused, Answered}
 use Rattle.cigar.specs.Elements.{Element}
 use Rattle.cigar.specs.Text.{Reading, readAll, elementsIn, countedOf}
 use Rattle.cigar.specs.laws.Lent.{sets-front}
-use Rattle.cigar.specs.Read.{readText, countsOf, lettersOf, countsAfter, lettersAfter, Tables, Filled}
+use Rattle.cigar.specs.Read.{readText, countsOf, lettersOf, countsAfter, lettersAfter, FullLength, Filled}
 use Rattle.cigar.specs.laws.Sound.{read-room}
 use Rattle.cigar.specs.declared.Counted.the-variants as counted
 
 -- the tables stay as long as they are
-pub tables-set : {counts : List ℤ} {letters : List ℕ} (i : ℕ) (z : ℤ) (letter : ℕ) → Tables counts letters → Tables (set counts i z) (set letters i letter)
+pub tables-set : {counts : List ℤ} {letters : List ℕ} (i : ℕ) (z : ℤ) (letter : ℕ) → FullLength counts letters → FullLength (set counts i z) (set letters i letter)
 tables-set {counts} {letters} i z letter h = record {
   counts-long = length-set counts i z ∙ h .counts-long;
   letters-long = length-set letters i letter ∙ h .letters-long;
@@ -49,7 +49,7 @@ counted-answered (answered es) e = tt
 counted-answered (refused k) {n} e = let z : _≡_ {A = ℕ} 0 1 = cc in absurd (omega arith)
 
 -- the tables, when all is stored
-pub filled-after : (text : List ℕ) {c : List ℤ} {l : List ℕ} {c₁ : List ℤ} {l₁ : List ℕ} (r : Reading) → readAll mostSegments text ≡ r → Answered r → Tables c l
+pub filled-after : (text : List ℕ) {c : List ℤ} {l : List ℕ} {c₁ : List ℤ} {l₁ : List ℕ} (r : Reading) → readAll mostSegments text ≡ r → Answered r → FullLength c l
     → Filled c l c₁ l₁ 0 (elementsIn r) → (c₁ ≡ countsAfter c r) × (l₁ ≡ lettersAfter l r)
 filled-after text {c} {l} (answered es) e a t f =
     let few = read-room mostSegments text e in (

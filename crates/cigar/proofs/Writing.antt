@@ -15,7 +15,7 @@ use lib.IntN.{ℤ, pos, natAbs}
 use lib.ListN.{length, getD, length-append}
 use lib.Signed.{ltZ}
 use borrow.Author.Tests.{lt-ltb, le-ltb}
-use Rattle.whole.specs.Whole.{by-test}
+use Rattle.whole.specs.laws.Whole.{by-test}
 use Rattle.refusals.specs.Numbers.{tooMuch, noRoom, mostSegments, mostText}
 use Rattle.refusals.specs.Outcome.{answered, refused, Answered}
 use Rattle.cigar.specs.Elements.{Element, isLetter}

@@ -34,7 +34,7 @@ lettersAfter letters (answered es) = atFront (lettersOf es) letters
 lettersAfter letters (refused k) = letters
 
 -- both tables have a place for each segment
-pub record Tables (counts : List ℤ) (letters : List ℕ) : Type 0 where
+pub record FullLength (counts : List ℤ) (letters : List ℕ) : Type 0 where
   pub counts-long : length counts ≡ mostSegments
   pub letters-long : length letters ≡ mostSegments
 

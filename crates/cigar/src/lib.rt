@@ -8,7 +8,7 @@ ghost use Rattle.refusals.specs.Numbers.{mostCount, mostSegments};
 ghost use Rattle.cigar.specs.Elements.{isLetter, kindOf, alongGenome, alongTranscript};
 ghost use Rattle.refusals.specs.Outcome.{Answered};
 ghost use Rattle.cigar.specs.Text.{isDigit, countOf, finished, stepAt, readAll, elementsIn, countedOf};
-ghost use Rattle.cigar.specs.Read.{readText, countsAfter, lettersAfter, Tables, Filled};
+ghost use Rattle.cigar.specs.Read.{readText, countsAfter, lettersAfter, FullLength, Filled};
 use refusals::BAD_COUNT;
 use refusals::MOST_COUNT;
 use refusals::MOST_SEGMENTS;
@@ -138,7 +138,7 @@ fn signed(count: u32) -> i32
 
 // The elements of a text that is not refused, from the front of two tables.
 fn fill_elements(text: &[u8], counts: &mut [i32], letters: &mut [u8])
-    requires { ⌜ Tables (now counts) (now letters) ⌝ }
+    requires { ⌜ FullLength (now counts) (now letters) ⌝ }
     requires { ⌜ Answered (readAll mostSegments (now text)) ⌝ }
     ensures { λ _. ⌜ Filled (now (counts .entry)) (now (letters .entry)) (now (counts .exit)) (now (letters .exit)) 0 (elementsIn (readAll mostSegments (now (text .entry)))) ⌝ }
 {

@@ -2,7 +2,6 @@
 use Prim.Native.Nat.{ℕ}
 use mathlib.Core.List.{List}
 use lib.IntN.{ℤ}
-use Rattle.transcript.specs.declared.Numbers.{Numbers}
 use Rattle.transcript.specs.declared.Built.{Built}
 use Rattle.transcript.specs.declared.Built.the-variants as built
 use Rattle.layout.specs.Layout.{headRow, starOf}
@@ -13,10 +12,6 @@ use Rattle.cigar.specs.declared.Counted.the-variants as counted
 use Rattle.cigar.specs.declared.write.Written.{Written}
 use Rattle.cigar.specs.declared.write.Written.the-variants as written
 use Rattle.sequences.specs.declared.Part as alleles
-
--- what building is handed beside the records' bytes
-abbrev pub numbersOf : ℤ → ℕ → ℤ → ℤ → ℕ → Numbers
-numbersOf strand bits from to n = record { strand = strand; cds = bits; start = from; end = to; count = n }
 
 abbrev pub lengthLaid : ℕ → Length
 lengthLaid n = record { number = 0; length = n }

@@ -8,7 +8,7 @@ use lib.ListN.{take, drop}
 use borrow.Author.Tests.{ltb-true, ltb-false, eqb-true, eqb-false, ne-eqb}
 use Rattle.refusals.specs.Numbers.{mostText, mostSegments}
 use Rattle.refusals.specs.Outcome.{answered, refused}
-use Rattle.whole.specs.Whole.{by-test}
+use Rattle.whole.specs.laws.Whole.{by-test}
 use Rattle.cigar.specs.declared.Step.the-variants as step
 use Rattle.cigar.specs.Elements.{Element}
 use Rattle.cigar.specs.Text.{stepAt, Reading, before, element, readAll, elementsIn}

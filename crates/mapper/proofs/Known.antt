@@ -7,7 +7,7 @@ use lib.IntN.{natAbs}
 use lib.ListN.{getD}
 use Rattle.refusals.specs.Numbers.{notTogether}
 use Rattle.refusals.specs.Outcome.{Outcome, answered, refused, andThen, through}
-use Rattle.whole.specs.Whole.{by-test}
+use Rattle.whole.specs.laws.Whole.{by-test}
 use Rattle.segments.specs.Tables.{Tables, read}
 use Rattle.transcript.specs.Transcript.{Transcript, Source, Cds, genomeLength, transcriptLength}
 use Rattle.transcript.specs.Transcript.Source.{aligned, lengthOnly}

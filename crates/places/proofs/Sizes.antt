@@ -7,7 +7,8 @@ use lib.IntN.{ℤ, pos, negℤ, _+ℤ_, _-ℤ_}
 use lib.Signed.{leZ}
 use mir.Syntax.{w32, w64}
 use mir.Val.{Fits, SFits}
-use Rattle.whole.specs.Whole.{Within, if_then_else_, order, dif, neg, mag-sum, mag-dif}
+use Rattle.whole.specs.Whole.{Within, if_then_else_}
+use Rattle.whole.specs.laws.Whole.{order, dif, neg, mag-sum, mag-dif}
 use Rattle.numbering.specs.Numbers.{placeOfN}
 use Rattle.places.specs.Mapping.{turned, signed}
 

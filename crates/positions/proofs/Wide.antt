@@ -5,8 +5,9 @@ use native.Mathlib.Omega.{arith}
 use lib.IntN.{ℤ, pos, negsuc}
 use mir.Syntax.{w32}
 use mir.Val.{SFits, toZ, ofZ}
-use Rattle.whole.specs.Whole.{read}
-use Rattle.whole.specs.Fits.{fitOf, fits, number-is}
+use Rattle.whole.specs.laws.Whole.{read}
+use Rattle.whole.specs.Fits.{fitOf, fits}
+use Rattle.whole.specs.laws.Fits.{number-is}
 use Rattle.whole.specs.declared.Fit.the-variants.{Number, TooWide}
 use Rattle.positions.specs.laws.Fits.{fits-by}
 

@@ -6,7 +6,8 @@ use mathlib.Core.Path.{_≡_, sym, ap, _∙_}
 use lib.IntN.{ℤ, pos}
 use lib.ListN.{getD}
 use Rattle.refusals.specs.Outcome.{answered, refused, through}
-use Rattle.whole.specs.Whole.{if_then_else_, order}
+use Rattle.whole.specs.Whole.{if_then_else_}
+use Rattle.whole.specs.laws.Whole.{order}
 use Rattle.whole.specs.Fits.{fitOf, fits}
 use Rattle.numbering.specs.Numbers.{nOfPlace, placeOfN}
 use Rattle.cigar.specs.Elements.{kindOf, genome, transcript, total}

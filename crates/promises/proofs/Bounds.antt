@@ -6,7 +6,7 @@ use mathlib.Core.List.{List}
 use mathlib.Core.Path.{_≡_, refl, sym, ap, _∙_}
 use lib.IntN.{ℤ, pos, _+ℤ_, _-ℤ_}
 use lib.ListN.{getD, length, take, drop, take-append-drop}
-use Rattle.whole.specs.Whole.{by-test, order, sum, dif, up, dn}
+use Rattle.whole.specs.laws.Whole.{by-test, order, sum, dif, up, dn}
 use Rattle.cigar.specs.Elements.{Element, Side, Kind, kindOf, kind, total}
 use Rattle.cigar.specs.Elements.Kind.{matches, inserts, deletes, skips}
 use Rattle.segments.specs.Tables.{entriesOf, lettersOf}

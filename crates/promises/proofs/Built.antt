@@ -11,7 +11,8 @@ use lib.Signed.{ltZ}
 use Rattle.refusals.specs.Numbers.{mostSegments, mostText}
 use Rattle.refusals.specs.Outcome.{Outcome, answered, refused, Answered, through}
 use Rattle.refusals.specs.laws.Outcomes.{clash, same}
-use Rattle.whole.specs.Whole.{eqZ, by-test, order}
+use Rattle.whole.specs.Whole.{eqZ}
+use Rattle.whole.specs.laws.Whole.{by-test, order}
 use Rattle.cigar.specs.Elements.{genome, transcript, total}
 use Rattle.cigar.specs.Text.{Reading, elementsIn}
 use Rattle.cigar.specs.Read.{readText}

@@ -8,7 +8,7 @@ use lib.Dec.{eqb}
 use lib.IntN.{pos}
 use lib.ListN.{length}
 use borrow.Author.Tests.{eqb-true}
-use Rattle.whole.specs.Whole.{by-test}
+use Rattle.whole.specs.laws.Whole.{by-test}
 use Rattle.cigar.specs.Elements.{Element, Side, Kind, letterEqual, letterM, letterX, kindOf, kind, genome, transcript, total, alongGenome, alongTranscript}
 use Rattle.cigar.specs.Elements.Kind.{matches, inserts, deletes, skips}
 use Rattle.segments.specs.Places.{surely, End, spotIn, mapPlace}

@@ -7,7 +7,8 @@ use mathlib.Core.Path.{_≡_, refl, sym, ap, _∙_}
 use lib.IntN.{ℤ, pos, negℤ, negℤ-negℤ, _+ℤ_, _-ℤ_}
 use lib.ListN.{length}
 use borrow.Author.Tests.{leb-true, leb-false}
-use Rattle.whole.specs.Whole.{if_then_else_, by-test, order, sum, dif, neg}
+use Rattle.whole.specs.Whole.{if_then_else_}
+use Rattle.whole.specs.laws.Whole.{by-test, order, sum, dif, neg}
 use Rattle.cigar.specs.Elements.{Element, kindOf, kind, genome, transcript, total}
 use Rattle.cigar.specs.Elements.Kind.{matches, skips}
 use Rattle.segments.specs.Places.{End, leftNearer, nearer, spotIn, mapPlace}
@@ -15,7 +16,7 @@ use Rattle.transcript.specs.Transcript.{Transcript, genomeLength, transcriptLen
 use Rattle.places.specs.Mapping.{signed}
 use Rattle.promises.specs.Bases.{Lies, Matched, upstreamIn, upstreamOf, exonName, InIntron, placeBefore, placeAfter, apart, upstreamNearer, intronName}
 use Rattle.promises.specs.Demands.{ours, Named, FromNearest, BasesNamed}
-use Rattle.promises.proofs.Sound.{Sound}
+use Rattle.promises.proofs.InRange.{InRange}
 use Rattle.segments.specs.laws.Totals.{total-append}
 use Rattle.segments.specs.laws.Amid.{slid, place-amid, one-place}
 use Rattle.promises.proofs.Turns.{across}
@@ -80,8 +81,8 @@ module _ {t : Transcript} {p : ℕ} (b : Matched t p) where
     o-in = omega arith;
   }
 
-  exon-named : Sound t → Named ours t p (exonName b)
-  exon-named sound = rw (unsigned (t .forward), counted) at (has-name t sound p other p (pos 0) reaches-column)
+  exon-named : InRange t → Named ours t p (exonName b)
+  exon-named in-range = rw (unsigned (t .forward), counted) at (has-name t in-range p other p (pos 0) reaches-column)
 
 -- ---- an intron
 
@@ -223,10 +224,10 @@ module _ {t : Transcript} {p : ℕ} (b : InIntron t p) where
   right-apart : apart p (placeAfter b) ≡ x .count - k
   right-apart = omega (arith, k-in, b .lies .place)
 
-  module _ (sound : Sound t) (forward : Bool) (is : t .forward ≡ forward) where
+  module _ (in-range : InRange t) (forward : Bool) (is : t .forward ≡ forward) where
     -- named from the exon base e at a, whose offset along the genome is o
     from-edge : {a : ℕ} (e : Matched t a) (o o′ : ℤ) → Reaches t p (other e) a o → signed forward o ≡ o′ → Named ours t p (record { upstream = upstreamOf e; offset = o′ })
-    from-edge {a} e o o′ r o-is = rw (counted e, ap (λ (f : Bool). signed f o) is ∙ o-is) at (has-name t sound p (other e) a o r)
+    from-edge {a} e o o′ r o-is = rw (counted e, ap (λ (f : Bool). signed f o) is ∙ o-is) at (has-name t in-range p (other e) a o r)
 
     as-nearer : {v : Bool} → leftNearer forward (pos (k + 1)) (pos (x .count - k)) ≡ v → leftNearer (t .forward) (pos (k + 1)) (pos (x .count - k)) ≡ v
     as-nearer h = ap (λ (f : Bool). leftNearer f (pos (k + 1)) (pos (x .count - k))) is ∙ h
@@ -237,25 +238,25 @@ module _ {t : Transcript} {p : ℕ} (b : InIntron t p) where
     right-named : leftNearer forward (pos (k + 1)) (pos (x .count - k)) ≡ false → (o : ℤ) → signed forward (negℤ (pos (x .count - k))) ≡ o → Named ours t p (record { upstream = upstreamOf right; offset = o })
     right-named far o = from-edge right (negℤ (pos (x .count - k))) o (from-right (as-nearer far))
 
-  nearest : Sound t → (forward : Bool) → t .forward ≡ forward → FromNearest ours t p (if forward then placeBefore b else placeAfter b) (if forward then placeAfter b else placeBefore b)
+  nearest : InRange t → (forward : Bool) → t .forward ≡ forward → FromNearest ours t p (if forward then placeBefore b else placeAfter b) (if forward then placeAfter b else placeBefore b)
   unfolding intronName
-  nearest sound true e = record {
+  nearest in-range true e = record {
     up = left;
     down = right;
     named = by-test (upstreamNearer p (placeBefore b) (placeAfter b))
-        (λ h. rw (h, left-apart) (left-named sound true e (omega (order, left-apart, right-apart, nearer-yes)) (pos (k + 1)) refl))
-        (λ h. rw (h, right-apart) (right-named sound true e (omega (order, left-apart, right-apart, nearer-no)) (negℤ (pos (x .count - k))) refl));
+        (λ h. rw (h, left-apart) (left-named in-range true e (omega (order, left-apart, right-apart, nearer-yes)) (pos (k + 1)) refl))
+        (λ h. rw (h, right-apart) (right-named in-range true e (omega (order, left-apart, right-apart, nearer-no)) (negℤ (pos (x .count - k))) refl));
   }
-  nearest sound false e = record {
+  nearest in-range false e = record {
     up = right;
     down = left;
     named = by-test (upstreamNearer p (placeAfter b) (placeBefore b))
-        (λ h. rw (h, right-apart) (right-named sound false e (omega (order, left-apart, right-apart, nearer-yes)) (pos (x .count - k)) (negℤ-negℤ (pos (x .count - k)))))
-        (λ h. rw (h, left-apart) (left-named sound false e (omega (order, left-apart, right-apart, nearer-no)) (negℤ (pos (k + 1))) refl));
+        (λ h. rw (h, right-apart) (right-named in-range false e (omega (order, left-apart, right-apart, nearer-yes)) (pos (x .count - k)) (negℤ-negℤ (pos (x .count - k)))))
+        (λ h. rw (h, left-apart) (left-named in-range false e (omega (order, left-apart, right-apart, nearer-no)) (negℤ (pos (k + 1))) refl));
   }
 
-pub bases-named : (t : Transcript) → Sound t → BasesNamed ours t
-bases-named t sound = record {
-  exon-base = λ p b. exon-named b sound;
-  intron-base = λ p b. nearest b sound (t .forward) refl;
+pub bases-named : (t : Transcript) → InRange t → BasesNamed ours t
+bases-named t in-range = record {
+  exon-base = λ p b. exon-named b in-range;
+  intron-base = λ p b. nearest b in-range (t .forward) refl;
 }

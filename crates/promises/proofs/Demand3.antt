@@ -17,7 +17,7 @@ use Rattle.coding.specs.Coding.{nToC, cOfInterval, cToN}
 use Rattle.places.specs.Mapping.{gToN}
 use Rattle.mapper.specs.Chains.{gToC, cToG}
 use Rattle.promises.specs.Demands.{ours, Keeps}
-use Rattle.promises.proofs.Sound.{Sound}
+use Rattle.promises.proofs.InRange.{InRange}
 use Rattle.promises.proofs.Lengthening.{short, long, g-to-c-kept, c-to-g-kept}
 use Rattle.promises.proofs.Records.{Spans, exonBases, lead, trail, split, lead-bases, trail-bases, lead-span}
 
@@ -32,12 +32,12 @@ uncoded t u e = record { g-to-c = λ i h k. nothing (gToN true t i); c-to-g = λ
 
 -- over elements
 module _ (forward : Bool) (first : ℕ) (xs ys zs : List Element) (s e : ℕ) where
-  keeps : Sound (long forward first xs ys zs s e) → Keeps ours (short forward first xs ys zs s e) (long forward first xs ys zs s e)
-  keeps sound = record {
+  keeps : InRange (long forward first xs ys zs s e) → Keeps ours (short forward first xs ys zs s e) (long forward first xs ys zs s e)
+  keeps in-range = record {
     g-to-c = λ i (p, a, p-in) (q, b, q-in).
         let same : i ≡ record { from = pos (p + (first + total genome xs) + 1); to = pos (q + (first + total genome xs) + 1) } = λ j. record { from = a j; to = b j } in
-        rw same (g-to-c-kept forward first xs ys zs s e (sound .transcript-small) p q (omega arith) (omega arith));
-    c-to-g = c-to-g-kept forward first xs ys zs s e (sound .transcript-small);
+        rw same (g-to-c-kept forward first xs ys zs s e (in-range .transcript-small) p q (omega arith) (omega arith));
+    c-to-g = c-to-g-kept forward first xs ys zs s e (in-range .transcript-small);
   }
 
 -- over records: CDS bounds, moved up
@@ -62,10 +62,10 @@ module _ (forward : Bool) (left : List Exon) (r : Exon) (rs right : List Exon) (
     unfolding build
     long-is = rw (split forward left r rs right, lead-bases forward left r, trail-bases forward r rs right)
 
-    coded : Sound (lengthened forward left (r ∷ rs) right (cds s e)) → Keeps ours (build forward (r ∷ rs) (cds s e)) (lengthened forward left (r ∷ rs) right (cds s e))
+    coded : InRange (lengthened forward left (r ∷ rs) right (cds s e)) → Keeps ours (build forward (r ∷ rs) (cds s e)) (lengthened forward left (r ∷ rs) right (cds s e))
     coded = rw (short-is, long-is) (keeps forward first (lead forward left r) (elementsOf forward (r ∷ rs)) (trail forward r rs right) s e)
 
-  pub lengthened-keeps : (c : Cds) → Sound (lengthened forward left (r ∷ rs) right c) → Keeps ours (build forward (r ∷ rs) c) (lengthened forward left (r ∷ rs) right c)
+  pub lengthened-keeps : (c : Cds) → InRange (lengthened forward left (r ∷ rs) right c) → Keeps ours (build forward (r ∷ rs) c) (lengthened forward left (r ∷ rs) right c)
   unfolding build
-  lengthened-keeps noCds sound = uncoded (build forward (r ∷ rs) noCds) (lengthened forward left (r ∷ rs) right noCds) refl
-  lengthened-keeps (cds s e) sound = coded s e sound
+  lengthened-keeps noCds in-range = uncoded (build forward (r ∷ rs) noCds) (lengthened forward left (r ∷ rs) right noCds) refl
+  lengthened-keeps (cds s e) in-range = coded s e in-range

@@ -6,7 +6,7 @@ use mathlib.Core.List.{List, [], _∷_, _++_, reverse, reverse-cons, reverse-app
 use mathlib.Core.Path.{_≡_, refl, sym, ap, _∙_}
 use lib.Dec.{eqb}
 use borrow.Author.Tests.{eqb-true, eqb-false}
-use Rattle.whole.specs.Whole.{by-test}
+use Rattle.whole.specs.laws.Whole.{by-test}
 use Rattle.cigar.specs.Elements.{Element, genome, transcript, total}
 use Rattle.promises.specs.Bases.{isMatch, nextMatches}
 use Rattle.segments.specs.laws.Totals.{total-reverse}

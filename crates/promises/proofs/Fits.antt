@@ -6,7 +6,7 @@ use mathlib.Core.Path.{_≡_}
 use lib.IntN.{ℤ, pos, _+ℤ_, _-ℤ_}
 use lib.Signed.{leZ, ltZ}
 use Rattle.refusals.specs.Numbers.{mostBases}
-use Rattle.whole.specs.Whole.{by-test, order, sum, dif, neg, up, dn}
+use Rattle.whole.specs.laws.Whole.{by-test, order, sum, dif, neg, up, dn}
 use Rattle.whole.specs.Fits.{fits}
 use Rattle.numbering.specs.Numbers.{nOfPlace, cOfN}
 use Rattle.positions.specs.laws.Fits.{fits-by, fits-says}

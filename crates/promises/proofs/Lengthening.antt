@@ -1,7 +1,7 @@
 -- Demand 3 over elements: with elements xs before and zs after, along the genome, and the CDS moved up by the transcript bases that stand upstream, each answer stays. Assumes nothing.
 use Prim.Native.Nat.{ℕ, zero, suc, _+_, _≤_, _<_}
 use native.Mathlib.Omega.{arith}
-use mathlib.Core.Bool.{Bool, true, false, cond, _&&_, _||_, true≢false}
+use mathlib.Core.Bool.{Bool, true, false, cond, _&&_, _||_}
 use mathlib.Core.List.{List, _++_}
 use mathlib.Core.Path.{_≡_, refl, sym, ap, _∙_}
 use lib.IntN.{ℤ, pos, negsuc, _+ℤ_, _-ℤ_}
@@ -10,7 +10,7 @@ use lib.Signed.{leZ, ltZ}
 use Rattle.refusals.specs.Numbers.{mostBases}
 use Rattle.refusals.specs.Outcome.{Outcome, answered, refused, Answered}
 use Rattle.refusals.specs.laws.Outcomes.{clash, same}
-use Rattle.whole.specs.Whole.{by-test, both, both-of, order, sum, dif}
+use Rattle.whole.specs.laws.Whole.{by-test, both, both-of, order, sum, dif, neither}
 use Rattle.whole.specs.Fits.{fits}
 use Rattle.numbering.specs.Numbers.{nOfPlace, placeOfN, nOfC}
 use Rattle.numbering.specs.laws.RoundTrips.{place-back}
@@ -42,11 +42,6 @@ either P false a b h k = k
 either-way : {A B : Type 0} (f : A → B) (forward : Bool) (a b : A) → cond forward (f a) (f b) ≡ f (cond forward a b)
 either-way f true a b = refl
 either-way f false a b = refl
-
--- of two tests neither of which is passed
-neither : (a b : Bool) → (a || b) ≡ false → (a ≡ false) × (b ≡ false)
-neither true b e = absurd (true≢false e)
-neither false b e = (refl, e)
 
 -- the turned place of a spot is not past the end
 turned-high : (forward : Bool) (len : ℕ) (z : ℤ) → Near len z → leZ (turned forward len z) (pos len) ≡ true

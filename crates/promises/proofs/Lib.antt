@@ -1,7 +1,7 @@
 -- The promises' proofs, from the bottom up. The promises are `demand-2` and `demand-3` of Promises and `table-of-places` of Table; specs/ says what they state.
---     Turns, Fits, Bounds, Sound    the turn of strand -1; 17; a spot lies in -1 to the length; what the proofs ask of a transcript
+--     Turns, Fits, Bounds, InRange    the turn of strand -1; 17; a spot lies in -1 to the length; what the proofs ask of a transcript
 --     Columns, Edges                matched columns, and the one next to an intron
---     Naming, Demand2               demand 2 of a sound transcript
+--     Naming, Demand2               demand 2 of a transcript in range
 --     Shifts, Lengthening           what stays when bases are added upstream, over elements
 --     Records, Demand3              demand 3 over records whose CIGARs were read
 --     Rooms, Built                  what is known of an input that builds
@@ -12,7 +12,7 @@
 pub mod Turns
 pub mod Fits
 pub mod Bounds
-pub mod Sound
+pub mod InRange
 pub mod Columns
 pub mod Edges
 pub mod Naming

@@ -7,7 +7,7 @@ use lib.IntN.{ℤ, pos, negℤ, _+ℤ_, _-ℤ_}
 use lib.Signed.{ltZ, _≤ℤ_}
 use lib.Dec.{leb, ltb}
 use borrow.Author.Tests.{lt-leb, le-leb, le-ltb, ltb-true, ltb-false}
-use Rattle.whole.specs.Whole.{by-test, order, sum, dif, neg, up, dn}
+use Rattle.whole.specs.laws.Whole.{by-test, order, sum, dif, neg, up, dn}
 use Rattle.whole.specs.Fits.{fits}
 use Rattle.numbering.specs.Numbers.{nOfPlace, placeOfN, plainC, starC, cOfN}
 use Rattle.numbering.specs.laws.RoundTrips.{place-back, above-back}
@@ -24,7 +24,7 @@ use Rattle.places.specs.Mapping.{turned, signed, nOfSpot, gOfSpot, wholeN, gToN
 use Rattle.mapper.specs.Chains.{gToC, cToG}
 use Rattle.promises.specs.Bases.{Name, nName, cNumber}
 use Rattle.promises.specs.Demands.{ours, gNumber, gAsked, gAt, nAt, cAt, Named}
-use Rattle.promises.proofs.Sound.{Sound}
+use Rattle.promises.proofs.InRange.{InRange}
 use Rattle.promises.proofs.Fits.{Within, within-fits, signed-within, c-within}
 use Rattle.promises.proofs.Turns.{turn-turn, sign-sign, across, turned-within, across-within, inside-within, n-of-place, place-of-base, same-either}
 
@@ -68,7 +68,7 @@ pub record Reaches (t : Transcript) (p q a : ℕ) (o : ℤ) : Type 0 where
   pub q-in : q < transcriptLength t
   pub o-in : Within (genomeLength t) o
 
-module _ (t : Transcript) (sound : Sound t) (p q a : ℕ) (o : ℤ) (r : Reaches t p q a o) where
+module _ (t : Transcript) (in-range : InRange t) (p q a : ℕ) (o : ℤ) (r : Reaches t p q a o) where
   -- the transcript bases upstream of the exon base
   abbrev m : ℕ
   m = across (t .forward) (transcriptLength t) q
@@ -80,13 +80,13 @@ module _ (t : Transcript) (sound : Sound t) (p q a : ℕ) (o : ℤ) (r : Reaches
   m-in = across-within (t .forward) (transcriptLength t) q (r .q-in)
 
   number-fits : fits (pos (m + 1)) ≡ true
-  number-fits = fits-by (pos (m + 1)) (omega (arith, m-in, sound .transcript-small)) (omega arith)
+  number-fits = fits-by (pos (m + 1)) (omega (arith, m-in, in-range .transcript-small)) (omega arith)
 
   offset-fits : fits (x .offset) ≡ true
-  offset-fits = within-fits (genomeLength t) (x .offset) (omega (arith, sound .genome-small)) (signed-within (t .forward) (genomeLength t) o (r .o-in))
+  offset-fits = within-fits (genomeLength t) (x .offset) (omega (arith, in-range .genome-small)) (signed-within (t .forward) (genomeLength t) o (r .o-in))
 
   base-fits : fits (gNumber t p) ≡ true
-  base-fits = fits-by (gNumber t p) (omega (arith, r .p-in, sound .genome-small)) (omega arith)
+  base-fits = fits-by (gNumber t p) (omega (arith, r .p-in, in-range .genome-small)) (omega arith)
 
   to-n : gToN true t (gAsked t p) ≡ certainly (nAt x)
   unfolding gToN wholeN nOfSpot
@@ -100,13 +100,13 @@ module _ (t : Transcript) (sound : Sound t) (p q a : ℕ) (o : ℤ) (r : Reaches
 
   module _ (s e : ℕ) (coding : t .coding ≡ cds s e) where
     inside : (s ≤ e) × (e ≤ transcriptLength t)
-    inside = rw coding at (sound .cds-inside)
+    inside = rw coding at (in-range .cds-inside)
 
     counted : cOfN (pos s) (pos e) (pos (m + 1)) ≡ cNumber s e m
     counted = c-counted s e m (inside .0)
 
     c-fits : fits ((cNumber s e m) .0) ≡ true
-    c-fits = rw (← counted) (within-fits (transcriptLength t + 1) _ (omega (arith, sound .transcript-small)) (c-within s e (m + 1) (transcriptLength t) (inside .0) (inside .1) (omega arith) (omega (arith, m-in))))
+    c-fits = rw (← counted) (within-fits (transcriptLength t + 1) _ (omega (arith, in-range .transcript-small)) (c-within s e (m + 1) (transcriptLength t) (inside .0) (inside .1) (omega arith) (omega (arith, m-in))))
 
     -- neither 15 nor 16 refuses the number
     low : leb (m + 1) 0 ≡ false

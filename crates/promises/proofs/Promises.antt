@@ -9,7 +9,8 @@ use lib.IntN.{ℤ, pos, negsuc, natAbs, _+ℤ_}
 use lib.ListN.{length}
 use Rattle.refusals.specs.Outcome.{answered, through}
 use Rattle.refusals.specs.laws.Outcomes.{clash}
-use Rattle.whole.specs.Whole.{eqZ, by-test, order}
+use Rattle.whole.specs.Whole.{eqZ}
+use Rattle.whole.specs.laws.Whole.{by-test, order}
 use Rattle.cigar.specs.Text.{elementsIn}
 use Rattle.cigar.specs.Read.{readText}
 use Rattle.records.specs.Records.{Record, exactly}
@@ -23,7 +24,7 @@ use Rattle.transcript.specs.declared.Numbers.{Numbers}
 use Rattle.transcript.specs.declared.Bound.{Bound}
 use Rattle.transcript.specs.declared.Bound.the-variants.{Given, Absent}
 use Rattle.promises.specs.Demands.{Mapper, ours, madeOf, Builds, AllSpan, basesOf, addedUpstream, movedUp, Kept, kept, Lengthens, Keeps, Demand-2, Demand-2-built, Demand-3}
-use Rattle.promises.proofs.Sound.{Sound, held-sound}
+use Rattle.promises.proofs.InRange.{InRange, held-in-range}
 use Rattle.promises.proofs.Records.{Spans, exonBases}
 use Rattle.promises.proofs.Built.{exonIn, From, built-from}
 use Rattle.promises.proofs.Demand2.{bases-named}
@@ -41,7 +42,7 @@ host-builds n bytes made =
     (λ u. rw (t, u) (λ h. absurd (clash h))))
 
 pub demand-2 : Demand-2 ours
-demand-2 x t held stands = bases-named t (held-sound x t held stands)
+demand-2 x t held stands = bases-named t (held-in-range x t held stands)
 
 -- what builds can be lent, and holds together
 pub built-too : (m : Mapper) → Demand-2 m → Demand-2-built m
@@ -80,10 +81,10 @@ added-is false left right = omega (arith, bases-are right)
 
 -- over records, of which there is one at least
 some-keep : (forward : Bool) (left : List Exon) (rs : List Record) (right : List Exon) (c : Cds) → 0 < length rs
-    → Spans (left ++ (map exonIn rs ++ right)) → InOrder 0 (left ++ (map exonIn rs ++ right)) → Sound (lengthened forward left (map exonIn rs) right c)
+    → Spans (left ++ (map exonIn rs ++ right)) → InOrder 0 (left ++ (map exonIn rs ++ right)) → InRange (lengthened forward left (map exonIn rs) right c)
     → Keeps ours (build forward (map exonIn rs) c) (lengthened forward left (map exonIn rs) right c)
-some-keep forward left [] right c some spans order sound = absurd (omega arith)
-some-keep forward left (r ∷ rs) right c some spans order sound = lengthened-keeps forward left (exonIn r) (map exonIn rs) right spans order c sound
+some-keep forward left [] right c some spans order in-range = absurd (omega arith)
+some-keep forward left (r ∷ rs) right c some spans order in-range = lengthened-keeps forward left (exonIn r) (map exonIn rs) right spans order c in-range
 
 module _ (x y : Input) (t u : Transcript) (from-x : From x t) (from-y : From y u) (l : Lengthens x y) where
   abbrev forward : Bool
@@ -119,7 +120,7 @@ module _ (x y : Input) (t u : Transcript) (from-x : From x t) (from-y : From y u
       (some-keep forward left (x .records) right (cdsOf (x .start) (x .end)) (from-x .some)
       (subst Spans exons-are (from-y .spans spans))
       (subst (InOrder 0) exons-are (from-y .in-order))
-      (subst Sound longer-is (held-sound (from-y .lent) u (from-y .held) (from-y .stands))))
+      (subst InRange longer-is (held-in-range (from-y .lent) u (from-y .held) (from-y .stands))))
 
 pub demand-3 : Demand-3 ours
 demand-3 x y t u builds-x builds-y l spans = kept-all x y t u (built-from x t builds-x) (built-from y u builds-y) l spans

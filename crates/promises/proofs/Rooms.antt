@@ -8,7 +8,7 @@ use lib.Dec.{ltb, eqb}
 use borrow.Author.Tests.{eqb-false, ne-eqb}
 use Rattle.refusals.specs.Numbers.{mostCount}
 use Rattle.refusals.specs.Outcome.{answered, refused, Answered}
-use Rattle.whole.specs.Whole.{by-test}
+use Rattle.whole.specs.laws.Whole.{by-test}
 use Rattle.cigar.specs.Elements.{Element, isLetter}
 use Rattle.cigar.specs.Text.{Reading, isDigit, countOf, element, before, taken, readFrom}
 

@@ -4,7 +4,8 @@ use mathlib.Core.Bool.{Bool, true, false, cond}
 use mathlib.Core.Path.{_≡_, refl, sym, _∙_}
 use lib.IntN.{ℤ, pos, _+ℤ_, _-ℤ_}
 use lib.Signed.{leZ, ltZ}
-use Rattle.whole.specs.Whole.{if_then_else_, by-test, order, sum, dif}
+use Rattle.whole.specs.Whole.{if_then_else_}
+use Rattle.whole.specs.laws.Whole.{by-test, order, sum, dif}
 use Rattle.numbering.specs.Numbers.{nOfPlace, plainC, starC, cOfN, nOfC, skipZero}
 use Rattle.numbering.specs.declared.CNumber.{CNumber}
 use Rattle.places.specs.Mapping.{turned}

@@ -6,7 +6,7 @@ use mathlib.Core.Path.{_≡_, refl}
 use lib.Dec.{leb·zero}
 use lib.IntN.{ℤ, pos, negℤ-negℤ, _-ℤ_}
 use borrow.Author.Tests.{le-leb}
-use Rattle.whole.specs.Whole.{order, dif}
+use Rattle.whole.specs.laws.Whole.{order, dif}
 use Rattle.numbering.specs.Numbers.{nOfPlace}
 use Rattle.places.specs.Mapping.{inside, turned, signed, placeOfG}
 

@@ -6,7 +6,7 @@ use lib.Dec.{ltb}
 use lib.IntN.{pos, natAbs}
 use lib.Signed.{ltZ}
 use Rattle.fields.specs.Fields.{signed32}
-use Rattle.whole.specs.Whole.{by-test}
+use Rattle.whole.specs.laws.Whole.{by-test}
 
 pub bits-whole : (n : ℕ) → ltZ (signed32 n) (pos 0) ≡ false → n ≡ natAbs (signed32 n)
 bits-whole n h = by-test (ltb n 2147483648) (λ e. rw e) (λ e. absurd (true≢false (rw e at h)))

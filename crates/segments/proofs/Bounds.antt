@@ -5,7 +5,8 @@ use mathlib.Core.Path.{_≡_}
 use lib.IntN.{ℤ, pos, negℤ, _+ℤ_, _-ℤ_}
 use mir.Syntax.{w32, w64}
 use mir.Val.{Fits, SFits}
-use Rattle.whole.specs.Whole.{Within, order, dif, neg, mag-sum, mag-dif}
+use Rattle.whole.specs.Whole.{Within}
+use Rattle.whole.specs.laws.Whole.{order, dif, neg, mag-sum, mag-dif}
 
 -- the machine's change of sign is the definition's
 pub negated : (z : ℤ) → pos 0 -ℤ z ≡ negℤ z

@@ -1,3 +1,7 @@
--- What is shown beside the laws of Whole.
---     Machine    tests of signed numbers, as the machine makes them
+-- What is shown of whole numbers.
+--     Whole      signed numbers in proofs: `omega (order, ..)` and `search whole`
+--     Fits       what `fitOf` gives back
+--     Machine    tests and casts, as the machine makes them
+pub mod Whole
+pub mod Fits
 pub mod Machine

@@ -3,11 +3,8 @@ use borrow.Author.Needs.{needs}
 use Rattle.building.proofs.build.Statement.{statement}
 use Rattle.building.proofs.build.Tie as tie
 
-build-into-requires : tie.Need-build-into-requires
-build-into-requires c κs = search needs
-
 returns : tie.Need-returns
 returns c = c .build-into .ensures
 
 pub build-spec : {M : Type 1} → statement M
-build-spec = tie.close (tie.spec build-into-requires returns)
+build-spec = tie.close (tie.spec (λ c κs. search needs) returns)

@@ -18,12 +18,6 @@ use borrow.Author.Needs.{needs}
 use Rattle.building.proofs.build_into.Statement.{statement}
 use Rattle.building.proofs.build_into.Tie as tie
 
-judge-requires : tie.Need-judge-requires
-judge-requires c κs = search needs
-
-enum-known-to : tie.Need-enum-known-to
-enum-known-to c = search needs
-
 one : SFits w32 (pos 1)
 one = omega arith
 
@@ -56,18 +50,6 @@ head-of-requires c κs =
     let p = pass k in
     (is-ready (n k) (bytes k) (to k) p .stands .numbers, is-small (n k) (bytes k) (to k) p .few, known (n k) (bytes k) (to k) p)
 
-enum-known-k : tie.Need-enum-known-k
-enum-known-k c = search needs
-
-same-length : tie.Need-same-length
-same-length c = search needs
-
-same-length-2 : tie.Need-same-length-2
-same-length-2 c = search needs
-
-same-length-3 : tie.Need-same-length-3
-same-length-3 c = search needs
-
 returns : tie.Need-returns
 returns c =
     let at-strand = c .before .before .before .before .before .before .before .before .before .before .before in
@@ -87,13 +69,13 @@ pub build-into-spec : {M : Type 1} → statement M
 build-into-spec =
     tie.close
     (tie.spec
-    judge-requires
-    enum-known-to
+    (λ c κs. search needs)
+    (λ c. search needs)
     write-tables-requires
     head-of-requires
-    enum-known-k
-    same-length
-    same-length-2
-    same-length-3
+    (λ c. search needs)
+    (λ c. search needs)
+    (λ c. search needs)
+    (λ c. search needs)
     returns
     returns-2)

@@ -2,19 +2,10 @@
 use native.Mathlib.Omega.{arith}
 use mir.Syntax.{w32}
 use mir.ValLaws.{toZ-pos}
-use Rattle.whole.specs.Whole.{told}
+use Rattle.whole.specs.laws.Whole.{told}
 use borrow.Author.Needs.{needs}
 use Rattle.building.proofs.head_of.Statement.{statement}
 use Rattle.building.proofs.head_of.Tie as tie
-
-i32-at-requires : tie.Need-i32-at-requires
-i32-at-requires c κs = search needs
-
-cast-count : tie.Need-cast-count
-cast-count c = search needs
-
-with-cds-requires : tie.Need-with-cds-requires
-with-cds-requires c κs = search needs
 
 returns : tie.Need-returns
 returns c =
@@ -31,4 +22,4 @@ returns c =
     ) at (c .with-cds .ensures)
 
 pub head-of-spec : {M : Type 1} → statement M
-head-of-spec = tie.close (tie.spec i32-at-requires cast-count with-cds-requires returns)
+head-of-spec = tie.close (tie.spec (λ c κs. search needs) (λ c. search needs) (λ c κs. search needs) returns)

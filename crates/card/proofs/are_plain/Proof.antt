@@ -5,24 +5,13 @@ use mathlib.Core.Bool.{Bool}
 use lib.IntN.{ℤ}
 use mir.Syntax.{w32, w64}
 use mir.Val.{SFits, toZ, ofZ}
-use Rattle.whole.specs.Whole.{whole, eqZ, read, widened}
+use Rattle.whole.specs.Whole.{eqZ}
+use Rattle.whole.specs.laws.Whole.{whole, read, widened}
 use Rattle.transcript.specs.Heads.{startOf, endOf, numberOf}
 use Rattle.card.specs.Card.{arePlain}
 use borrow.Author.Needs.{needs}
 use Rattle.card.proofs.are_plain.Statement.{statement}
 use Rattle.card.proofs.are_plain.Tie as tie
-
-start-of-requires : tie.Need-start-of-requires
-start-of-requires c κs = search needs
-
-number-of-requires : tie.Need-number-of-requires
-number-of-requires c κs = search needs
-
-end-of-requires : tie.Need-end-of-requires
-end-of-requires c κs = search needs
-
-number-of-requires-2 : tie.Need-number-of-requires-2
-number-of-requires-2 c κs = search needs
 
 cast-is-same : tie.Need-cast-is-same
 cast-is-same c = search whole
@@ -30,17 +19,11 @@ cast-is-same c = search whole
 cast-is-same-2 : tie.Need-cast-is-same-2
 cast-is-same-2 c = search whole
 
-is-same-requires : tie.Need-is-same-requires
-is-same-requires c κs = search needs
-
 cast-is-same-3 : tie.Need-cast-is-same-3
 cast-is-same-3 c = search whole
 
 cast-is-same-4 : tie.Need-cast-is-same-4
 cast-is-same-4 c = search whole
-
-is-same-requires-2 : tie.Need-is-same-requires-2
-is-same-requires-2 c κs = search needs
 
 -- a test of two numbers that were widened
 narrow-test : {t : Bool} {n m z : ℤ} → SFits w32 n → SFits w32 z → t ≡ eqZ (toZ w64 (ofZ w64 (toZ w32 (ofZ w32 n)))) (toZ w64 (ofZ w64 (toZ w32 (ofZ w32 z)))) → n ≡ m
@@ -77,15 +60,15 @@ pub are-plain-spec : {M : Type 1} → statement M
 are-plain-spec =
     tie.close
     (tie.spec
-    start-of-requires
-    number-of-requires
-    end-of-requires
-    number-of-requires-2
+    (λ c κs. search needs)
+    (λ c κs. search needs)
+    (λ c κs. search needs)
+    (λ c κs. search needs)
     cast-is-same
     cast-is-same-2
-    is-same-requires
+    (λ c κs. search needs)
     cast-is-same-3
     cast-is-same-4
-    is-same-requires-2
+    (λ c κs. search needs)
     returns
     returns-2)

@@ -19,12 +19,6 @@ use borrow.Author.Needs.{needs}
 use Rattle.card.proofs.build_card.Statement.{statement}
 use Rattle.card.proofs.build_card.Tie as tie
 
-read-card-requires : tie.Need-read-card-requires
-read-card-requires c κs = search needs
-
-enum-known-n : tie.Need-enum-known-n
-enum-known-n c = search needs
-
 -- the numbers that were read
 module _ (c : tie.After-known-told) where
   abbrev bytes : List ℕ
@@ -51,15 +45,6 @@ sub-build c = long c
 part-build-start : tie.Need-part-build-start
 part-build-start c = long c
 
-part-build-end : tie.Need-part-build-end
-part-build-end c = search needs
-
-build-requires : tie.Need-build-requires
-build-requires c κs = search needs
-
-enum-known-k : tie.Need-enum-known-k
-enum-known-k c = search needs
-
 returns : tie.Need-returns
 returns c =
     let k = c .before .before .before .before .before in
@@ -80,12 +65,12 @@ pub build-card-spec : {M : Type 1} → statement M
 build-card-spec =
     tie.close
     (tie.spec
-    read-card-requires
-    enum-known-n
+    (λ c κs. search needs)
+    (λ c. search needs)
     sub-build
     part-build-start
-    part-build-end
-    build-requires
-    enum-known-k
+    (λ c. search needs)
+    (λ c κs. search needs)
+    (λ c. search needs)
     returns
     returns-2)

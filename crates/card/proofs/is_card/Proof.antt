@@ -9,7 +9,7 @@ use lib.Seq.{take-all}
 use native.Mathlib.Omega.{arith}
 use mir.Syntax.{w32}
 use borrow.Author.Tests.{le-leb, lt-leb}
-use Rattle.whole.specs.Whole.{told}
+use Rattle.whole.specs.laws.Whole.{told}
 use Rattle.records.specs.Records.{exactly}
 use Rattle.transcript.specs.Heads.{bothBits}
 use Rattle.card.specs.Layout.{recordsAt}
@@ -24,35 +24,14 @@ returns : tie.Need-returns
 unfolding isCard
 returns c = rw (lt-leb _ _ (c .if1 .taken))
 
-shared-slice-read-if2 : tie.Need-shared-slice-read-if2
-shared-slice-read-if2 c = search needs
-
 returns-2 : tie.Need-returns-2
 unfolding isCard
 returns-2 c = rw (le-leb _ _ (c .before .before .if1 .left), lt-leb _ _ (c .if2 .taken))
-
-read-numbers-requires : tie.Need-read-numbers-requires
-read-numbers-requires c κs = search needs
 
 returns-3 : tie.Need-returns-3
 returns-3 c =
     let s = c .before .before .before .before .before .before .before in
     rw (card-is (s .args .card .now) (c .before .before .read-numbers .ensures) (c .before .before .before .before .before .if1 .left) (c .before .before .before .if2 .left), lt-leb _ _ (c .if3 .taken))
-
-are-plain-requires : tie.Need-are-plain-requires
-are-plain-requires c κs = search needs
-
-sub-are-records : tie.Need-sub-are-records
-sub-are-records c = search needs
-
-part-are-records-start : tie.Need-part-are-records-start
-part-are-records-start c = search needs
-
-part-are-records-end : tie.Need-part-are-records-end
-part-are-records-end c = search needs
-
-are-records-requires : tie.Need-are-records-requires
-are-records-requires c κs = search needs
 
 -- what is left of the tests once the numbers are read
 module _ (c : tie.After-are-plain) where
@@ -92,14 +71,14 @@ is-card-spec =
     tie.close
     (tie.spec
     returns
-    shared-slice-read-if2
+    (λ c. search needs)
     returns-2
-    read-numbers-requires
+    (λ c κs. search needs)
     returns-3
-    are-plain-requires
-    sub-are-records
-    part-are-records-start
-    part-are-records-end
-    are-records-requires
+    (λ c κs. search needs)
+    (λ c. search needs)
+    (λ c. search needs)
+    (λ c. search needs)
+    (λ c κs. search needs)
     returns-4
     returns-5)

@@ -11,18 +11,6 @@ use borrow.Author.Needs.{needs}
 use Rattle.card.proofs.put_front.Statement.{statement}
 use Rattle.card.proofs.put_front.Tie as tie
 
-put-mark-requires : tie.Need-put-mark-requires
-put-mark-requires c κs = search needs
-
-put-u16-requires : tie.Need-put-u16-requires
-put-u16-requires c κs = search needs
-
-slice-write-buffer : tie.Need-slice-write-buffer
-slice-write-buffer c = search needs
-
-slice-write-buffer-2 : tie.Need-slice-write-buffer-2
-slice-write-buffer-2 c = search needs
-
 module _ (c : tie.After-slice-known3) where
   abbrev start : tie.Start
   start = c .before .before .before .before .before .before .before .before .before
@@ -44,9 +32,9 @@ pub put-front-spec : {M : Type 1} → statement M
 put-front-spec =
     tie.close
     (tie.spec
-    put-mark-requires
-    put-u16-requires
-    slice-write-buffer
-    slice-write-buffer-2
+    (λ c κs. search needs)
+    (λ c κs. search needs)
+    (λ c. search needs)
+    (λ c. search needs)
     same-length
     returns)

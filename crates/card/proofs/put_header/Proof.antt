@@ -6,7 +6,7 @@ use Prim.Native.Nat.{ℕ}
 use lib.IntN.{ℤ}
 use lib.Seq.{sets}
 use mir.Syntax.{w32}
-use Rattle.whole.specs.Whole.{whole, told, widened}
+use Rattle.whole.specs.laws.Whole.{whole, told, widened}
 use Rattle.fields.specs.Fields.{bytes16, bytes32, bits32}
 use Rattle.transcript.specs.Heads.{numberOf}
 use Rattle.card.specs.Layout.{mark, version, startAt, endAt, countAt}
@@ -17,33 +17,6 @@ use Rattle.card.proofs.put_header.Tie as tie
 
 cast-strand-byte : tie.Need-cast-strand-byte
 cast-strand-byte c = search whole
-
-strand-byte-requires : tie.Need-strand-byte-requires
-strand-byte-requires c κs = search needs
-
-cds-byte-requires : tie.Need-cds-byte-requires
-cds-byte-requires c κs = search needs
-
-put-front-requires : tie.Need-put-front-requires
-put-front-requires c κs = search needs
-
-number-of-requires : tie.Need-number-of-requires
-number-of-requires c κs = search needs
-
-put-i32-requires : tie.Need-put-i32-requires
-put-i32-requires c κs = search needs
-
-number-of-requires-2 : tie.Need-number-of-requires-2
-number-of-requires-2 c κs = search needs
-
-put-i32-requires-2 : tie.Need-put-i32-requires-2
-put-i32-requires-2 c κs = search needs
-
-put-u16-requires : tie.Need-put-u16-requires
-put-u16-requires c κs = search needs
-
-same-length : tie.Need-same-length
-same-length c = search needs
 
 module _ (c : tie.After-slice-known5) where
   -- the places after the end, the start, the front and its two bytes were put, and the function's entry
@@ -97,13 +70,13 @@ put-header-spec =
     tie.close
     (tie.spec
     cast-strand-byte
-    strand-byte-requires
-    cds-byte-requires
-    put-front-requires
-    number-of-requires
-    put-i32-requires
-    number-of-requires-2
-    put-i32-requires-2
-    put-u16-requires
-    same-length
+    (λ c κs. search needs)
+    (λ c κs. search needs)
+    (λ c κs. search needs)
+    (λ c κs. search needs)
+    (λ c κs. search needs)
+    (λ c κs. search needs)
+    (λ c κs. search needs)
+    (λ c κs. search needs)
+    (λ c. search needs)
     returns)

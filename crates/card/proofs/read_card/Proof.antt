@@ -18,9 +18,6 @@ returns : tie.Need-returns
 unfolding readCard
 returns c = rw (lt-ltb _ _ (c .if1 .taken))
 
-is-marked-requires : tie.Need-is-marked-requires
-is-marked-requires c κs = search needs
-
 -- what each test has shown
 abbrev bytes : tie.After-is-marked → List ℕ
 bytes c = c .before .before .before .args .card .now
@@ -36,9 +33,6 @@ whole c = sym (c .before .is-card .ensures) ∙ c .if4 .taken
 
 u16-at-requires : tie.Need-u16-at-requires
 u16-at-requires c κs = marked-long (bytes (c .before)) (marked c)
-
-is-card-requires : tie.Need-is-card-requires
-is-card-requires c κs = search needs
 
 read-numbers-requires : tie.Need-read-numbers-requires
 read-numbers-requires c κs = card-long (bytes (c .before .before .before .before .before)) (whole c)
@@ -71,9 +65,9 @@ read-card-spec =
     tie.close
     (tie.spec
     returns
-    is-marked-requires
+    (λ c κs. search needs)
     u16-at-requires
-    is-card-requires
+    (λ c κs. search needs)
     read-numbers-requires
     returns-2
     returns-3

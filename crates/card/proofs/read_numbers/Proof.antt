@@ -5,35 +5,14 @@ use native.Mathlib.Omega.{arith}
 use lib.IntN.{ℤ}
 use borrow.Author.Needs.{needs}
 use mir.Syntax.{w32}
-use Rattle.whole.specs.Whole.{told}
+use Rattle.whole.specs.laws.Whole.{told}
 use Rattle.card.specs.Card.{numbersIn}
 use Rattle.transcript.specs.declared.Numbers.{Numbers}
 use Rattle.card.proofs.read_numbers.Statement.{statement}
 use Rattle.card.proofs.read_numbers.Tie as tie
 
-shared-slice-read-strand-of : tie.Need-shared-slice-read-strand-of
-shared-slice-read-strand-of c = search needs
-
-strand-of-requires : tie.Need-strand-of-requires
-strand-of-requires c κs = search needs
-
-shared-slice-read-cds : tie.Need-shared-slice-read-cds
-shared-slice-read-cds c = search needs
-
 cast-cds : tie.Need-cast-cds
 cast-cds c = omega (arith, c .shared-slice-known3 .given 6)
-
-i32-at-requires : tie.Need-i32-at-requires
-i32-at-requires c κs = search needs
-
-i32-at-requires-2 : tie.Need-i32-at-requires-2
-i32-at-requires-2 c κs = search needs
-
-u16-at-requires : tie.Need-u16-at-requires
-u16-at-requires c κs = search needs
-
-cast-count : tie.Need-cast-count
-cast-count c = search needs
 
 same-numbers : {s t a b x y : ℤ} {d m n : ℕ} → s ≡ t → a ≡ b → x ≡ y → m ≡ n
     → _≡_ {A = Numbers} (record { strand = s; cds = d; start = a; end = x; count = m }) (record { strand = t; cds = d; start = b; end = y; count = n })
@@ -55,12 +34,12 @@ pub read-numbers-spec : {M : Type 1} → statement M
 read-numbers-spec =
     tie.close
     (tie.spec
-    shared-slice-read-strand-of
-    strand-of-requires
-    shared-slice-read-cds
+    (λ c. search needs)
+    (λ c κs. search needs)
+    (λ c. search needs)
     cast-cds
-    i32-at-requires
-    i32-at-requires-2
-    u16-at-requires
-    cast-count
+    (λ c κs. search needs)
+    (λ c κs. search needs)
+    (λ c κs. search needs)
+    (λ c. search needs)
     returns)

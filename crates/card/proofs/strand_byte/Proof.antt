@@ -1,6 +1,6 @@
 -- `card::strand_byte` meets its contract: `==` compares the bits, and its branch tells of the numbers.
 -- Assumes nothing.
-use Rattle.whole.specs.Whole.{whole}
+use Rattle.whole.specs.laws.Whole.{whole}
 use Rattle.card.proofs.strand_byte.Statement.{statement}
 use Rattle.card.proofs.strand_byte.Tie as tie
 

@@ -13,12 +13,6 @@ use borrow.Author.Needs.{needs}
 use Rattle.card.proofs.write_card.Statement.{statement}
 use Rattle.card.proofs.write_card.Tie as tie
 
-judge-requires : tie.Need-judge-requires
-judge-requires c κs = search needs
-
-enum-told : tie.Need-enum-told
-enum-told c = search needs
-
 -- what was judged
 module _ (e : tie.Start) where
   abbrev judgment : Outcome Made
@@ -40,12 +34,6 @@ write-taken-requires c κs =
     let t = taken (c .before) in
     let a = entry (c .before .before .before) .args in
     (taken-few (a .numbers) (a .records .now) (t .1), taken-records (a .numbers) (a .records .now) (t .1))
-
-enum-known-k : tie.Need-enum-known-k
-enum-known-k c = search needs
-
-same-length : tie.Need-same-length
-same-length c = search needs
 
 -- what the definition says once the judgment is known
 writing-is : (e : tie.Start) (j : Outcome Made) → judgment e ≡ j
@@ -73,10 +61,10 @@ pub write-card-spec : {M : Type 1} → statement M
 write-card-spec =
     tie.close
     (tie.spec
-    judge-requires
-    enum-told
+    (λ c κs. search needs)
+    (λ c. search needs)
     write-taken-requires
-    enum-known-k
-    same-length
+    (λ c. search needs)
+    (λ c. search needs)
     returns
     returns-2)

@@ -9,7 +9,7 @@ use lib.ListN.{length}
 use lib.Seq.{sets}
 use mir.Syntax.{w32}
 use Rattle.refusals.specs.Numbers.{mostCard}
-use Rattle.whole.specs.Whole.{told}
+use Rattle.whole.specs.laws.Whole.{told}
 use Rattle.fields.specs.laws.RoundTrips.{Bytes}
 use Rattle.cigar.specs.laws.Lent.{sets-front}
 use Rattle.cigar.specs.laws.Stores.{sets-append}
@@ -24,9 +24,6 @@ use Rattle.card.specs.laws.Taken.{text-is, text-length}
 use borrow.Author.Needs.{needs}
 use Rattle.card.proofs.write_taken.Statement.{statement}
 use Rattle.card.proofs.write_taken.Tie as tie
-
-add-size : tie.Need-add-size
-add-size c = search needs
 
 -- the card, and its size
 module _ (c : tie.After-shared-slice-known) where
@@ -54,24 +51,6 @@ returns-2 c =
     let small : length (text e) ≤ mostCard = omega (arith, size-is e) in
     let long : length (entry e .args .buffer .now) < length (text e) = omega (arith, size-is e) in
     rw (le-ltb _ _ small, lt-ltb _ _ long) (refl, refl)
-
-start-of-requires : tie.Need-start-of-requires
-start-of-requires c κs = search needs
-
-end-of-requires : tie.Need-end-of-requires
-end-of-requires c κs = search needs
-
-cast-put-header : tie.Need-cast-put-header
-cast-put-header c = search needs
-
-put-header-requires : tie.Need-put-header-requires
-put-header-requires c κs = search needs
-
-put-bytes-requires : tie.Need-put-bytes-requires
-put-bytes-requires c κs = search needs
-
-same-length : tie.Need-same-length
-same-length c = search needs
 
 same-header : (n : ℕ) {z w : ℤ} {a b x y : Bound} → z ≡ w → a ≡ b → x ≡ y → headerText z a x n ≡ headerText w b y n
 same-header n e f g = rw (e, f, g)
@@ -125,13 +104,13 @@ pub write-taken-spec : {M : Type 1} → statement M
 write-taken-spec =
     tie.close
     (tie.spec
-    add-size
+    (λ c. search needs)
     returns
     returns-2
-    start-of-requires
-    end-of-requires
-    cast-put-header
-    put-header-requires
-    put-bytes-requires
-    same-length
+    (λ c κs. search needs)
+    (λ c κs. search needs)
+    (λ c. search needs)
+    (λ c κs. search needs)
+    (λ c κs. search needs)
+    (λ c. search needs)
     returns-3)

@@ -19,7 +19,8 @@ use mir.Syntax.{w32}
 use mir.Val.{SFits}
 use Rattle.refusals.specs.Numbers.{mostCard}
 use Rattle.refusals.specs.Outcome.{answered}
-use Rattle.whole.specs.Whole.{eqZ, by-test, eq-by, eq-yes-by, eq-yes-says, both}
+use Rattle.whole.specs.Whole.{eqZ}
+use Rattle.whole.specs.laws.Whole.{by-test, eq-by, eq-yes-by, eq-yes-says, both}
 use Rattle.fields.specs.Fields.{le16, le32, bytes16, bytes32, bits32}
 use Rattle.fields.specs.laws.RoundTrips.{Bytes, little-bytes, bytes16-le}
 use Rattle.records.specs.Records.{Record, fieldAt, exactly, recordsFrom}

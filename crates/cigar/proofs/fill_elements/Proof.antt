@@ -15,7 +15,7 @@ use Rattle.refusals.specs.Outcome.{Answered}
 use Rattle.cigar.specs.Text.{stepAt, readAll, elementsIn}
 use Rattle.cigar.specs.laws.Steps.{Moves, moves, Takes, takes, none-refused, all-taken}
 use Rattle.cigar.specs.laws.Sound.{step-sound}
-use Rattle.cigar.specs.Read.{countsOf, lettersOf, Tables, Filled}
+use Rattle.cigar.specs.Read.{countsOf, lettersOf, FullLength, Filled}
 use Rattle.cigar.proofs.Filling.{tables-set, fill-one, fill-none}
 use borrow.Author.Needs.{needs}
 use Rattle.cigar.proofs.fill_elements.Statement.{statement}
@@ -23,7 +23,7 @@ use Rattle.cigar.proofs.fill_elements.Tie as tie
 
 abbrev Inv-loop : tie.InvT-loop
 Inv-loop text counts₀ letters₀ at₀ n₀ counts letters at n =
-    (at ≤ length text) × Tables counts letters × Answered (readAll (mostSegments - n) (drop at text))
+    (at ≤ length text) × FullLength counts letters × Answered (readAll (mostSegments - n) (drop at text))
     × Filled counts letters
     (sets counts₀ 0 (countsOf (elementsIn (readAll mostSegments text))))
     (sets letters₀ 0 (lettersOf (elementsIn (readAll mostSegments text))))

@@ -11,21 +11,12 @@ use Rattle.cigar.proofs.read_cigar.Tie as tie
 returns : tie.Need-returns
 returns c = rw (read-large (c .before .before .args .text .now) (c .if1 .taken)) (refl, (refl, refl))
 
-count-elements-requires : tie.Need-count-elements-requires
-count-elements-requires c κs = search needs
-
-enum-known-n : tie.Need-enum-known-n
-enum-known-n c = search needs
-
 fill-elements-requires : tie.Need-fill-elements-requires
 fill-elements-requires c κs =
     let n = c .before .before .before in (
       record { counts-long = omega arith; letters-long = omega arith },
       counted-answered (readAll mostSegments (n .before .before .before .before .before .args .text .now)) (sym (n .before .before .count-elements .ensures) ∙ n .n .given .1),
     )
-
-enum-known-k : tie.Need-enum-known-k
-enum-known-k c = search needs
 
 returns-2 : tie.Need-returns-2
 returns-2 c =
@@ -49,9 +40,9 @@ read-cigar-spec =
     tie.close
     (tie.spec
     returns
-    count-elements-requires
-    enum-known-n
+    (λ c κs. search needs)
+    (λ c. search needs)
     fill-elements-requires
-    enum-known-k
+    (λ c. search needs)
     returns-2
     returns-3)

@@ -16,7 +16,7 @@ use lib.Signed.{ltZ}
 use mir.Syntax.{w32}
 use mir.Val.{SFits}
 use borrow.Author.Tests.{le-ltb, ltb-false}
-use Rattle.whole.specs.Whole.{by-test}
+use Rattle.whole.specs.laws.Whole.{by-test}
 use Rattle.refusals.specs.Numbers.{mostCount, mostSegments, mostText}
 use Rattle.refusals.specs.Outcome.{answered, refused}
 use Rattle.refusals.specs.laws.Outcomes.{clash, same}

@@ -15,7 +15,8 @@ use lib.Dec.{ltb, eqb}
 use lib.ListN.{length, length-append}
 use lib.Seq.{append-snoc}
 use borrow.Author.Tests.{le-ltb, ne-eqb}
-use Rattle.whole.specs.Whole.{if_then_else_, by-test}
+use Rattle.whole.specs.Whole.{if_then_else_}
+use Rattle.whole.specs.laws.Whole.{by-test}
 use Rattle.refusals.specs.Numbers.{mostCount}
 use Rattle.refusals.specs.Outcome.{answered, refused}
 use Rattle.cigar.specs.Elements.{Element, isLetter}

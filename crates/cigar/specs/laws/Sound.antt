@@ -10,7 +10,7 @@ use native.Mathlib.Omega.{arith}
 use lib.Dec.{ltb, eqb}
 use lib.ListN.{length, drop}
 use borrow.Author.Tests.{ltb-false, eqb-false}
-use Rattle.whole.specs.Whole.{by-test}
+use Rattle.whole.specs.laws.Whole.{by-test}
 use Rattle.refusals.specs.Numbers.{mostCount}
 use Rattle.refusals.specs.Outcome.{answered, refused}
 use Rattle.cigar.specs.declared.Step.{Step}

@@ -12,7 +12,8 @@ use lib.Dec.{ltb, eqb}
 use lib.ListN.{length, drop, length-drop}
 use lib.Seq.{drop-drop}
 use borrow.Author.Tests.{eqb-false}
-use Rattle.whole.specs.Whole.{if_then_else_, by-test}
+use Rattle.whole.specs.Whole.{if_then_else_}
+use Rattle.whole.specs.laws.Whole.{by-test}
 use Rattle.refusals.specs.Numbers.{noElement, badCount, tooMuch, mostCount}
 use Rattle.refusals.specs.Outcome.{answered, refused, Answered}
 use Rattle.cigar.specs.declared.Step.{Step}

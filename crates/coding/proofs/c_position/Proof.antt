@@ -1,5 +1,5 @@
 -- `numbering` crosses the number over, and 17 is asked of what it gives. Assumes nothing.
-use Rattle.whole.specs.Whole.{read}
+use Rattle.whole.specs.laws.Whole.{read}
 use Rattle.coding.specs.Coding.{cPosition}
 use Rattle.whole.specs.laws.Machine.{entry}
 use Rattle.coding.proofs.Sizes.{bound-40}
@@ -7,17 +7,8 @@ use borrow.Author.Needs.{needs}
 use Rattle.coding.proofs.c_position.Statement.{statement}
 use Rattle.coding.proofs.c_position.Tie as tie
 
-cast-start : tie.Need-cast-start
-cast-start c = search needs
-
-cast-end : tie.Need-cast-end
-cast-end c = search needs
-
 n-to-c-requires : tie.Need-n-to-c-requires
 n-to-c-requires c κs = simp (entry (c .fits .s), entry (c .fits .e)) (c .pre, (bound-40 (c .fits .s), bound-40 (c .fits .e)))
-
-c-end-requires : tie.Need-c-end-requires
-c-end-requires c κs = search needs
 
 returns : tie.Need-returns
 unfolding cPosition
@@ -27,4 +18,4 @@ returns c =
     simp (is, read (f .offset)) at (c .c-end .ensures)
 
 pub c-position-spec : {M : Type 1} → statement M
-c-position-spec = tie.close (tie.spec cast-start cast-end n-to-c-requires c-end-requires returns)
+c-position-spec = tie.close (tie.spec (λ c. search needs) (λ c. search needs) n-to-c-requires (λ c κs. search needs) returns)

@@ -1,14 +1,11 @@
 -- Each way through is the test that the definition makes, on the numbers that the structs hold. Assumes nothing.
 use mir.Syntax.{w64}
-use Rattle.whole.specs.Whole.{told}
+use Rattle.whole.specs.laws.Whole.{told}
 use Rattle.coding.specs.Coding.{beyond}
 use Rattle.whole.specs.laws.Machine.{entry}
 use borrow.Author.Needs.{needs}
 use Rattle.coding.proofs.is_beyond.Statement.{statement}
 use Rattle.coding.proofs.is_beyond.Tie as tie
-
-cast-end : tie.Need-cast-end
-cast-end c = search needs
 
 returns : tie.Need-returns
 unfolding beyond
@@ -31,4 +28,4 @@ unfolding beyond
 returns-3 c = search needs
 
 pub is-beyond-spec : {M : Type 1} → statement M
-is-beyond-spec = tie.close (tie.spec cast-end returns returns-2 returns-3)
+is-beyond-spec = tie.close (tie.spec (λ c. search needs) returns returns-2 returns-3)

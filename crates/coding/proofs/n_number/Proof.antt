@@ -1,7 +1,7 @@
 -- An `i32` and two `u32` are small enough for the crossing, which gives the definition's number. Assumes nothing.
 use mir.Syntax.{w32}
 use mir.Val.{SFits}
-use Rattle.whole.specs.Whole.{read, widened, fits-wider, i32-40}
+use Rattle.whole.specs.laws.Whole.{read, widened, fits-wider, i32-40}
 use Rattle.whole.specs.laws.Machine.{entry}
 use Rattle.coding.proofs.Sizes.{bound-40}
 use borrow.Author.Needs.{needs, sfits-of}
@@ -14,12 +14,6 @@ base-fits c = sfits-of (c .struct-told .given .0 .1)
 cast-base : tie.Need-cast-base
 cast-base c = simp (read (base-fits c)) (fits-wider (base-fits c))
 
-cast-start : tie.Need-cast-start
-cast-start c = search needs
-
-cast-end : tie.Need-cast-end
-cast-end c = search needs
-
 c-to-n-requires : tie.Need-c-to-n-requires
 c-to-n-requires c κs =
     let f = c .before .before .fits in
@@ -31,4 +25,4 @@ returns c =
     simp (widened (base-fits (c .before)), entry (f .s), entry (f .e)) at (c .c-to-n .ensures)
 
 pub n-number-spec : {M : Type 1} → statement M
-n-number-spec = tie.close (tie.spec cast-base cast-start cast-end c-to-n-requires returns)
+n-number-spec = tie.close (tie.spec cast-base (λ c. search needs) (λ c. search needs) c-to-n-requires returns)

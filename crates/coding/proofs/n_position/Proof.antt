@@ -3,7 +3,7 @@ use mathlib.Core.Path.{_≡_, sym, _∙_}
 use mir.Syntax.{w32}
 use mir.Val.{SFits}
 use lib.IntN.{pos}
-use Rattle.whole.specs.Whole.{read, widened, fits-wider}
+use Rattle.whole.specs.laws.Whole.{read, widened, fits-wider}
 use Rattle.numbering.specs.Numbers.{nOfC}
 use Rattle.coding.specs.Coding.{nPosition, refuses16}
 use Rattle.positions.specs.Paper.{paperCAsked}
@@ -20,21 +20,12 @@ test-is c = sym (rw (c .before .n-number .ensures) at (c .is-beyond .ensures))
 offset-fits : (c : tie.After-struct-told) → SFits w32 (c .before .before .before .before .before .args .c .offset)
 offset-fits c = sfits-of (c .struct-told .given .1 .1 .0 .1)
 
-n-number-requires : tie.Need-n-number-requires
-n-number-requires c κs = search needs
-
-is-beyond-requires : tie.Need-is-beyond-requires
-is-beyond-requires c κs = search needs
-
 returns : tie.Need-returns
 unfolding nPosition
 returns c = simp (test-is (c .before) ∙ c .if1 .taken)
 
 cast-offset : tie.Need-cast-offset
 cast-offset c = simp (read (offset-fits c)) (fits-wider (offset-fits c))
-
-n-end-requires : tie.Need-n-end-requires
-n-end-requires c κs = search needs
 
 returns-2 : tie.Need-returns-2
 unfolding nPosition
@@ -45,4 +36,4 @@ returns-2 c =
 pub n-position-spec : {M : Type 1} → statement M
 n-position-spec =
     tie.close
-    (tie.spec n-number-requires is-beyond-requires returns cast-offset n-end-requires returns-2)
+    (tie.spec (λ c κs. search needs) (λ c κs. search needs) returns cast-offset (λ c κs. search needs) returns-2)

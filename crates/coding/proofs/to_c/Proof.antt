@@ -1,7 +1,7 @@
 -- 15's test is made on the numbers of the question; then 17 of an interval is 17 of its ends. Assumes nothing.
 use mathlib.Core.Path.{_≡_, sym, _∙_}
 use mir.Syntax.{w32}
-use Rattle.whole.specs.Whole.{told}
+use Rattle.whole.specs.laws.Whole.{told}
 use Rattle.positions.specs.Answers.{unmarked, cFits}
 use Rattle.coding.specs.Coding.{nToC, cOfInterval, refuses15}
 use Rattle.positions.specs.Paper.{paperNQuestion}
@@ -26,27 +26,9 @@ test-is : (c : tie.After-is-beyond) →
     refuses15 (a .strict) (a .len) (paperNQuestion (a .q)) ≡ c .is-beyond .result
 test-is c = sym (simp (from-is (c .before .before .before), to-is (c .before)) at (c .is-beyond .ensures))
 
-whole-n-requires : tie.Need-whole-n-requires
-whole-n-requires c κs = search needs
-
-whole-n-requires-2 : tie.Need-whole-n-requires-2
-whole-n-requires-2 c κs = search needs
-
-is-beyond-requires : tie.Need-is-beyond-requires
-is-beyond-requires c κs = search needs
-
 returns : tie.Need-returns
 unfolding nToC cOfInterval
 returns c = simp (test-is (c .before) ∙ c .if1 .taken)
-
-c-position-requires : tie.Need-c-position-requires
-c-position-requires c κs = search needs
-
-c-position-requires-2 : tie.Need-c-position-requires-2
-c-position-requires-2 c κs = search needs
-
-c-both-requires : tie.Need-c-both-requires
-c-both-requires c κs = search needs
 
 returns-2 : tie.Need-returns-2
 unfolding nToC cOfInterval
@@ -63,11 +45,11 @@ pub to-c-spec : {M : Type 1} → statement M
 to-c-spec =
     tie.close
     (tie.spec
-    whole-n-requires
-    whole-n-requires-2
-    is-beyond-requires
+    (λ c κs. search needs)
+    (λ c κs. search needs)
+    (λ c κs. search needs)
     returns
-    c-position-requires
-    c-position-requires-2
-    c-both-requires
+    (λ c κs. search needs)
+    (λ c κs. search needs)
+    (λ c κs. search needs)
     returns-2)

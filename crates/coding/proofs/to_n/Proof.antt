@@ -4,18 +4,9 @@ use borrow.Author.Needs.{needs}
 use Rattle.coding.proofs.to_n.Statement.{statement}
 use Rattle.coding.proofs.to_n.Tie as tie
 
-n-position-requires : tie.Need-n-position-requires
-n-position-requires c κs = search needs
-
-n-position-requires-2 : tie.Need-n-position-requires-2
-n-position-requires-2 c κs = search needs
-
-n-both-requires : tie.Need-n-both-requires
-n-both-requires c κs = search needs
-
 returns : tie.Need-returns
 unfolding cToN
 returns c = simp (c .before .before .n-position .ensures, c .before .n-position2 .ensures) at (c .n-both .ensures)
 
 pub to-n-spec : {M : Type 1} → statement M
-to-n-spec = tie.close (tie.spec n-position-requires n-position-requires-2 n-both-requires returns)
+to-n-spec = tie.close (tie.spec (λ c κs. search needs) (λ c κs. search needs) (λ c κs. search needs) returns)

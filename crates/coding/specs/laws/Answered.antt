@@ -6,7 +6,8 @@ use lib.IntN.{pos}
 use Rattle.refusals.specs.Numbers.{nOutside}
 use Rattle.refusals.specs.Outcome.{answered, refused}
 use Rattle.refusals.specs.laws.Outcomes.{clash, same}
-use Rattle.whole.specs.Whole.{if_then_else_, by-test}
+use Rattle.whole.specs.Whole.{if_then_else_}
+use Rattle.whole.specs.laws.Whole.{by-test}
 use Rattle.numbering.specs.Numbers.{nOfC}
 use Rattle.positions.specs.Positions.{Interval, each, NAsked, CAsked, NPosition, CPosition}
 use Rattle.positions.specs.Answers.{unmarked, Marked, plainly, nFits, cFits}

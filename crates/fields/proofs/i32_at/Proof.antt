@@ -7,14 +7,8 @@ use borrow.Author.Needs.{needs}
 use Rattle.fields.proofs.i32_at.Statement.{statement}
 use Rattle.fields.proofs.i32_at.Tie as tie
 
-u32-at-requires : tie.Need-u32-at-requires
-u32-at-requires c κs = search needs
-
-signed-requires : tie.Need-signed-requires
-signed-requires c κs = search needs
-
 returns : tie.Need-returns
 returns c = toZ-ofZ w32 (c .signed .result) (record { sfits = c .signed .ok }) ∙ c .signed .ensures ∙ ap signed32 (c .before .u32-at .ensures)
 
 pub i32-at-spec : {M : Type 1} → statement M
-i32-at-spec = tie.close (tie.spec u32-at-requires signed-requires returns)
+i32-at-spec = tie.close (tie.spec (λ c κs. search needs) (λ c κs. search needs) returns)

@@ -9,15 +9,6 @@ use borrow.Author.Needs.{needs}
 use Rattle.fields.proofs.put_i32.Statement.{statement}
 use Rattle.fields.proofs.put_i32.Tie as tie
 
-bits-requires : tie.Need-bits-requires
-bits-requires c κs = search needs
-
-put-u32-requires : tie.Need-put-u32-requires
-put-u32-requires c κs = search needs
-
-same-length : tie.Need-same-length
-same-length c = search needs
-
 returns : tie.Need-returns
 returns c =
     let s = c .before .before .before .before .before .before in
@@ -26,4 +17,4 @@ returns c =
     (c .before .before .before .bits .ensures ∙ ap bits32 (toZ-ofZ w32 (s .args .z) (s .fits .z)))
 
 pub put-i32-spec : {M : Type 1} → statement M
-put-i32-spec = tie.close (tie.spec bits-requires put-u32-requires same-length returns)
+put-i32-spec = tie.close (tie.spec (λ c κs. search needs) (λ c κs. search needs) (λ c. search needs) returns)

@@ -7,23 +7,8 @@ use borrow.Author.Needs.{needs}
 use Rattle.fields.proofs.put_u16.Statement.{statement}
 use Rattle.fields.proofs.put_u16.Tie as tie
 
-byte-requires : tie.Need-byte-requires
-byte-requires c κs = search needs
-
-slice-write-buf : tie.Need-slice-write-buf
-slice-write-buf c = search needs
-
-byte-requires-2 : tie.Need-byte-requires-2
-byte-requires-2 c κs = search needs
-
-add-buf : tie.Need-add-buf
-add-buf c = search needs
-
 slice-write-buf-2 : tie.Need-slice-write-buf-2
 slice-write-buf-2 c = simp length-set (omega arith)
-
-same-length : tie.Need-same-length
-same-length c = search needs
 
 returns : tie.Need-returns
 returns c = simp (add-one, c .before .byte .ensures, c .byte2 .ensures)
@@ -32,10 +17,10 @@ pub put-u16-spec : {M : Type 1} → statement M
 put-u16-spec =
     tie.close
     (tie.spec
-    byte-requires
-    slice-write-buf
-    byte-requires-2
-    add-buf
+    (λ c κs. search needs)
+    (λ c. search needs)
+    (λ c κs. search needs)
+    (λ c. search needs)
     slice-write-buf-2
-    same-length
+    (λ c. search needs)
     returns)

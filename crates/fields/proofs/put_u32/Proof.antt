@@ -10,18 +10,6 @@ use borrow.Author.Needs.{needs}
 use Rattle.fields.proofs.put_u32.Statement.{statement}
 use Rattle.fields.proofs.put_u32.Tie as tie
 
-put-u16-requires : tie.Need-put-u16-requires
-put-u16-requires c κs = search needs
-
-add-put-u16 : tie.Need-add-put-u16
-add-put-u16 c = search needs
-
-put-u16-requires-2 : tie.Need-put-u16-requires-2
-put-u16-requires-2 c κs = search needs
-
-same-length : tie.Need-same-length
-same-length c = search needs
-
 returns : tie.Need-returns
 returns c =
     let f = c .before .before .before .before .before .before .before .before .before in
@@ -31,4 +19,4 @@ returns c =
 
 pub put-u32-spec : {M : Type 1} → statement M
 put-u32-spec =
-    tie.close (tie.spec put-u16-requires add-put-u16 put-u16-requires-2 same-length returns)
+    tie.close (tie.spec (λ c κs. search needs) (λ c. search needs) (λ c κs. search needs) (λ c. search needs) returns)

@@ -10,17 +10,8 @@ use borrow.Author.Needs.{needs}
 use Rattle.fields.proofs.signed.Statement.{statement}
 use Rattle.fields.proofs.signed.Tie as tie
 
-cast-result : tie.Need-cast-result
-cast-result c = search needs
-
 returns : tie.Need-returns
 returns c = let h = c .if1 .taken in rw (toZ-pos w32 (c .before .args .n) h, lt-ltb (c .before .args .n) 2147483648 h)
-
-sub-m : tie.Need-sub-m
-sub-m c = search needs
-
-cast-m : tie.Need-cast-m
-cast-m c = search needs
 
 sub-result : tie.Need-sub-result
 sub-result c =
@@ -40,4 +31,4 @@ returns-2 c =
     )
 
 pub signed-spec : {M : Type 1} → statement M
-signed-spec = tie.close (tie.spec cast-result returns sub-m cast-m sub-result returns-2)
+signed-spec = tie.close (tie.spec (λ c. search needs) returns (λ c. search needs) (λ c. search needs) sub-result returns-2)

@@ -16,12 +16,6 @@ use borrow.Author.Needs.{needs}
 use Rattle.filling.proofs.fill_all.Statement.{statement}
 use Rattle.filling.proofs.fill_all.Tie as tie
 
-tally-first-requires : tie.Need-tally-first-requires
-tally-first-requires c κs = search needs
-
-enum-known-first : tie.Need-enum-known-first
-enum-known-first c = search needs
-
 -- where the first record was tallied
 module _ (c : tie.After-known-told) where
   abbrev begin : tie.Start
@@ -48,9 +42,6 @@ fill-first-requires c κs =
 next-at-requires : tie.Need-next-at-requires
 next-at-requires c κs = begin (c .before .before .before .before .before .before .before .before .before .before) .pre .1 .0 .stands .numbers
 
-sub-left : tie.Need-sub-left
-sub-left c = search needs
-
 fill-rest-requires : tie.Need-fill-rest-requires
 fill-rest-requires c κs =
     let first = c .before .before .before .before .before .before .before .before .before .before in
@@ -62,23 +53,11 @@ fill-rest-requires c κs =
     rw (c .before .before .before .next-at .ensures)
     (long-after was nothing own (first .fill-first .ensures) (begin k .pre .0), ((begin k .pre .1 .0 .next, bounded), small-rest k))
 
-enum-told : tie.Need-enum-told
-enum-told c = search needs
-
 returns : tie.Need-returns
 returns c =
     let s = c .before .before .before .before .before .before .before in
     let told = sym (c .enum-told .given .1) ∙ c .before .before .tally-first .ensures .0 in
     absurd (subst SmallTally (first-refused (s .args .s .now) (s .args .count) 0 (s .pre .1 .0 .some) told) (s .pre .1 .1))
-
-same-length : tie.Need-same-length
-same-length c = search needs
-
-same-length-2 : tie.Need-same-length-2
-same-length-2 c = search needs
-
-same-length-3 : tie.Need-same-length-3
-same-length-3 c = search needs
 
 returns-2 : tie.Need-returns-2
 returns-2 c =
@@ -99,15 +78,15 @@ pub fill-all-spec : {M : Type 1} → statement M
 fill-all-spec =
     tie.close
     (tie.spec
-    tally-first-requires
-    enum-known-first
+    (λ c κs. search needs)
+    (λ c. search needs)
     fill-first-requires
     next-at-requires
-    sub-left
+    (λ c. search needs)
     fill-rest-requires
-    enum-told
+    (λ c. search needs)
     returns
-    same-length
-    same-length-2
-    same-length-3
+    (λ c. search needs)
+    (λ c. search needs)
+    (λ c. search needs)
     returns-2)

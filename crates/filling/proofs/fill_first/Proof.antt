@@ -18,32 +18,11 @@ as-text : (s : tie.Start) → readFirst (recordAt (s .args .s .now) 0)
     ≡ readAll mostSegments (take (nextAt (s .args .s .now) 0 - cigarText) (drop cigarText (s .args .s .now)))
 as-text s = first-accepted (s .args .s .now) 0 (s .pre .1 .0 .0) (s .pre .1 .1)
 
-next-at-requires : tie.Need-next-at-requires
-next-at-requires c κs = search needs
-
-sub-text : tie.Need-sub-text
-sub-text c = search needs
-
-part-text-start : tie.Need-part-text-start
-part-text-start c = search needs
-
-part-text-end : tie.Need-part-text-end
-part-text-end c = search needs
-
 fill-text-requires : tie.Need-fill-text-requires
 fill-text-requires c κs =
     let s = c .before .before .before .before .before .before .before .before .before in
     let told = sym (ap (tallied nothing) (as-text s)) ∙ s .pre .1 .1 in
     (s .pre .0, (rw (c .before .before .before .before .next-at .ensures) told, (record { few = omega arith; genome-small = omega arith; transcript-small = omega arith }, s .pre .1 .0 .1)))
-
-same-length : tie.Need-same-length
-same-length c = search needs
-
-same-length-2 : tie.Need-same-length-2
-same-length-2 c = search needs
-
-same-length-3 : tie.Need-same-length-3
-same-length-3 c = search needs
 
 returns : tie.Need-returns
 returns c =
@@ -56,12 +35,12 @@ pub fill-first-spec : {M : Type 1} → statement M
 fill-first-spec =
     tie.close
     (tie.spec
-    next-at-requires
-    sub-text
-    part-text-start
-    part-text-end
+    (λ c κs. search needs)
+    (λ c. search needs)
+    (λ c. search needs)
+    (λ c. search needs)
     fill-text-requires
-    same-length
-    same-length-2
-    same-length-3
+    (λ c. search needs)
+    (λ c. search needs)
+    (λ c. search needs)
     returns)

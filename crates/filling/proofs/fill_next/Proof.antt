@@ -52,9 +52,6 @@ module _ (s : tie.Start) where
   long-gap : Long with-gap
   long-gap = long-put (s .args .from) letterN (s .pre .0)
 
-gap-at-requires : tie.Need-gap-at-requires
-gap-at-requires c κs = search needs
-
 one-on-requires : tie.Need-one-on-requires
 one-on-requires c κs = let s = c .before .before .before .before .before in (s .pre .1 .1 .1 .0, room s)
 
@@ -78,21 +75,6 @@ slice-write-transcript c = let s = c .before .before .before .before .before .be
 
 slice-write-letters : tie.Need-slice-write-letters
 slice-write-letters c = let s = c .before .before .before .before .before .before .before .before in omega (arith, room s, s .pre .0 .letters-long)
-
-add-start : tie.Need-add-start
-add-start c = search needs
-
-next-at-requires : tie.Need-next-at-requires
-next-at-requires c κs = search needs
-
-sub-text : tie.Need-sub-text
-sub-text c = search needs
-
-part-text-start : tie.Need-part-text-start
-part-text-start c = search needs
-
-part-text-end : tie.Need-part-text-end
-part-text-end c = search needs
 
 fill-text-requires : tie.Need-fill-text-requires
 fill-text-requires c κs =
@@ -147,7 +129,7 @@ pub fill-next-spec : {M : Type 1} → statement M
 fill-next-spec =
     tie.close
     (tie.spec
-    gap-at-requires
+    (λ c κs. search needs)
     one-on-requires
     narrow-requires
     narrow-requires-2
@@ -156,11 +138,11 @@ fill-next-spec =
     mul-transcript
     slice-write-transcript
     slice-write-letters
-    add-start
-    next-at-requires
-    sub-text
-    part-text-start
-    part-text-end
+    (λ c. search needs)
+    (λ c κs. search needs)
+    (λ c. search needs)
+    (λ c. search needs)
+    (λ c. search needs)
     fill-text-requires
     same-length
     same-length-2

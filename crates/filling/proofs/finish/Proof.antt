@@ -8,27 +8,6 @@ use borrow.Author.Needs.{needs}
 use Rattle.filling.proofs.finish.Statement.{statement}
 use Rattle.filling.proofs.finish.Tie as tie
 
-narrow-requires : tie.Need-narrow-requires
-narrow-requires c κs = search needs
-
-narrow-requires-2 : tie.Need-narrow-requires-2
-narrow-requires-2 c κs = search needs
-
-mul-genome : tie.Need-mul-genome
-mul-genome c = search needs
-
-slice-write-genome : tie.Need-slice-write-genome
-slice-write-genome c = search needs
-
-mul-transcript : tie.Need-mul-transcript
-mul-transcript c = search needs
-
-slice-write-transcript : tie.Need-slice-write-transcript
-slice-write-transcript c = search needs
-
-add-next : tie.Need-add-next
-add-next c = search needs
-
 clear-starts-requires : tie.Need-clear-starts-requires
 clear-starts-requires c κs =
     let s = c .before .before .before .before .before .before in
@@ -71,13 +50,13 @@ pub finish-spec : {M : Type 1} → statement M
 finish-spec =
     tie.close
     (tie.spec
-    narrow-requires
-    narrow-requires-2
-    mul-genome
-    slice-write-genome
-    mul-transcript
-    slice-write-transcript
-    add-next
+    (λ c κs. search needs)
+    (λ c κs. search needs)
+    (λ c. search needs)
+    (λ c. search needs)
+    (λ c. search needs)
+    (λ c. search needs)
+    (λ c. search needs)
     clear-starts-requires
     clear-starts-requires-2
     clear-letters-requires

@@ -30,15 +30,6 @@ finish-requires c κs =
     let was = tables (a .genome .now) (a .transcript .now) (a .letters .now) in
     (long-after was nothing (elementsAll (a .forward) (exonsOf (recordsFrom (a .count) (a .s .now) 0))) (filled .fill-all .ensures) (s .pre .0), s .pre .1 .0 .1)
 
-same-length : tie.Need-same-length
-same-length c = search needs
-
-same-length-2 : tie.Need-same-length-2
-same-length-2 c = search needs
-
-same-length-3 : tie.Need-same-length-3
-same-length-3 c = search needs
-
 returns : tie.Need-returns
 returns c =
     let finished-at = c .before .before .before .before .before .before in
@@ -55,4 +46,4 @@ returns c =
 pub write-tables-spec : {M : Type 1} → statement M
 write-tables-spec =
     tie.close
-    (tie.spec fill-all-requires finish-requires same-length same-length-2 same-length-3 returns)
+    (tie.spec fill-all-requires finish-requires (λ c. search needs) (λ c. search needs) (λ c. search needs) returns)

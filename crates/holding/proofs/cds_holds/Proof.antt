@@ -4,7 +4,7 @@ use borrow.Author.Needs.{needs}
 use lib.IntN.{pos}
 use mir.Syntax.{w32}
 use mir.Val.{SFits}
-use Rattle.whole.specs.Whole.{read, fits-wider}
+use Rattle.whole.specs.laws.Whole.{read, fits-wider}
 use Rattle.whole.specs.laws.Machine.{entry}
 use Rattle.holding.specs.Holding.{cdsHolds}
 use Rattle.whole.specs.laws.Machine.{same-32, other-32}
@@ -21,9 +21,6 @@ cast-result : tie.Need-cast-result
 cast-result c =
     let end : SFits w32 (c .before .before .before .before .before .args .head .end) = record { sfits = c .before .before .struct-told3 .given .1 .1 .1 .1 .1 .1 .0 .1 } in
     simp (read end) (fits-wider end)
-
-cast-result-2 : tie.Need-cast-result-2
-cast-result-2 c = search needs
 
 returns-2 : tie.Need-returns-2
 unfolding cdsHolds
@@ -43,4 +40,4 @@ returns-3 c =
     simp (other-32 (h .bits) (pos 0) (c .before .if1 .left), other-32 (h .bits) (pos 3) (c .if2 .left))
 
 pub cds-holds-spec : {M : Type 1} → statement M
-cds-holds-spec = tie.close (tie.spec returns cast-result cast-result-2 returns-2 returns-3)
+cds-holds-spec = tie.close (tie.spec returns cast-result (λ c. search needs) returns-2 returns-3)

@@ -9,17 +9,11 @@ use Rattle.whole.specs.laws.Machine.{same-32, other-32}
 use Rattle.holding.proofs.check.Statement.{statement}
 use Rattle.holding.proofs.check.Tie as tie
 
-records-hold-requires : tie.Need-records-hold-requires
-records-hold-requires c κs = search needs
-
 returns : tie.Need-returns
 unfolding holds
 returns c =
     let kind : SFits w32 (c .before .before .before .args .head .kind) = record { sfits = c .before .before .struct-told .given .0 .1 } in
     rw (same-32 {b = pos 0} kind (record { sfits = omega arith }) (c .before .if1 .taken)) (c .records-hold .ensures)
-
-length-holds-requires : tie.Need-length-holds-requires
-length-holds-requires c κs = search needs
 
 returns-2 : tie.Need-returns-2
 unfolding holds
@@ -37,4 +31,4 @@ returns-3 c =
 
 pub check-spec : {M : Type 1} → statement M
 check-spec =
-    tie.close (tie.spec records-hold-requires returns length-holds-requires returns-2 returns-3)
+    tie.close (tie.spec (λ c κs. search needs) returns (λ c κs. search needs) returns-2 returns-3)

@@ -1,7 +1,7 @@
 -- `holding::first_start` meets its contract: the first start of a right head is not negative (`head-means`), so that `natural` can be asked, and it gives its size. Assumes nothing.
 use mir.Syntax.{w32}
 use mir.Val.{SFits}
-use Rattle.whole.specs.Whole.{read}
+use Rattle.whole.specs.laws.Whole.{read}
 use Rattle.holding.specs.laws.Held.{head-means, natural-says}
 use Rattle.holding.proofs.first_start.Statement.{statement}
 use Rattle.holding.proofs.first_start.Tie as tie

@@ -6,7 +6,8 @@ use lib.Dec.{eqb}
 use lib.IntN.{pos, negsuc}
 use mir.Syntax.{w32}
 use mir.Val.{SFits, ofZ}
-use Rattle.whole.specs.Whole.{eqZ, read, fits-wider}
+use Rattle.whole.specs.Whole.{eqZ}
+use Rattle.whole.specs.laws.Whole.{read, fits-wider}
 use Rattle.whole.specs.laws.Machine.{bits-32}
 use Rattle.holding.proofs.head_holds.Statement.{statement}
 use Rattle.holding.proofs.head_holds.Tie as tie
@@ -15,9 +16,6 @@ cast-result : tie.Need-cast-result
 cast-result c =
     let count : SFits w32 (c .before .before .before .args .head .count) = record { sfits = c .struct-told3 .given .1 .1 .1 .0 .1 } in
     simp (read count) (fits-wider count)
-
-cast-result-2 : tie.Need-cast-result-2
-cast-result-2 c = search needs
 
 returns : tie.Need-returns
 returns c =
@@ -30,4 +28,4 @@ returns c =
     simp (plus, minus, read count, read (fits-wider count), read first)
 
 pub head-holds-spec : {M : Type 1} → statement M
-head-holds-spec = tie.close (tie.spec cast-result cast-result-2 returns)
+head-holds-spec = tie.close (tie.spec cast-result (λ c. search needs) returns)

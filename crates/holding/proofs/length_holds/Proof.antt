@@ -7,7 +7,7 @@ use lib.Signed.{leZ}
 use mir.Syntax.{w32}
 use mir.Val.{SFits}
 use Rattle.refusals.specs.Numbers.{mostBases}
-use Rattle.whole.specs.Whole.{order, read}
+use Rattle.whole.specs.laws.Whole.{order, read}
 use Rattle.holding.specs.Holding.{lengthHolds}
 use Rattle.whole.specs.laws.Machine.{natural-le}
 use Rattle.holding.proofs.length_holds.Statement.{statement}
@@ -30,9 +30,6 @@ natural-requires c κs =
     let above : leZ (pos 0) (h .length) ≡ true = omega (order, test) in
     simp (read length) above
 
-cds-holds-requires : tie.Need-cds-holds-requires
-cds-holds-requires c κs = search needs
-
 returns-2 : tie.Need-returns-2
 unfolding lengthHolds
 returns-2 c =
@@ -44,4 +41,4 @@ returns-2 c =
     simp (c .cds-holds .ensures, simp (read length) at (c .before .natural .ensures), above, natural-le (h .length) mostBases above)
 
 pub length-holds-spec : {M : Type 1} → statement M
-length-holds-spec = tie.close (tie.spec returns natural-requires cds-holds-requires returns-2)
+length-holds-spec = tie.close (tie.spec returns natural-requires (λ c κs. search needs) returns-2)

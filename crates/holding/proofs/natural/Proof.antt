@@ -1,5 +1,5 @@
 -- `holding::natural` meets its contract: a number of 32 bits that is not negative is its own size, which the cast asks for (`cast-asks`) and keeps. Assumes nothing.
-use Rattle.whole.specs.Whole.{read}
+use Rattle.whole.specs.laws.Whole.{read}
 use Rattle.whole.specs.laws.Machine.{cast-asks}
 use Rattle.holding.proofs.natural.Statement.{statement}
 use Rattle.holding.proofs.natural.Tie as tie

@@ -5,41 +5,11 @@ use Rattle.holding.specs.Holding.{recordsHold}
 use Rattle.holding.proofs.records_hold.Statement.{statement}
 use Rattle.holding.proofs.records_hold.Tie as tie
 
-head-holds-requires : tie.Need-head-holds-requires
-head-holds-requires c κs = search needs
-
 first-start-requires : tie.Need-first-start-requires
 first-start-requires c κs = sym (c .before .head-holds .ensures) ∙ c .if1 .taken
 
 segment-count-requires : tie.Need-segment-count-requires
 segment-count-requires c κs = sym (c .before .before .head-holds .ensures) ∙ c .before .if1 .taken
-
-mul-totals-hold : tie.Need-mul-totals-hold
-mul-totals-hold c = search needs
-
-element-copy-out-totals-hold : tie.Need-element-copy-out-totals-hold
-element-copy-out-totals-hold c = search needs
-
-mul-totals-hold-2 : tie.Need-mul-totals-hold-2
-mul-totals-hold-2 c = search needs
-
-element-copy-out-totals-hold-2 : tie.Need-element-copy-out-totals-hold-2
-element-copy-out-totals-hold-2 c = search needs
-
-totals-hold-requires : tie.Need-totals-hold-requires
-totals-hold-requires c κs = search needs
-
-mul-cds-holds : tie.Need-mul-cds-holds
-mul-cds-holds c = search needs
-
-element-copy-out-cds-holds : tie.Need-element-copy-out-cds-holds
-element-copy-out-cds-holds c = search needs
-
-cds-holds-requires : tie.Need-cds-holds-requires
-cds-holds-requires c κs = search needs
-
-segments-hold-requires : tie.Need-segments-hold-requires
-segments-hold-requires c κs = search needs
 
 returns : tie.Need-returns
 unfolding recordsHold
@@ -58,17 +28,17 @@ pub records-hold-spec : {M : Type 1} → statement M
 records-hold-spec =
     tie.close
     (tie.spec
-    head-holds-requires
+    (λ c κs. search needs)
     first-start-requires
     segment-count-requires
-    mul-totals-hold
-    element-copy-out-totals-hold
-    mul-totals-hold-2
-    element-copy-out-totals-hold-2
-    totals-hold-requires
-    mul-cds-holds
-    element-copy-out-cds-holds
-    cds-holds-requires
-    segments-hold-requires
+    (λ c. search needs)
+    (λ c. search needs)
+    (λ c. search needs)
+    (λ c. search needs)
+    (λ c κs. search needs)
+    (λ c. search needs)
+    (λ c. search needs)
+    (λ c κs. search needs)
+    (λ c κs. search needs)
     returns
     returns-2)

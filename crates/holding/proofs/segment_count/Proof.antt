@@ -3,7 +3,7 @@ use native.Mathlib.Omega.{arith}
 use borrow.Author.Needs.{needs}
 use mir.Syntax.{w32}
 use mir.Val.{SFits}
-use Rattle.whole.specs.Whole.{read}
+use Rattle.whole.specs.laws.Whole.{read}
 use Rattle.holding.specs.laws.Held.{head-means, natural-says}
 use Rattle.holding.proofs.segment_count.Statement.{statement}
 use Rattle.holding.proofs.segment_count.Tie as tie
@@ -14,9 +14,6 @@ natural-requires c κs =
     let count : SFits w32 (h .count) = record { sfits = c .struct-told .given .1 .1 .1 .0 .1 } in
     simp (read count) (natural-says (h .count) (head-means h (c .before .pre) .count .natural))
 
-cast-result : tie.Need-cast-result
-cast-result c = search needs
-
 returns : tie.Need-returns
 returns c =
     let h = c .before .before .args .head in
@@ -25,4 +22,4 @@ returns c =
     (is, omega (arith, is, head-means h (c .before .before .pre) .count .below))
 
 pub segment-count-spec : {M : Type 1} → statement M
-segment-count-spec = tie.close (tie.spec natural-requires cast-result returns)
+segment-count-spec = tie.close (tie.spec natural-requires (λ c. search needs) returns)

@@ -10,7 +10,8 @@ use lib.Signed.{leZ}
 use borrow.Author.Tests.{leb-true, le-leb}
 use Rattle.refusals.specs.Numbers.{mostSegments, mostBases, notTogether}
 use Rattle.refusals.specs.Outcome.{Outcome, refused}
-use Rattle.whole.specs.Whole.{eqZ, order, by-test, both, both-of}
+use Rattle.whole.specs.Whole.{eqZ}
+use Rattle.whole.specs.laws.Whole.{order, by-test, both, both-of}
 use Rattle.segments.specs.Tables.{segmentsHold, Holds}
 use Rattle.segments.specs.laws.Meaning.{holds-means, holds-where}
 use Rattle.segments.specs.laws.Reading.{last-genome, last-transcript}

@@ -12,9 +12,6 @@ unfolding judge
 returns c =
     (rw (lt-ltb bothBits (c .before .before .before .args .numbers .cds) (c .if1 .taken)), tt)
 
-are-records-requires : tie.Need-are-records-requires
-are-records-requires c κs = search needs
-
 judge-input-requires : tie.Need-judge-input-requires
 judge-input-requires c κs = sym (c .before .are-records .ensures) ∙ c .if2 .taken
 
@@ -37,4 +34,4 @@ returns-3 c =
 
 pub judge-spec : {M : Type 1} → statement M
 judge-spec =
-    tie.close (tie.spec returns are-records-requires judge-input-requires returns-2 returns-3)
+    tie.close (tie.spec returns (λ c κs. search needs) judge-input-requires returns-2 returns-3)

@@ -35,9 +35,6 @@ returns c =
     let s = c .before .before .before in
     (rw (eq-eqb (length (input s .records)) 0 (many s ∙ c .if1 .taken)), tt)
 
-judge-on-requires : tie.Need-judge-on-requires
-judge-on-requires c κs = search needs
-
 -- past the tests of the count, the strand decides
 module _ (c : tie.After-struct-told) where
   abbrev here : tie.Start
@@ -55,9 +52,6 @@ returns-2 c =
     let k = c .before .before in
     let plus = same-32 (strand-fits k) one (c .before .if2 .taken) in
     (rw (some k, plus) (c .judge-on .ensures .0), c .judge-on .ensures .1)
-
-judge-on-requires-2 : tie.Need-judge-on-requires-2
-judge-on-requires-2 c κs = search needs
 
 returns-3 : tie.Need-returns-3
 unfolding judgeInput
@@ -78,4 +72,4 @@ returns-4 c =
 pub judge-input-spec : {M : Type 1} → statement M
 judge-input-spec =
     tie.close
-    (tie.spec returns judge-on-requires returns-2 judge-on-requires-2 returns-3 returns-4)
+    (tie.spec returns (λ c κs. search needs) returns-2 (λ c κs. search needs) returns-3 returns-4)

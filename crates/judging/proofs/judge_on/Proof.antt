@@ -5,7 +5,7 @@ use native.Mathlib.Omega.{arith}
 use lib.ListN.{length}
 use mir.Syntax.{w32}
 use Rattle.refusals.specs.Numbers.{mostRecords}
-use Rattle.whole.specs.Whole.{told}
+use Rattle.whole.specs.laws.Whole.{told}
 use Rattle.records.specs.Records.{recordAt}
 use Rattle.records.specs.Faults.{faults}
 use Rattle.records.specs.Walk.{Ready}
@@ -33,23 +33,11 @@ returns c =
     let s = c .before .before in
     (sym (ap toldOf (too-many (s .args .forward) (input s) (omega (arith, many s)))), tt)
 
-records-fault-requires : tie.Need-records-fault-requires
-records-fault-requires c κs = search needs
-
 returns-2 : tie.Need-returns-2
 returns-2 c =
     let s = c .before .before .before .before in
     let few : length (input s .records) ≤ mostRecords = omega (arith, many s) in
     (sym (ap toldOf (faulty (s .args .forward) (input s) few (c .before .records-fault .ensures) (c .if2 .taken))), tt)
-
-start-of-requires : tie.Need-start-of-requires
-start-of-requires c κs = search needs
-
-end-of-requires : tie.Need-end-of-requires
-end-of-requires c κs = search needs
-
-half-fault-requires : tie.Need-half-fault-requires
-half-fault-requires c κs = search needs
 
 -- past 4, 5 and 6, with the bounds
 module _ (c : tie.After-half-fault) where
@@ -94,9 +82,6 @@ module _ (c : tie.Else3) where
 tally-all-requires : tie.Need-tally-all-requires
 tally-all-requires c κs = passed c
 
-enum-known-sums : tie.Need-enum-known-sums
-enum-known-sums c = search needs
-
 bound-requires : tie.Need-bound-requires
 unfolding recordAt
 bound-requires c κs =
@@ -136,9 +121,6 @@ returns-4 c =
     let last = last-refused (s .args .forward) (input s) (sums k) (k .before .bound .result) (last-is k) (all k) (starts k) told-sums (c .if4 .taken) in
     (sym (ap toldOf (reached (before-sums k) ∙ last)), tt)
 
-enum-known-k : tie.Need-enum-known-k
-enum-known-k c = search needs
-
 returns-5 : tie.Need-returns-5
 returns-5 c =
     let k = c .before in
@@ -160,17 +142,17 @@ judge-on-spec =
     tie.close
     (tie.spec
     returns
-    records-fault-requires
+    (λ c κs. search needs)
     returns-2
-    start-of-requires
-    end-of-requires
-    half-fault-requires
+    (λ c κs. search needs)
+    (λ c κs. search needs)
+    (λ c κs. search needs)
     returns-3
     tally-all-requires
-    enum-known-sums
+    (λ c. search needs)
     bound-requires
     last-fault-requires
     returns-4
-    enum-known-k
+    (λ c. search needs)
     returns-5
     returns-6)

@@ -11,20 +11,11 @@ returns : tie.Need-returns
 unfolding lastFault
 returns c = rw (eq-eqb (c .before .args .sums .count) 0 (c .if1 .taken))
 
-cast-if2 : tie.Need-cast-if2
-cast-if2 c = search needs
-
 returns-2 : tie.Need-returns-2
 unfolding lastFault
 returns-2 c =
     let a = c .before .before .args in
     rw (ne-eqb (a .sums .count) 0 (c .before .if1 .left), lt-ltb mostBases (a .sums .transcript) (c .if2 .taken))
-
-add-last : tie.Need-add-last
-add-last c = search needs
-
-cast-if3 : tie.Need-cast-if3
-cast-if3 c = search needs
 
 returns-3 : tie.Need-returns-3
 unfolding lastFault
@@ -35,9 +26,6 @@ returns-3 c =
       le-ltb mostBases (a .sums .transcript) (c .before .before .if2 .left),
       lt-ltb mostBases (a .first + a .sums .genome) (c .if3 .taken),
     )
-
-cds-fault-requires : tie.Need-cds-fault-requires
-cds-fault-requires c κs = search needs
 
 returns-4 : tie.Need-returns-4
 unfolding lastFault
@@ -52,4 +40,4 @@ returns-4 c =
 pub last-fault-spec : {M : Type 1} → statement M
 last-fault-spec =
     tie.close
-    (tie.spec returns cast-if2 returns-2 add-last cast-if3 returns-3 cds-fault-requires returns-4)
+    (tie.spec returns (λ c. search needs) returns-2 (λ c. search needs) (λ c. search needs) returns-3 (λ c κs. search needs) returns-4)

@@ -1,6 +1,6 @@
 -- `judging::range_fault` meets its contract: the code makes `rangeFault`'s three tests in its order and refuses at the first that is true, on `i64`s that are the numbers themselves. Assumes nothing.
 use Rattle.judging.specs.Judging.{rangeFault}
-use Rattle.whole.specs.Whole.{whole}
+use Rattle.whole.specs.laws.Whole.{whole}
 use Rattle.judging.proofs.range_fault.Statement.{statement}
 use Rattle.judging.proofs.range_fault.Tie as tie
 

@@ -16,7 +16,8 @@ use borrow.Author.Tests.{eqb-true, eqb-false, ltb-true, ltb-false, leb-true, leb
 use Rattle.refusals.specs.Numbers.{mostRecords, mostSegments, mostText, mostBases}
 use Rattle.refusals.specs.Outcome.{answered, refused, unless}
 use Rattle.refusals.specs.laws.Outcomes.{clash, same, passed}
-use Rattle.whole.specs.Whole.{by-test, order, eqZ, eq-by, eq-yes-says}
+use Rattle.whole.specs.Whole.{eqZ}
+use Rattle.whole.specs.laws.Whole.{by-test, order, eq-by, eq-yes-says}
 use Rattle.cigar.specs.Elements.{Element, isLetter, genome, transcript, total, letterN}
 use Rattle.cigar.specs.Text.{Reading, readAll}
 use Rattle.cigar.specs.laws.Sound.{AllSound, read-sound, read-room}

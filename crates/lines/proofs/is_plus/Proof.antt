@@ -1,6 +1,6 @@
 -- `lines::is_plus` meets its contract: `==` compares the bits, and its branch tells of the numbers.
 -- Assumes nothing.
-use Rattle.whole.specs.Whole.{whole}
+use Rattle.whole.specs.laws.Whole.{whole}
 use Rattle.lines.proofs.is_plus.Statement.{statement}
 use Rattle.lines.proofs.is_plus.Tie as tie
 

@@ -11,7 +11,8 @@ use lib.ListN.{length}
 use mir.Syntax.{w32}
 use mir.Val.{SFits}
 use Rattle.refusals.specs.Outcome.{Outcome}
-use Rattle.whole.specs.Whole.{eqZ, read, widened, fits-wider}
+use Rattle.whole.specs.Whole.{eqZ}
+use Rattle.whole.specs.laws.Whole.{read, widened, fits-wider}
 use Rattle.cigar.specs.Lent.{atFront}
 use Rattle.cigar.specs.laws.Lent.{sets-front}
 use Rattle.segments.specs.Tables.{tables, tablesOf}
@@ -32,12 +33,6 @@ use Rattle.lines.proofs.Built.{strand-fits, made-holds, made-listed}
 use borrow.Author.Needs.{needs}
 use Rattle.lines.proofs.list_card.Statement.{statement}
 use Rattle.lines.proofs.list_card.Tie as tie
-
-build-card-requires : tie.Need-build-card-requires
-build-card-requires c κs = search needs
-
-enum-known-head : tie.Need-enum-known-head
-enum-known-head c = search needs
 
 abbrev entry : tie.After-build-card → tie.Start
 entry c = c .before .before .before .before .before .before
@@ -82,9 +77,6 @@ module _ (c : tie.After-head) where
 cast-is-plus : tie.Need-cast-is-plus
 cast-is-plus c = let h = c .before .before .before in rw (read (strand-small h)) (fits-wider (strand-small h))
 
-is-plus-requires : tie.Need-is-plus-requires
-is-plus-requires c κs = search needs
-
 count-in-requires : tie.Need-count-in-requires
 count-in-requires c κs =
     let h = c .before .before .before .before .before in
@@ -109,9 +101,6 @@ put-listing-requires c κs =
     let n = c .before .before .before .before in
     let h = known n in
     ((omega (arith, number-is n, sane h .few), omega arith), made-holds (thing h) (tables-are h) (number-is n) (sane h))
-
-enum-known-k : tie.Need-enum-known-k
-enum-known-k c = search needs
 
 put-refusal-requires : tie.Need-put-refusal-requires
 put-refusal-requires c κs = omega arith
@@ -152,13 +141,13 @@ pub list-card-spec : {M : Type 1} → statement M
 list-card-spec =
     tie.close
     (tie.spec
-    build-card-requires
-    enum-known-head
+    (λ c κs. search needs)
+    (λ c. search needs)
     cast-is-plus
-    is-plus-requires
+    (λ c κs. search needs)
     count-in-requires
     put-listing-requires
-    enum-known-k
+    (λ c. search needs)
     put-refusal-requires
     same-length
     returns

@@ -10,30 +10,6 @@ use borrow.Author.Needs.{needs}
 use Rattle.lines.proofs.put_line.Statement.{statement}
 use Rattle.lines.proofs.put_line.Tie as tie
 
-count-at-requires : tie.Need-count-at-requires
-count-at-requires c κs = search needs
-
-element-copy-out-buffer : tie.Need-element-copy-out-buffer
-element-copy-out-buffer c = search needs
-
-slice-write-buffer : tie.Need-slice-write-buffer
-slice-write-buffer c = search needs
-
-add-put-numbers : tie.Need-add-put-numbers
-add-put-numbers c = search needs
-
-mul-put-numbers : tie.Need-mul-put-numbers
-mul-put-numbers c = search needs
-
-element-copy-out-put-numbers : tie.Need-element-copy-out-put-numbers
-element-copy-out-put-numbers c = search needs
-
-mul-put-numbers-2 : tie.Need-mul-put-numbers-2
-mul-put-numbers-2 c = search needs
-
-element-copy-out-put-numbers-2 : tie.Need-element-copy-out-put-numbers-2
-element-copy-out-put-numbers-2 c = search needs
-
 put-numbers-requires : tie.Need-put-numbers-requires
 put-numbers-requires c κs = simp length-set (omega arith)
 
@@ -57,14 +33,14 @@ pub put-line-spec : {M : Type 1} → statement M
 put-line-spec =
     tie.close
     (tie.spec
-    count-at-requires
-    element-copy-out-buffer
-    slice-write-buffer
-    add-put-numbers
-    mul-put-numbers
-    element-copy-out-put-numbers
-    mul-put-numbers-2
-    element-copy-out-put-numbers-2
+    (λ c κs. search needs)
+    (λ c. search needs)
+    (λ c. search needs)
+    (λ c. search needs)
+    (λ c. search needs)
+    (λ c. search needs)
+    (λ c. search needs)
+    (λ c. search needs)
     put-numbers-requires
     same-length
     returns)

@@ -9,27 +9,6 @@ use borrow.Author.Needs.{needs}
 use Rattle.lines.proofs.put_listing.Statement.{statement}
 use Rattle.lines.proofs.put_listing.Tie as tie
 
-cast-put-header : tie.Need-cast-put-header
-cast-put-header c = search needs
-
-mul-put-header : tie.Need-mul-put-header
-mul-put-header c = search needs
-
-element-copy-out-put-header : tie.Need-element-copy-out-put-header
-element-copy-out-put-header c = search needs
-
-mul-put-header-2 : tie.Need-mul-put-header-2
-mul-put-header-2 c = search needs
-
-element-copy-out-put-header-2 : tie.Need-element-copy-out-put-header-2
-element-copy-out-put-header-2 c = search needs
-
-put-header-requires : tie.Need-put-header-requires
-put-header-requires c κs = search needs
-
-put-lines-requires : tie.Need-put-lines-requires
-put-lines-requires c κs = search needs
-
 -- after the lines
 module _ (c : tie.After-slice-known3) where
   abbrev start : tie.Start
@@ -51,12 +30,12 @@ pub put-listing-spec : {M : Type 1} → statement M
 put-listing-spec =
     tie.close
     (tie.spec
-    cast-put-header
-    mul-put-header
-    element-copy-out-put-header
-    mul-put-header-2
-    element-copy-out-put-header-2
-    put-header-requires
-    put-lines-requires
+    (λ c. search needs)
+    (λ c. search needs)
+    (λ c. search needs)
+    (λ c. search needs)
+    (λ c. search needs)
+    (λ c κs. search needs)
+    (λ c κs. search needs)
     same-length
     returns)

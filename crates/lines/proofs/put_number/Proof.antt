@@ -10,12 +10,6 @@ use borrow.Author.Needs.{needs}
 use Rattle.lines.proofs.put_number.Statement.{statement}
 use Rattle.lines.proofs.put_number.Tie as tie
 
-slice-write-buffer : tie.Need-slice-write-buffer
-slice-write-buffer c = search needs
-
-add-put-digits : tie.Need-add-put-digits
-add-put-digits c = search needs
-
 put-digits-requires : tie.Need-put-digits-requires
 put-digits-requires c κs = simp length-set (omega (arith, number-short (c .before .before .args .n) (c .before .before .fits .n .fits)))
 
@@ -35,4 +29,4 @@ returns c =
 
 pub put-number-spec : {M : Type 1} → statement M
 put-number-spec =
-    tie.close (tie.spec slice-write-buffer add-put-digits put-digits-requires same-length returns)
+    tie.close (tie.spec (λ c. search needs) (λ c. search needs) put-digits-requires same-length returns)

@@ -11,9 +11,6 @@ use borrow.Author.Needs.{needs}
 use Rattle.lines.proofs.put_numbers.Statement.{statement}
 use Rattle.lines.proofs.put_numbers.Tie as tie
 
-put-number-requires : tie.Need-put-number-requires
-put-number-requires c κs = search needs
-
 put-number-requires-2 : tie.Need-put-number-requires-2
 put-number-requires-2 c κs = omega (arith, put-length (c .before .before .before .put-number .ensures .0))
 
@@ -62,7 +59,7 @@ pub put-numbers-spec : {M : Type 1} → statement M
 put-numbers-spec =
     tie.close
     (tie.spec
-    put-number-requires
+    (λ c κs. search needs)
     put-number-requires-2
     put-number-requires-3
     slice-write-buffer

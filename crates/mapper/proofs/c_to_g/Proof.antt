@@ -6,32 +6,11 @@ use borrow.Author.Needs.{needs}
 use Rattle.mapper.proofs.c_to_g.Statement.{statement}
 use Rattle.mapper.proofs.c_to_g.Tie as tie
 
-known-of-requires : tie.Need-known-of-requires
-known-of-requires c κs = search needs
-
-enum-known-at : tie.Need-enum-known-at
-enum-known-at c = search needs
-
 last-requires : tie.Need-last-requires
 last-requires c κs = let p = c .before in known-lies _ _ _ (sym (p .before .before .known-of .ensures) ∙ p .at .given .1) .sound .count-to
 
-c-to-n-requires : tie.Need-c-to-n-requires
-c-to-n-requires c κs = search needs
-
 then-n-to-g-requires : tie.Need-then-n-to-g-requires
 then-n-to-g-requires c κs = let p = c .before .before .before in known-lies _ _ _ (sym (p .before .before .known-of .ensures) ∙ p .at .given .1) .sound
-
-enum-known-length : tie.Need-enum-known-length
-enum-known-length c = search needs
-
-c-to-n-requires-2 : tie.Need-c-to-n-requires-2
-c-to-n-requires-2 c κs = search needs
-
-then-no-genome-requires : tie.Need-then-no-genome-requires
-then-no-genome-requires c κs = search needs
-
-enum-told : tie.Need-enum-told
-enum-told c = search needs
 
 returns : tie.Need-returns
 returns c =
@@ -52,4 +31,4 @@ returns-3 : tie.Need-returns-3
 returns-3 c = sym (ask-broken _ _ (sym (c .before .before .known-of .ensures) ∙ c .enum-told .given .1))
 
 pub c-to-g-spec : {M : Type 1} → statement M
-c-to-g-spec = tie.close (tie.spec known-of-requires enum-known-at last-requires c-to-n-requires then-n-to-g-requires enum-known-length c-to-n-requires-2 then-no-genome-requires enum-told returns returns-2 returns-3)
+c-to-g-spec = tie.close (tie.spec (λ c κs. search needs) (λ c. search needs) last-requires (λ c κs. search needs) then-n-to-g-requires (λ c. search needs) (λ c κs. search needs) (λ c κs. search needs) (λ c. search needs) returns returns-2 returns-3)

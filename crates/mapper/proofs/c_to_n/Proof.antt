@@ -6,26 +6,8 @@ use borrow.Author.Needs.{needs}
 use Rattle.mapper.proofs.c_to_n.Statement.{statement}
 use Rattle.mapper.proofs.c_to_n.Tie as tie
 
-known-of-requires : tie.Need-known-of-requires
-known-of-requires c κs = search needs
-
-enum-known-at : tie.Need-enum-known-at
-enum-known-at c = search needs
-
 last-requires : tie.Need-last-requires
 last-requires c κs = let p = c .before in known-lies _ _ _ (sym (p .before .before .known-of .ensures) ∙ p .at .given .1) .sound .count-to
-
-c-to-n-requires : tie.Need-c-to-n-requires
-c-to-n-requires c κs = search needs
-
-enum-known-length : tie.Need-enum-known-length
-enum-known-length c = search needs
-
-c-to-n-requires-2 : tie.Need-c-to-n-requires-2
-c-to-n-requires-2 c κs = search needs
-
-enum-told : tie.Need-enum-told
-enum-told c = search needs
 
 returns : tie.Need-returns
 returns c =
@@ -43,4 +25,4 @@ returns-3 : tie.Need-returns-3
 returns-3 c = sym (ask-broken _ _ (sym (c .before .before .known-of .ensures) ∙ c .enum-told .given .1))
 
 pub c-to-n-spec : {M : Type 1} → statement M
-c-to-n-spec = tie.close (tie.spec known-of-requires enum-known-at last-requires c-to-n-requires enum-known-length c-to-n-requires-2 enum-told returns returns-2 returns-3)
+c-to-n-spec = tie.close (tie.spec (λ c κs. search needs) (λ c. search needs) last-requires (λ c κs. search needs) (λ c. search needs) (λ c κs. search needs) (λ c. search needs) returns returns-2 returns-3)

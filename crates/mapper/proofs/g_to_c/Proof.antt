@@ -6,26 +6,11 @@ use borrow.Author.Needs.{needs}
 use Rattle.mapper.proofs.g_to_c.Statement.{statement}
 use Rattle.mapper.proofs.g_to_c.Tie as tie
 
-known-of-requires : tie.Need-known-of-requires
-known-of-requires c κs = search needs
-
-enum-known-at : tie.Need-enum-known-at
-enum-known-at c = search needs
-
 last-requires : tie.Need-last-requires
 last-requires c κs = let p = c .before in known-lies _ _ _ (sym (p .before .before .known-of .ensures) ∙ p .at .given .1) .sound .count-to
 
 g-to-n-requires : tie.Need-g-to-n-requires
 g-to-n-requires c κs = let p = c .before .before in known-lies _ _ _ (sym (p .before .before .known-of .ensures) ∙ p .at .given .1) .sound
-
-then-n-to-c-requires : tie.Need-then-n-to-c-requires
-then-n-to-c-requires c κs = search needs
-
-enum-told : tie.Need-enum-told
-enum-told c = search needs
-
-enum-told-2 : tie.Need-enum-told-2
-enum-told-2 c = search needs
 
 returns : tie.Need-returns
 returns c =
@@ -43,4 +28,4 @@ returns-3 : tie.Need-returns-3
 returns-3 c = sym (ask-broken _ _ (sym (c .before .before .known-of .ensures) ∙ c .enum-told2 .given .1))
 
 pub g-to-c-spec : {M : Type 1} → statement M
-g-to-c-spec = tie.close (tie.spec known-of-requires enum-known-at last-requires g-to-n-requires then-n-to-c-requires enum-told enum-told-2 returns returns-2 returns-3)
+g-to-c-spec = tie.close (tie.spec (λ c κs. search needs) (λ c. search needs) last-requires g-to-n-requires (λ c κs. search needs) (λ c. search needs) (λ c. search needs) returns returns-2 returns-3)

@@ -6,20 +6,8 @@ use borrow.Author.Needs.{needs}
 use Rattle.mapper.proofs.g_to_n.Statement.{statement}
 use Rattle.mapper.proofs.g_to_n.Tie as tie
 
-known-of-requires : tie.Need-known-of-requires
-known-of-requires c κs = search needs
-
-enum-known-at : tie.Need-enum-known-at
-enum-known-at c = search needs
-
 g-to-n-requires : tie.Need-g-to-n-requires
 g-to-n-requires c κs = let p = c .before in known-lies _ _ _ (sym (p .before .before .known-of .ensures) ∙ p .at .given .1) .sound
-
-enum-told : tie.Need-enum-told
-enum-told c = search needs
-
-enum-told-2 : tie.Need-enum-told-2
-enum-told-2 c = search needs
 
 returns : tie.Need-returns
 returns c =
@@ -35,4 +23,4 @@ returns-3 : tie.Need-returns-3
 returns-3 c = sym (ask-broken _ _ (sym (c .before .before .known-of .ensures) ∙ c .enum-told2 .given .1))
 
 pub g-to-n-spec : {M : Type 1} → statement M
-g-to-n-spec = tie.close (tie.spec known-of-requires enum-known-at g-to-n-requires enum-told enum-told-2 returns returns-2 returns-3)
+g-to-n-spec = tie.close (tie.spec (λ c κs. search needs) (λ c. search needs) g-to-n-requires (λ c. search needs) (λ c. search needs) returns returns-2 returns-3)

@@ -6,24 +6,6 @@ use borrow.Author.Needs.{needs}
 use Rattle.mapper.proofs.is_coding_transcript.Statement.{statement}
 use Rattle.mapper.proofs.is_coding_transcript.Tie as tie
 
-known-of-requires : tie.Need-known-of-requires
-known-of-requires c κs = search needs
-
-enum-known-cds : tie.Need-enum-known-cds
-enum-known-cds c = search needs
-
-is-coding-requires : tie.Need-is-coding-requires
-is-coding-requires c κs = search needs
-
-enum-known-cds-2 : tie.Need-enum-known-cds-2
-enum-known-cds-2 c = search needs
-
-is-coding-requires-2 : tie.Need-is-coding-requires-2
-is-coding-requires-2 c κs = search needs
-
-enum-told : tie.Need-enum-told
-enum-told c = search needs
-
 returns : tie.Need-returns
 returns c =
     let p = c .before .before in
@@ -39,4 +21,4 @@ returns-3 : tie.Need-returns-3
 returns-3 c = sym (ask-broken _ _ (sym (c .before .before .known-of .ensures) ∙ c .enum-told .given .1))
 
 pub is-coding-transcript-spec : {M : Type 1} → statement M
-is-coding-transcript-spec = tie.close (tie.spec known-of-requires enum-known-cds is-coding-requires enum-known-cds-2 is-coding-requires-2 enum-told returns returns-2 returns-3)
+is-coding-transcript-spec = tie.close (tie.spec (λ c κs. search needs) (λ c. search needs) (λ c κs. search needs) (λ c. search needs) (λ c κs. search needs) (λ c. search needs) returns returns-2 returns-3)

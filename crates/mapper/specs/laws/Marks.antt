@@ -1,32 +1,21 @@
 -- The mark of a chain's answer: it is uncertain exactly where either end fell in an I or a D segment. Between n. and c. no mark is borne, so it is that of the other step. Assumes nothing.
 use Prim.Native.Nat.{ℕ}
 use mathlib.Core.Bool.{Bool, false, _||_}
-use mathlib.Core.Path.{_≡_, refl, sym, ap, _∙_}
+use mathlib.Core.Path.{_≡_, ap, _∙_}
 use lib.IntN.{ℤ, pos}
-use Rattle.refusals.specs.Outcome.{answered, refused, through}
-use Rattle.refusals.specs.laws.Outcomes.{clash, same}
+use Rattle.refusals.specs.Outcome.{answered}
+use Rattle.refusals.specs.laws.Outcomes.{clash}
 use Rattle.numbering.specs.Numbers.{nOfC}
 use Rattle.transcript.specs.Transcript.{Transcript, Cds, transcriptLength}
 use Rattle.transcript.specs.Transcript.Cds.{noCds, cds}
 use Rattle.positions.specs.Positions.{Interval, each, CAsked, GPosition, NPosition, CPosition, asksN}
-use Rattle.positions.specs.Answers.{Mark, Marked, Answer, inARow, after, chain}
-use Rattle.positions.specs.laws.Ends.{row-plain}
+use Rattle.positions.specs.Answers.{Mark, Marked, inARow}
+use Rattle.positions.specs.laws.Ends.{row-plain, chain-mark}
 use Rattle.coding.specs.Coding.{nToC, cToN}
 use Rattle.coding.specs.laws.Answered.{c-to-n-crossed, c-to-n-plain, n-to-c-plain}
 use Rattle.places.specs.Mapping.{gToN, nToG}
 use Rattle.places.specs.laws.Marks.{markIf, gFell, nFell, g-to-n-marked, n-to-g-marked}
 use Rattle.mapper.specs.Chains.{gToC, cToG}
-
--- a chain that answers bears the mark of its two steps in a row
-chain-mark : {P Q R : Type 0} (asks : P → Q) (first : Answer P) (second : Interval Q → Answer R) (m : Mark)
-    → ((a : Marked P) (b : Marked R) → first ≡ answered a → second (each asks (a .interval)) ≡ answered b → inARow (a .mark) (b .mark) ≡ m)
-    → (c : Marked R) → chain asks first second ≡ answered c → c .mark ≡ m
-chain-mark {R = R} asks (answered a) second m h c e = go (second (each asks (a .interval))) refl e
-  where
-    go : (o : Answer R) → second (each asks (a .interval)) ≡ o → through (after (a .mark)) o ≡ answered c → c .mark ≡ m
-    go (answered b) s e = sym (ap (λ (x : Marked R). x .mark) (same e)) ∙ h a b refl s
-    go (refused k) s e = absurd (clash e)
-chain-mark asks (refused k) second m h c e = absurd (clash e)
 
 -- the place of the n. number that a c. number stands for fell so
 abbrev pub cFell : Transcript → Cds → CAsked → Bool

@@ -10,7 +10,7 @@ use Rattle.refusals.specs.Outcome.{Outcome, answered}
 use Rattle.refusals.specs.Refusing.{oneOf, Only}
 use Rattle.refusals.specs.laws.Outcomes.{clash}
 use Rattle.refusals.specs.laws.Refusing.{only-through, only-then}
-use Rattle.whole.specs.Whole.{order, dif}
+use Rattle.whole.specs.laws.Whole.{order, dif, neither}
 use Rattle.numbering.specs.Numbers.{placeOfN}
 use Rattle.transcript.specs.Transcript.{Source, Cds, genomeLength, transcriptLength, lengthOf, codingOf}
 use Rattle.transcript.specs.Transcript.Source.{aligned, lengthOnly}
@@ -27,10 +27,6 @@ use Rattle.places.specs.laws.Refusing.{g-to-n-only, n-to-g-only, n-to-g-inside}
 use Rattle.mapper.specs.Asking.{givenEnds, given, askGToN, askNToG, askNToC, askCToN, askGToC, askCToG, askCoding, askInBounds}
 
 -- ---- a number that strict c. to n. gives lies in 1 to the length, so that its place is inside
-
-neither : (a b : Bool) → (a || b) ≡ false → (a ≡ false) × (b ≡ false)
-neither true b e = absurd (false≢true (sym e))
-neither false b e = (refl, e)
 
 module _ (len : ℕ) where
   taken-inside : (strict forward : Bool) (n : ℤ) → refuses16 strict len n ≡ false → inside strict len (turned forward len (placeOfN n)) ≡ true

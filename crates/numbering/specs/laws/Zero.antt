@@ -8,7 +8,7 @@ use mathlib.Core.Path.{_≡_, refl, ap}
 use mathlib.Core.Bool.{true, false}
 use lib.IntN.{ℤ, pos, negsuc, _+ℤ_, _-ℤ_}
 use lib.Signed.{leZ, ltZ, _≤ℤ_}
-use Rattle.whole.specs.Whole.{by-test, order, sum, dif}
+use Rattle.whole.specs.laws.Whole.{by-test, order, sum, dif}
 use Rattle.numbering.specs.Numbers.{placeOfN, plainC, starC, cOfN, nOfC, skipZero}
 
 -- n.0 reads as n.1

@@ -3,14 +3,8 @@ use borrow.Author.Needs.{needs}
 use Rattle.places.proofs.are_inside.Statement.{statement}
 use Rattle.places.proofs.are_inside.Tie as tie
 
-is-inside-requires : tie.Need-is-inside-requires
-is-inside-requires c κs = search needs
-
-is-inside-requires-2 : tie.Need-is-inside-requires-2
-is-inside-requires-2 c κs = search needs
-
 returns : tie.Need-returns
 returns c = simp (c .before .is-inside .ensures, c .is-inside2 .ensures)
 
 pub are-inside-spec : {M : Type 1} → statement M
-are-inside-spec = tie.close (tie.spec is-inside-requires is-inside-requires-2 returns)
+are-inside-spec = tie.close (tie.spec (λ c κs. search needs) (λ c κs. search needs) returns)

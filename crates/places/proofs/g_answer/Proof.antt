@@ -1,18 +1,9 @@
 -- `places::g_answer` meets its contract: `g_of_place` gives each end with its number's own offset, and `g_marked` joins them under the mark of both spots, as `gJoined` does. Assumes nothing.
-use Rattle.whole.specs.Whole.{read}
+use Rattle.whole.specs.laws.Whole.{read}
 use Rattle.places.specs.Aligned.{gJoined}
 use borrow.Author.Needs.{needs}
 use Rattle.places.proofs.g_answer.Statement.{statement}
 use Rattle.places.proofs.g_answer.Tie as tie
-
-g-of-place-requires : tie.Need-g-of-place-requires
-g-of-place-requires c κs = search needs
-
-g-of-place-requires-2 : tie.Need-g-of-place-requires-2
-g-of-place-requires-2 c κs = search needs
-
-g-marked-requires : tie.Need-g-marked-requires
-g-marked-requires c κs = search needs
 
 returns : tie.Need-returns
 unfolding gJoined
@@ -25,4 +16,4 @@ returns c =
 
 pub g-answer-spec : {M : Type 1} → statement M
 g-answer-spec =
-    tie.close (tie.spec g-of-place-requires g-of-place-requires-2 g-marked-requires returns)
+    tie.close (tie.spec (λ c κs. search needs) (λ c κs. search needs) (λ c κs. search needs) returns)

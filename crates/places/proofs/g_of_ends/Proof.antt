@@ -2,7 +2,7 @@
 use mathlib.Core.Path.{_≡_, sym, _∙_}
 use lib.ListN.{getD}
 use mir.Syntax.{w32}
-use Rattle.whole.specs.Whole.{told}
+use Rattle.whole.specs.laws.Whole.{told}
 use Rattle.numbering.specs.Numbers.{placeOfN}
 use Rattle.places.specs.Mapping.{turned}
 use Rattle.positions.specs.Paper.{paperNAsked}
@@ -36,27 +36,6 @@ test-is c =
     let p = q .before .before in
     sym (simp (p .before .before .last .ensures, to-is q, from-is p) at (c .are-inside .ensures))
 
-last-requires : tie.Need-last-requires
-last-requires c κs = search needs
-
-place-of-n-requires : tie.Need-place-of-n-requires
-place-of-n-requires c κs = search needs
-
-place-of-n-requires-2 : tie.Need-place-of-n-requires-2
-place-of-n-requires-2 c κs = search needs
-
-are-inside-requires : tie.Need-are-inside-requires
-are-inside-requires c κs = search needs
-
-transcript-to-genome-requires : tie.Need-transcript-to-genome-requires
-transcript-to-genome-requires c κs = search needs
-
-transcript-to-genome-requires-2 : tie.Need-transcript-to-genome-requires-2
-transcript-to-genome-requires-2 c κs = search needs
-
-g-answer-requires : tie.Need-g-answer-requires
-g-answer-requires c κs = search needs
-
 returns : tie.Need-returns
 returns c =
     let y = c .before .before .before in
@@ -83,12 +62,12 @@ pub g-of-ends-spec : {M : Type 1} → statement M
 g-of-ends-spec =
     tie.close
     (tie.spec
-    last-requires
-    place-of-n-requires
-    place-of-n-requires-2
-    are-inside-requires
-    transcript-to-genome-requires
-    transcript-to-genome-requires-2
-    g-answer-requires
+    (λ c κs. search needs)
+    (λ c κs. search needs)
+    (λ c κs. search needs)
+    (λ c κs. search needs)
+    (λ c κs. search needs)
+    (λ c κs. search needs)
+    (λ c κs. search needs)
     returns
     returns-2)

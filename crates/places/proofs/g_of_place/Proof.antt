@@ -3,7 +3,7 @@ use mathlib.Core.Path.{_≡_}
 use mir.Syntax.{w64}
 use mir.Val.{toZ, ofZ}
 use Rattle.places.specs.Mapping.{signed}
-use Rattle.whole.specs.Whole.{read, told, widened, fits-wider, i32-38, fits-40, fits-42}
+use Rattle.whole.specs.laws.Whole.{read, told, widened, fits-wider, i32-38, fits-40, fits-42}
 use Rattle.whole.specs.laws.Machine.{entry}
 use Rattle.places.proofs.Sizes.{signed-40, from-first-40, from-one-40, with-own-42}
 use borrow.Author.Needs.{needs}
@@ -15,9 +15,6 @@ place-is c = told w64 (c .before .args .p .0) (c .struct-told .given .0 .1)
 
 own-is : (c : tie.After-sign) → c .sign .result ≡ signed (c .before .before .args .forward) (c .before .before .args .offset)
 own-is c = rw (widened (c .before .before .fits .offset)) at (c .sign .ensures)
-
-cast-start : tie.Need-cast-start
-cast-start c = search needs
 
 cast-given : tie.Need-cast-given
 cast-given c =
@@ -47,9 +44,6 @@ add-g-3 c =
     let own = signed-40 (a .args .forward) (i32-38 (a .fits .offset)) in
     simp (place-is (c .before), entry f, read (fits-40 (from-first-40 (a .pre) f)), read (fits-40 (from-one-40 (a .pre) f)), own-is c, read (fits-40 own)) (fits-42 (with-own-42 (a .pre) f own))
 
-g-end-requires : tie.Need-g-end-requires
-g-end-requires c κs = search needs
-
 returns : tie.Need-returns
 returns c =
     let s = c .before in
@@ -61,4 +55,4 @@ returns c =
 pub g-of-place-spec : {M : Type 1} → statement M
 g-of-place-spec =
     tie.close
-    (tie.spec cast-start cast-given sign-requires add-g add-g-2 add-g-3 g-end-requires returns)
+    (tie.spec (λ c. search needs) cast-given sign-requires add-g add-g-2 add-g-3 (λ c κs. search needs) returns)

@@ -2,7 +2,7 @@
 use mathlib.Core.Path.{_≡_, _∙_}
 use mir.Syntax.{w64}
 use mir.Val.{toZ, ofZ}
-use Rattle.whole.specs.Whole.{read}
+use Rattle.whole.specs.laws.Whole.{read}
 use Rattle.whole.specs.laws.Machine.{entry}
 use Rattle.places.proofs.Sizes.{fits-36}
 use Rattle.places.specs.Mapping.{placeOfG}
@@ -16,18 +16,6 @@ from-is c = read (fits-36 (c .place-of-g .ensures .1)) ∙ rw (read (c .before .
 
 to-is : (c : tie.After-place-of-g2) → toZ w64 (ofZ w64 (c .place-of-g2 .result .0)) ≡ placeOfG (c .before .before .args .at .first) (c .before .before .args .to)
 to-is c = read (fits-36 (c .place-of-g2 .ensures .1)) ∙ rw (read (c .before .before .fits .to)) at (c .place-of-g2 .ensures .0)
-
-place-of-g-requires : tie.Need-place-of-g-requires
-place-of-g-requires c κs = search needs
-
-place-of-g-requires-2 : tie.Need-place-of-g-requires-2
-place-of-g-requires-2 c κs = search needs
-
-last-requires : tie.Need-last-requires
-last-requires c κs = search needs
-
-cast-end : tie.Need-cast-end
-cast-end c = search needs
 
 returns : tie.Need-returns
 returns c =
@@ -43,4 +31,4 @@ returns-2 c =
 pub is-in-bounds-spec : {M : Type 1} → statement M
 is-in-bounds-spec =
     tie.close
-    (tie.spec place-of-g-requires place-of-g-requires-2 last-requires cast-end returns returns-2)
+    (tie.spec (λ c κs. search needs) (λ c κs. search needs) (λ c κs. search needs) (λ c. search needs) returns returns-2)

@@ -1,14 +1,11 @@
 -- `places::is_inside` meets its contract: outside strict mode `inside` asks nothing, and in strict mode it makes the code's two tests, on a place that is read back as it was. Assumes nothing.
 use mir.Syntax.{w64}
-use Rattle.whole.specs.Whole.{told}
+use Rattle.whole.specs.laws.Whole.{told}
 use Rattle.places.specs.Mapping.{inside}
 use Rattle.whole.specs.laws.Machine.{entry}
 use borrow.Author.Needs.{needs}
 use Rattle.places.proofs.is_inside.Statement.{statement}
 use Rattle.places.proofs.is_inside.Tie as tie
-
-cast-end : tie.Need-cast-end
-cast-end c = search needs
 
 returns : tie.Need-returns
 unfolding inside
@@ -28,4 +25,4 @@ unfolding inside
 returns-3 c = simp (c .if1 .left)
 
 pub is-inside-spec : {M : Type 1} → statement M
-is-inside-spec = tie.close (tie.spec cast-end returns returns-2 returns-3)
+is-inside-spec = tie.close (tie.spec (λ c. search needs) returns returns-2 returns-3)

@@ -8,24 +8,6 @@ use Rattle.places.specs.Aligned.{nJoined}
 use Rattle.places.proofs.n_answer.Statement.{statement}
 use Rattle.places.proofs.n_answer.Tie as tie
 
-n-of-spot-requires : tie.Need-n-of-spot-requires
-n-of-spot-requires c κs = search needs
-
-n-of-spot-requires-2 : tie.Need-n-of-spot-requires-2
-n-of-spot-requires-2 c κs = search needs
-
-n-both-requires : tie.Need-n-both-requires
-n-both-requires c κs = search needs
-
-n-marked-requires : tie.Need-n-marked-requires
-n-marked-requires c κs = search needs
-
-n-both-requires-2 : tie.Need-n-both-requires-2
-n-both-requires-2 c κs = search needs
-
-n-marked-requires-2 : tie.Need-n-marked-requires-2
-n-marked-requires-2 c κs = search needs
-
 -- the two ends, which bore no mark, with the mark of both spots
 returns : tie.Need-returns
 unfolding nJoined
@@ -47,11 +29,11 @@ pub n-answer-spec : {M : Type 1} → statement M
 n-answer-spec =
     tie.close
     (tie.spec
-    n-of-spot-requires
-    n-of-spot-requires-2
-    n-both-requires
-    n-marked-requires
-    n-both-requires-2
-    n-marked-requires-2
+    (λ c κs. search needs)
+    (λ c κs. search needs)
+    (λ c κs. search needs)
+    (λ c κs. search needs)
+    (λ c κs. search needs)
+    (λ c κs. search needs)
     returns
     returns-2)

@@ -1,24 +1,15 @@
 -- `places::n_of_spot` meets its contract: a spot's turned place is below 2^40, so that `place_to_n` can be asked, and with what `sign` gives it is the position of `nEndAt`. Assumes nothing.
 use mir.Syntax.{w64}
-use Rattle.whole.specs.Whole.{read, told, fits-40}
+use Rattle.whole.specs.laws.Whole.{read, told, fits-40}
 use Rattle.places.proofs.Sizes.{signed-40, turned-40}
 use borrow.Author.Needs.{needs}
 use Rattle.places.proofs.n_of_spot.Statement.{statement}
 use Rattle.places.proofs.n_of_spot.Tie as tie
 
-turn-requires : tie.Need-turn-requires
-turn-requires c κs = search needs
-
 place-to-n-requires : tie.Need-place-to-n-requires
 place-to-n-requires c κs =
     let a = c .before in
     rw (c .turn .ensures) (turned-40 (a .fits .len) _ (a .pre .place-small))
-
-sign-requires : tie.Need-sign-requires
-sign-requires c κs = search needs
-
-n-end-requires : tie.Need-n-end-requires
-n-end-requires c κs = search needs
 
 returns : tie.Need-returns
 returns c =
@@ -33,4 +24,4 @@ returns c =
 
 pub n-of-spot-spec : {M : Type 1} → statement M
 n-of-spot-spec =
-    tie.close (tie.spec turn-requires place-to-n-requires sign-requires n-end-requires returns)
+    tie.close (tie.spec (λ c κs. search needs) place-to-n-requires (λ c κs. search needs) (λ c κs. search needs) returns)

@@ -1,6 +1,6 @@
 -- `places::place_of_g` meets its contract: a number of 32 bits less 1 less a first start of 32 bits stays below 2^36 in size (`place-36`), so that nothing wraps and the result is `placeOfG`. Assumes nothing.
 use mathlib.Core.Path.{refl}
-use Rattle.whole.specs.Whole.{read, widened, fits-wider, fits-38}
+use Rattle.whole.specs.laws.Whole.{read, widened, fits-wider, fits-38}
 use Rattle.whole.specs.laws.Machine.{entry}
 use Rattle.places.proofs.Sizes.{less-38, place-36, fits-36}
 use borrow.Author.Needs.{needs}
@@ -9,9 +9,6 @@ use Rattle.places.proofs.place_of_g.Tie as tie
 
 cast-number : tie.Need-cast-number
 cast-number c = simp (read (c .fits .g)) (fits-wider (c .fits .g))
-
-cast-start : tie.Need-cast-start
-cast-start c = search needs
 
 sub-place : tie.Need-sub-place
 sub-place c = simp (widened (c .fits .g)) (fits-38 (less-38 (c .fits .g) (c .fits .first)))
@@ -28,4 +25,4 @@ returns c =
     simp (widened (f .g), entry (f .first), read (fits-38 (less-38 (f .g) (f .first))), read (fits-36 place)) (refl, place)
 
 pub place-of-g-spec : {M : Type 1} → statement M
-place-of-g-spec = tie.close (tie.spec cast-number cast-start sub-place sub-place-2 returns)
+place-of-g-spec = tie.close (tie.spec cast-number (λ c. search needs) sub-place sub-place-2 returns)

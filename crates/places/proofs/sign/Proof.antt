@@ -1,6 +1,6 @@
 -- `places::sign` meets its contract: the machine's `0 - z` is the change of sign (`negated`), and it fits, since the offset is below 2^38 in size. Assumes nothing.
 use mathlib.Core.Bool.{false}
-use Rattle.whole.specs.Whole.{read, fits-40}
+use Rattle.whole.specs.laws.Whole.{read, fits-40}
 use Rattle.places.proofs.Sizes.{negated, signed-40}
 use Rattle.places.proofs.sign.Statement.{statement}
 use Rattle.places.proofs.sign.Tie as tie

@@ -4,12 +4,6 @@ use borrow.Author.Needs.{needs}
 use Rattle.places.proofs.to_g.Statement.{statement}
 use Rattle.places.proofs.to_g.Tie as tie
 
-g-of-ends-requires : tie.Need-g-of-ends-requires
-g-of-ends-requires c κs = search needs
-
-g-of-ends-requires-2 : tie.Need-g-of-ends-requires-2
-g-of-ends-requires-2 c κs = search needs
-
 returns : tie.Need-returns
 unfolding nToG
 returns c = simp (c .before .if1 .taken) (simp (c .before .if1 .taken) at (c .g-of-ends .ensures))
@@ -19,4 +13,4 @@ unfolding nToG
 returns-2 c = simp (c .before .if1 .left) (simp (c .before .if1 .left) at (c .g-of-ends2 .ensures))
 
 pub to-g-spec : {M : Type 1} → statement M
-to-g-spec = tie.close (tie.spec g-of-ends-requires g-of-ends-requires-2 returns returns-2)
+to-g-spec = tie.close (tie.spec (λ c κs. search needs) (λ c κs. search needs) returns returns-2)

@@ -1,6 +1,6 @@
 -- `places::to_n` meets its contract: `place_of_g` gives the places, so that the test made is 14's; by it the answer is `nJoined` of the two spots (`n-answered`) or 14 (`n-refused`). Assumes nothing.
 use mathlib.Core.Path.{_≡_, sym, _∙_}
-use Rattle.whole.specs.Whole.{read}
+use Rattle.whole.specs.laws.Whole.{read}
 use Rattle.places.proofs.Spans.{n-answered, n-refused, g-inside}
 use Rattle.places.specs.Mapping.{placeOfG}
 use Rattle.segments.specs.Tables.{tables}
@@ -22,30 +22,6 @@ test-is : (c : tie.After-are-inside) →
 test-is c =
     let q = c .before .before in
     sym (simp (c .before .last .ensures, to-is q, from-is (q .before)) at (c .are-inside .ensures))
-
-place-of-g-requires : tie.Need-place-of-g-requires
-place-of-g-requires c κs = search needs
-
-place-of-g-requires-2 : tie.Need-place-of-g-requires-2
-place-of-g-requires-2 c κs = search needs
-
-last-requires : tie.Need-last-requires
-last-requires c κs = search needs
-
-are-inside-requires : tie.Need-are-inside-requires
-are-inside-requires c κs = search needs
-
-genome-to-transcript-requires : tie.Need-genome-to-transcript-requires
-genome-to-transcript-requires c κs = search needs
-
-genome-to-transcript-requires-2 : tie.Need-genome-to-transcript-requires-2
-genome-to-transcript-requires-2 c κs = search needs
-
-last-requires-2 : tie.Need-last-requires-2
-last-requires-2 c κs = search needs
-
-n-answer-requires : tie.Need-n-answer-requires
-n-answer-requires c κs = search needs
 
 returns : tie.Need-returns
 returns c =
@@ -70,13 +46,13 @@ pub to-n-spec : {M : Type 1} → statement M
 to-n-spec =
     tie.close
     (tie.spec
-    place-of-g-requires
-    place-of-g-requires-2
-    last-requires
-    are-inside-requires
-    genome-to-transcript-requires
-    genome-to-transcript-requires-2
-    last-requires-2
-    n-answer-requires
+    (λ c κs. search needs)
+    (λ c κs. search needs)
+    (λ c κs. search needs)
+    (λ c κs. search needs)
+    (λ c κs. search needs)
+    (λ c κs. search needs)
+    (λ c κs. search needs)
+    (λ c κs. search needs)
     returns
     returns-2)

@@ -1,15 +1,12 @@
 -- `places::turn` meets its contract: forward the place stays; on strand -1 a length of 32 bits less 1 less a place below 2^38 does not wrap, and is what `turned` says. Assumes nothing.
 use mir.Syntax.{w64}
-use Rattle.whole.specs.Whole.{read, told, fits-38, fits-40}
+use Rattle.whole.specs.laws.Whole.{read, told, fits-38, fits-40}
 use Rattle.places.specs.Mapping.{turned}
 use Rattle.whole.specs.laws.Machine.{entry}
 use Rattle.places.proofs.Sizes.{end-38, back-40}
 use borrow.Author.Needs.{needs}
 use Rattle.places.proofs.turn.Statement.{statement}
 use Rattle.places.proofs.turn.Tie as tie
-
-cast-end : tie.Need-cast-end
-cast-end c = search needs
 
 sub-place : tie.Need-sub-place
 sub-place c =
@@ -34,4 +31,4 @@ returns-2 c =
     simp (c .before .if1 .left, entry len, read (fits-38 (end-38 len)), told w64 (a .args .p .0) (c .struct-told .given .0 .1), read (fits-40 (back-40 len (a .pre))))
 
 pub turn-spec : {M : Type 1} → statement M
-turn-spec = tie.close (tie.spec cast-end sub-place sub-place-2 returns returns-2)
+turn-spec = tie.close (tie.spec (λ c. search needs) sub-place sub-place-2 returns returns-2)

@@ -8,7 +8,8 @@ use lib.ListN.{getD, length}
 use Rattle.refusals.specs.Numbers.{outside}
 use Rattle.refusals.specs.Outcome.{answered, refused}
 use Rattle.refusals.specs.laws.Outcomes.{clash, same}
-use Rattle.whole.specs.Whole.{if_then_else_, by-test}
+use Rattle.whole.specs.Whole.{if_then_else_}
+use Rattle.whole.specs.laws.Whole.{by-test}
 use Rattle.numbering.specs.Numbers.{placeOfN}
 use Rattle.cigar.specs.Elements.{Element, Side, Kind, kindOf, genome, transcript}
 use Rattle.cigar.specs.Elements.Kind.{matches, inserts, deletes, skips}

@@ -6,7 +6,7 @@ use mathlib.Core.Path.{_≡_, refl, sym, _∙_}
 use lib.IntN.{ℤ}
 use Rattle.refusals.specs.Numbers.{outside, tooWide}
 use Rattle.refusals.specs.Refusing.{oneOf, Only}
-use Rattle.whole.specs.Whole.{both-of}
+use Rattle.whole.specs.laws.Whole.{both-of}
 use Rattle.numbering.specs.Numbers.{placeOfN}
 use Rattle.transcript.specs.Transcript.{Transcript, genomeLength, transcriptLength}
 use Rattle.positions.specs.Positions.{Interval, NAsked}

@@ -1,11 +1,12 @@
 -- An answer and its parts: 17 of an interval is 17 of its ends, the first one's first; an interval that is answered has both its ends answered; and its mark. Assumes nothing.
-use mathlib.Core.Path.{_≡_, refl, ap}
+use mathlib.Core.Path.{_≡_, refl, sym, ap, _∙_}
 use mathlib.Core.Bool.{Bool, true, false, _&&_}
 use Rattle.refusals.specs.Numbers.{tooWide}
 use Rattle.refusals.specs.Outcome.{Outcome, answered, refused, through}
 use Rattle.refusals.specs.laws.Outcomes.{clash, same}
 use Rattle.whole.specs.Whole.{if_then_else_}
-use Rattle.positions.specs.Answers.{Mark, certain, uncertain, unmarked, markOf, Marked, Answer, ends, inARow, after, fitted, fitting}
+use Rattle.positions.specs.Positions.{Interval, each}
+use Rattle.positions.specs.Answers.{Mark, certain, uncertain, unmarked, markOf, Marked, Answer, ends, inARow, after, chain, fitted, fitting}
 
 module _ {P : Type 0} where
   abbrev joined : Mark → P → P → Marked P
@@ -48,3 +49,14 @@ pub row-plain : (m : Mark) → inARow m unmarked ≡ m
 row-plain certain = refl
 row-plain uncertain = refl
 row-plain unmarked = refl
+
+-- a chain that answers bears the mark of its two steps in a row
+pub chain-mark : {P Q R : Type 0} (asks : P → Q) (first : Answer P) (second : Interval Q → Answer R) (m : Mark)
+    → ((a : Marked P) (b : Marked R) → first ≡ answered a → second (each asks (a .interval)) ≡ answered b → inARow (a .mark) (b .mark) ≡ m)
+    → (c : Marked R) → chain asks first second ≡ answered c → c .mark ≡ m
+chain-mark {R = R} asks (answered a) second m h c e = go (second (each asks (a .interval))) refl e
+  where
+    go : (o : Answer R) → second (each asks (a .interval)) ≡ o → through (after (a .mark)) o ≡ answered c → c .mark ≡ m
+    go (answered b) s e = sym (ap (λ (x : Marked R). x .mark) (same e)) ∙ h a b refl s
+    go (refused k) s e = absurd (clash e)
+chain-mark asks (refused k) second m h c e = absurd (clash e)

@@ -4,7 +4,7 @@ use mathlib.Core.Bool.{true, false, false≢true}
 use mathlib.Core.Path.{_≡_}
 use lib.IntN.{ℤ, pos, negsuc}
 use lib.Signed.{ltZ}
-use Rattle.whole.specs.Whole.{up, dn, by-test, order}
+use Rattle.whole.specs.laws.Whole.{up, dn, by-test, order}
 use Rattle.whole.specs.Fits.{fitOf, fits}
 
 pub fits-by : (z : ℤ) → up z ≤ 2147483647 + dn z → dn z ≤ 2147483648 + up z → fits z ≡ true

@@ -5,11 +5,8 @@ use borrow.Author.Needs.{needs}
 use Rattle.reading.proofs.bound.Statement.{statement}
 use Rattle.reading.proofs.bound.Tie as tie
 
-u32-at-requires : tie.Need-u32-at-requires
-u32-at-requires c κs = search needs
-
 returns : tie.Need-returns
 returns c = c .u32-at .ensures ∙ bits-whole _ (c .before .before .pre .1)
 
 pub bound-spec : {M : Type 1} → statement M
-bound-spec = tie.close (tie.spec u32-at-requires returns)
+bound-spec = tie.close (tie.spec (λ c κs. search needs) returns)

@@ -8,15 +8,9 @@ use borrow.Author.Needs.{needs}
 use Rattle.reading.proofs.gap_at.Statement.{statement}
 use Rattle.reading.proofs.gap_at.Tie as tie
 
-add-bound : tie.Need-add-bound
-add-bound c = search needs
-
 bound-requires : tie.Need-bound-requires
 unfolding recordAt
 bound-requires c κs = (omega arith, c .before .pre .1 .start-whole)
-
-add-bound-2 : tie.Need-add-bound-2
-add-bound-2 c = search needs
 
 bound-requires-2 : tie.Need-bound-requires-2
 unfolding recordAt
@@ -31,4 +25,4 @@ unfolding recordAt
 returns c = ap₂ _-_ (c .before .bound .ensures) (c .bound2 .ensures)
 
 pub gap-at-spec : {M : Type 1} → statement M
-gap-at-spec = tie.close (tie.spec add-bound bound-requires add-bound-2 bound-requires-2 sub-result returns)
+gap-at-spec = tie.close (tie.spec (λ c. search needs) bound-requires (λ c. search needs) bound-requires-2 sub-result returns)

@@ -7,27 +7,6 @@ use borrow.Author.Needs.{needs}
 use Rattle.reading.proofs.one_on.Statement.{statement}
 use Rattle.reading.proofs.one_on.Tie as tie
 
-add-more : tie.Need-add-more
-add-more c = search needs
-
-along-genome-requires : tie.Need-along-genome-requires
-along-genome-requires c κs = search needs
-
-cast-genome : tie.Need-cast-genome
-cast-genome c = search needs
-
-add-genome : tie.Need-add-genome
-add-genome c = search needs
-
-along-transcript-requires : tie.Need-along-transcript-requires
-along-transcript-requires c κs = search needs
-
-cast-transcript : tie.Need-cast-transcript
-cast-transcript c = search needs
-
-add-transcript : tie.Need-add-transcript
-add-transcript c = search needs
-
 returns : tie.Need-returns
 unfolding genome transcript
 returns c =
@@ -39,11 +18,11 @@ pub one-on-spec : {M : Type 1} → statement M
 one-on-spec =
     tie.close
     (tie.spec
-    add-more
-    along-genome-requires
-    cast-genome
-    add-genome
-    along-transcript-requires
-    cast-transcript
-    add-transcript
+    (λ c. search needs)
+    (λ c κs. search needs)
+    (λ c. search needs)
+    (λ c. search needs)
+    (λ c κs. search needs)
+    (λ c. search needs)
+    (λ c. search needs)
     returns)

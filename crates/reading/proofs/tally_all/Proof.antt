@@ -10,9 +10,6 @@ use Rattle.reading.proofs.tally_all.Tie as tie
 tally-first-requires : tie.Need-tally-first-requires
 tally-first-requires c κs = c .before .pre .stands
 
-enum-known-first : tie.Need-enum-known-first
-enum-known-first c = search needs
-
 next-at-requires : tie.Need-next-at-requires
 next-at-requires c κs = c .before .before .before .before .before .pre .stands .numbers
 
@@ -24,9 +21,6 @@ tally-rest-requires c κs =
     let r = c .before .before .before .before .before .before .pre in
     let e = c .before .before .before .before .tally-first .ensures in
     (rw (c .next-at .ensures) (r .next), subst BoundedTally (c .before .before .first .given .1) (e .1))
-
-enum-known-k : tie.Need-enum-known-k
-enum-known-k c = search needs
 
 returns : tie.Need-returns
 returns c =
@@ -47,10 +41,10 @@ tally-all-spec =
     tie.close
     (tie.spec
     tally-first-requires
-    enum-known-first
+    (λ c. search needs)
     next-at-requires
     sub-left
     tally-rest-requires
-    enum-known-k
+    (λ c. search needs)
     returns
     returns-2)

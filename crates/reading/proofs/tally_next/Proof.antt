@@ -7,15 +7,6 @@ use borrow.Author.Needs.{needs}
 use Rattle.reading.proofs.tally_next.Statement.{statement}
 use Rattle.reading.proofs.tally_next.Tie as tie
 
-add-start : tie.Need-add-start
-add-start c = search needs
-
-next-at-requires : tie.Need-next-at-requires
-next-at-requires c κs = search needs
-
-sub-if1 : tie.Need-sub-if1
-sub-if1 c = search needs
-
 returns : tie.Need-returns
 returns c =
     let s = c .before .before .before in
@@ -25,24 +16,6 @@ returns-2 : tie.Need-returns-2
 returns-2 c =
     let s = c .before .before .before .before .before in
     (sym (ap (tallied _) (next-full (s .args .s .now) (s .args .at) (s .pre .0 .1) (s .args .from .count) (omega arith) (c .if2 .taken))), tt)
-
-gap-at-requires : tie.Need-gap-at-requires
-gap-at-requires c κs = search needs
-
-sub-tally-text : tie.Need-sub-tally-text
-sub-tally-text c = search needs
-
-part-tally-text-start : tie.Need-part-tally-text-start
-part-tally-text-start c = search needs
-
-part-tally-text-end : tie.Need-part-tally-text-end
-part-tally-text-end c = search needs
-
-one-on-requires : tie.Need-one-on-requires
-one-on-requires c κs = search needs
-
-tally-text-requires : tie.Need-tally-text-requires
-tally-text-requires c κs = search needs
 
 returns-3 : tie.Need-returns-3
 returns-3 c =
@@ -58,15 +31,15 @@ pub tally-next-spec : {M : Type 1} → statement M
 tally-next-spec =
     tie.close
     (tie.spec
-    add-start
-    next-at-requires
-    sub-if1
+    (λ c. search needs)
+    (λ c κs. search needs)
+    (λ c. search needs)
     returns
     returns-2
-    gap-at-requires
-    sub-tally-text
-    part-tally-text-start
-    part-tally-text-end
-    one-on-requires
-    tally-text-requires
+    (λ c κs. search needs)
+    (λ c. search needs)
+    (λ c. search needs)
+    (λ c. search needs)
+    (λ c κs. search needs)
+    (λ c κs. search needs)
     returns-3)

@@ -2,7 +2,7 @@
 use mathlib.Core.Path.{_≡_, ap₂, _∙_}
 use Prim.Native.Nat.{_+_}
 use mir.Syntax.{w64}
-use Rattle.whole.specs.Whole.{told}
+use Rattle.whole.specs.laws.Whole.{told}
 use Rattle.records.specs.Layout.{ordAt}
 use Rattle.records.specs.Records.{recordAt, fieldAt}
 use Rattle.records.specs.Faults.{riseFault, joinFault, followFault}
@@ -10,21 +10,6 @@ use Rattle.records.specs.laws.Chain.{refuses, passes}
 use borrow.Author.Needs.{needs}
 use Rattle.records.proofs.follow_fault.Statement.{statement}
 use Rattle.records.proofs.follow_fault.Tie as tie
-
-add-field : tie.Need-add-field
-add-field c = search needs
-
-field-requires : tie.Need-field-requires
-field-requires c κs = search needs
-
-add-field-2 : tie.Need-add-field-2
-add-field-2 c = search needs
-
-field-requires-2 : tie.Need-field-requires-2
-field-requires-2 c κs = search needs
-
-rise-fault-requires : tie.Need-rise-fault-requires
-rise-fault-requires c κs = search needs
 
 -- what the test of `ord` gave
 rises : (c : tie.After-rise-fault) → let s = c .before .before .before .before in
@@ -39,21 +24,6 @@ returns : tie.Need-returns
 unfolding followFault recordAt
 returns c = refuses _ (rises (c .before)) (c .if1 .taken)
 
-add-field-3 : tie.Need-add-field-3
-add-field-3 c = search needs
-
-field-requires-3 : tie.Need-field-requires-3
-field-requires-3 c κs = search needs
-
-add-field-4 : tie.Need-add-field-4
-add-field-4 c = search needs
-
-field-requires-4 : tie.Need-field-requires-4
-field-requires-4 c κs = search needs
-
-join-fault-requires : tie.Need-join-fault-requires
-join-fault-requires c κs = search needs
-
 returns-2 : tie.Need-returns-2
 unfolding followFault recordAt
 returns-2 c =
@@ -67,15 +37,15 @@ pub follow-fault-spec : {M : Type 1} → statement M
 follow-fault-spec =
     tie.close
     (tie.spec
-    add-field
-    field-requires
-    add-field-2
-    field-requires-2
-    rise-fault-requires
+    (λ c. search needs)
+    (λ c κs. search needs)
+    (λ c. search needs)
+    (λ c κs. search needs)
+    (λ c κs. search needs)
     returns
-    add-field-3
-    field-requires-3
-    add-field-4
-    field-requires-4
-    join-fault-requires
+    (λ c. search needs)
+    (λ c κs. search needs)
+    (λ c. search needs)
+    (λ c κs. search needs)
+    (λ c κs. search needs)
     returns-2)

@@ -4,23 +4,8 @@ use borrow.Author.Needs.{needs}
 use Rattle.records.proofs.next_at.Statement.{statement}
 use Rattle.records.proofs.next_at.Tie as tie
 
-add-u16-at : tie.Need-add-u16-at
-add-u16-at c = search needs
-
-u16-at-requires : tie.Need-u16-at-requires
-u16-at-requires c κs = search needs
-
-add-result : tie.Need-add-result
-add-result c = search needs
-
-cast-result : tie.Need-cast-result
-cast-result c = search needs
-
-add-result-2 : tie.Need-add-result-2
-add-result-2 c = search needs
-
 returns : tie.Need-returns
 returns c = omega arith
 
 pub next-at-spec : {M : Type 1} → statement M
-next-at-spec = tie.close (tie.spec add-u16-at u16-at-requires add-result cast-result add-result-2 returns)
+next-at-spec = tie.close (tie.spec (λ c. search needs) (λ c κs. search needs) (λ c. search needs) (λ c. search needs) (λ c. search needs) returns)

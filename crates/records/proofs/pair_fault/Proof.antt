@@ -2,7 +2,7 @@
 use mathlib.Core.Path.{_≡_, ap₂, _∙_}
 use Prim.Native.Nat.{_+_}
 use mir.Syntax.{w64}
-use Rattle.whole.specs.Whole.{told}
+use Rattle.whole.specs.laws.Whole.{told}
 use Rattle.records.specs.Layout.{altStart, altEnd}
 use Rattle.records.specs.Records.{recordAt, fieldAt}
 use Rattle.records.specs.Faults.{startFault, pairFault}
@@ -10,21 +10,6 @@ use Rattle.records.specs.laws.Chain.{refuses, passes}
 use borrow.Author.Needs.{needs}
 use Rattle.records.proofs.pair_fault.Statement.{statement}
 use Rattle.records.proofs.pair_fault.Tie as tie
-
-add-field : tie.Need-add-field
-add-field c = search needs
-
-field-requires : tie.Need-field-requires
-field-requires c κs = search needs
-
-add-field-2 : tie.Need-add-field-2
-add-field-2 c = search needs
-
-field-requires-2 : tie.Need-field-requires-2
-field-requires-2 c κs = search needs
-
-start-fault-requires : tie.Need-start-fault-requires
-start-fault-requires c κs = search needs
 
 -- what the test of the genome start gave
 starts : (c : tie.After-start-fault) → let s = c .before .before .before .before in
@@ -39,17 +24,11 @@ returns : tie.Need-returns
 unfolding pairFault recordAt
 returns c = refuses _ (starts (c .before)) (c .if1 .taken)
 
-follow-fault-requires : tie.Need-follow-fault-requires
-follow-fault-requires c κs = search needs
-
 returns-2 : tie.Need-returns-2
 unfolding pairFault recordAt
 returns-2 c =
     passes (starts (c .before .before .before)) (c .before .before .if1 .left)
     (rw (c .before .if2 .taken) (c .follow-fault .ensures))
-
-follow-fault-requires-2 : tie.Need-follow-fault-requires-2
-follow-fault-requires-2 c κs = search needs
 
 returns-3 : tie.Need-returns-3
 unfolding pairFault recordAt
@@ -61,13 +40,13 @@ pub pair-fault-spec : {M : Type 1} → statement M
 pair-fault-spec =
     tie.close
     (tie.spec
-    add-field
-    field-requires
-    add-field-2
-    field-requires-2
-    start-fault-requires
+    (λ c. search needs)
+    (λ c κs. search needs)
+    (λ c. search needs)
+    (λ c κs. search needs)
+    (λ c κs. search needs)
     returns
-    follow-fault-requires
+    (λ c κs. search needs)
     returns-2
-    follow-fault-requires-2
+    (λ c κs. search needs)
     returns-3)

@@ -3,7 +3,7 @@ use Prim.Native.Nat.{ℕ}
 use mathlib.Core.Path.{_≡_}
 use lib.Dec.{eqb}
 use borrow.Author.Tests.{eqb-true, eqb-false, eq-eqb, ne-eqb}
-use Rattle.whole.specs.Whole.{by-test}
+use Rattle.whole.specs.laws.Whole.{by-test}
 use Rattle.records.specs.Faults.{_orElse_}
 
 -- a refusal counts

@@ -10,7 +10,8 @@ use lib.ListN.{length}
 use lib.Signed.{ltZ}
 use borrow.Author.Tests.{ltb-false, leb-true, le-leb, lt-leb}
 use Rattle.refusals.specs.Numbers.{badBound}
-use Rattle.whole.specs.Whole.{if_then_else_, both}
+use Rattle.whole.specs.Whole.{if_then_else_}
+use Rattle.whole.specs.laws.Whole.{both}
 use Rattle.records.specs.Layout.{cigarText}
 use Rattle.records.specs.Records.{Record, nextAt, recordAt, exactly, recordsFrom}
 use Rattle.records.specs.Faults.{_orElse_, spanFault, startFault, ownFault, pairFault, faultsAfter, faults}

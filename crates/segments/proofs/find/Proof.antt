@@ -7,7 +7,7 @@ use borrow.Author.Count.{below-none, below-more}
 use borrow.Author.Needs.{needs}
 use mir.Syntax.{w64}
 use mir.Val.{toZ}
-use Rattle.whole.specs.Whole.{read}
+use Rattle.whole.specs.laws.Whole.{read}
 use Rattle.segments.specs.Places.{endsAbove}
 use Rattle.segments.specs.laws.Finding.{index-is}
 use Rattle.segments.proofs.find.Statement.{statement}

@@ -8,9 +8,6 @@ use Rattle.segments.specs.laws.Reading.{by-genome}
 use Rattle.segments.proofs.genome_to_transcript.Statement.{statement}
 use Rattle.segments.proofs.genome_to_transcript.Tie as tie
 
-map-place-requires : tie.Need-map-place-requires
-map-place-requires c κs = search needs
-
 returns : tie.Need-returns
 returns c =
     let a = c .before .args in
@@ -18,4 +15,4 @@ returns c =
     (c .map-place .ensures .0 ∙ by-genome _ _ holds (omega arith) _ _ _, c .map-place .ensures .1)
 
 pub genome-to-transcript-spec : {M : Type 1} → statement M
-genome-to-transcript-spec = tie.close (tie.spec map-place-requires returns)
+genome-to-transcript-spec = tie.close (tie.spec (λ c κs. search needs) returns)

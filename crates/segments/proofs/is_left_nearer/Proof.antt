@@ -1,5 +1,5 @@
 -- One test for each strand, of numbers that the machine reads back. Assumes nothing.
-use Rattle.whole.specs.Whole.{read}
+use Rattle.whole.specs.laws.Whole.{read}
 use Rattle.segments.proofs.is_left_nearer.Statement.{statement}
 use Rattle.segments.proofs.is_left_nearer.Tie as tie
 

@@ -1,38 +1,11 @@
 -- `spot_in` answers for what stands in the tables at the number that `find` gives, and that is the definition. Assumes nothing.
 use mathlib.Core.Path.{sym}
-use Rattle.whole.specs.Whole.{read}
+use Rattle.whole.specs.laws.Whole.{read}
 use Rattle.segments.specs.Places.{mapByTables}
 use Rattle.segments.proofs.Bounds.{fits-36}
 use borrow.Author.Needs.{needs}
 use Rattle.segments.proofs.map_place.Statement.{statement}
 use Rattle.segments.proofs.map_place.Tie as tie
-
-find-requires : tie.Need-find-requires
-find-requires c κs = search needs
-
-element-copy-out-spot-in : tie.Need-element-copy-out-spot-in
-element-copy-out-spot-in c = search needs
-
-mul-spot-in : tie.Need-mul-spot-in
-mul-spot-in c = search needs
-
-element-copy-out-spot-in-2 : tie.Need-element-copy-out-spot-in-2
-element-copy-out-spot-in-2 c = search needs
-
-add-spot-in : tie.Need-add-spot-in
-add-spot-in c = search needs
-
-mul-spot-in-2 : tie.Need-mul-spot-in-2
-mul-spot-in-2 c = search needs
-
-element-copy-out-spot-in-3 : tie.Need-element-copy-out-spot-in-3
-element-copy-out-spot-in-3 c = search needs
-
-mul-spot-in-3 : tie.Need-mul-spot-in-3
-mul-spot-in-3 c = search needs
-
-element-copy-out-spot-in-4 : tie.Need-element-copy-out-spot-in-4
-element-copy-out-spot-in-4 c = search needs
 
 spot-in-requires : tie.Need-spot-in-requires
 spot-in-requires c κs =
@@ -50,14 +23,14 @@ pub map-place-spec : {M : Type 1} → statement M
 map-place-spec =
     tie.close
     (tie.spec
-    find-requires
-    element-copy-out-spot-in
-    mul-spot-in
-    element-copy-out-spot-in-2
-    add-spot-in
-    mul-spot-in-2
-    element-copy-out-spot-in-3
-    mul-spot-in-3
-    element-copy-out-spot-in-4
+    (λ c κs. search needs)
+    (λ c. search needs)
+    (λ c. search needs)
+    (λ c. search needs)
+    (λ c. search needs)
+    (λ c. search needs)
+    (λ c. search needs)
+    (λ c. search needs)
+    (λ c. search needs)
     spot-in-requires
     returns)

@@ -1,18 +1,12 @@
 -- The test goes the definition's way, and what the machine reads back from the edge and the distance are the definition's. Assumes nothing.
 use mathlib.Core.Path.{refl, sym, _∙_}
 use borrow.Author.Needs.{needs}
-use Rattle.whole.specs.Whole.{read, fits-38}
+use Rattle.whole.specs.laws.Whole.{read, fits-38}
 use Rattle.segments.specs.Places.{nearer}
 use Rattle.whole.specs.laws.Machine.{entry}
 use Rattle.segments.proofs.Bounds.{negated, before-38, entry-38, kept-38, back-38}
 use Rattle.segments.proofs.nearer_edge.Statement.{statement}
 use Rattle.segments.proofs.nearer_edge.Tie as tie
-
-cast-place : tie.Need-cast-place
-cast-place c = search needs
-
-is-left-nearer-requires : tie.Need-is-left-nearer-requires
-is-left-nearer-requires c κs = search needs
 
 sub-before : tie.Need-sub-before
 sub-before c =
@@ -43,4 +37,4 @@ returns-2 c =
 
 pub nearer-edge-spec : {M : Type 1} → statement M
 nearer-edge-spec =
-    tie.close (tie.spec cast-place is-left-nearer-requires sub-before sub-back returns returns-2)
+    tie.close (tie.spec (λ c. search needs) (λ c κs. search needs) sub-before sub-back returns returns-2)

@@ -3,16 +3,13 @@ use mathlib.Core.Path.{refl}
 use native.Mathlib.Omega.{arith}
 use borrow.Author.Needs.{needs}
 use borrow.Author.Tests.{ne-eqb}
-use Rattle.whole.specs.Whole.{read, fits-38}
+use Rattle.whole.specs.laws.Whole.{read, fits-38}
 use Rattle.cigar.specs.Elements.{kindOf, letterD, letterI, letterN}
 use Rattle.segments.specs.Places.{spotIn}
 use Rattle.whole.specs.laws.Machine.{entry}
 use Rattle.segments.proofs.Bounds.{kept-38, along-38, left-37, right-37, place-38}
 use Rattle.segments.proofs.spot_in.Statement.{statement}
 use Rattle.segments.proofs.spot_in.Tie as tie
-
-cast-along : tie.Need-cast-along
-cast-along c = search needs
 
 sub-along : tie.Need-sub-along
 sub-along c = simp (entry (c .fits .f), read (c .fits .p)) (fits-38 (along-38 (c .pre) (c .fits .f)))
@@ -22,9 +19,6 @@ add-left c =
     let a = c .before in
     let along = along-38 (a .pre) (a .fits .f) in
     simp (entry (a .fits .f), read (a .fits .p), read (fits-38 along)) (fits-38 (kept-38 (left-37 (a .pre) (a .fits .f))))
-
-cast-right : tie.Need-cast-right
-cast-right c = search needs
 
 sub-right : tie.Need-sub-right
 sub-right c =
@@ -38,15 +32,6 @@ nearer-edge-requires c κs =
     let left = left-37 (a .pre) (a .fits .f) in
     let right = right-37 (a .pre) (a .fits .h) in
     simp (entry (a .fits .f), entry (a .fits .h), read (a .fits .p), read (fits-38 along), read (fits-38 (kept-38 left)), read (fits-38 (kept-38 right))) (left, right)
-
-beside-at-requires : tie.Need-beside-at-requires
-beside-at-requires c κs = search needs
-
-beside-at-requires-2 : tie.Need-beside-at-requires-2
-beside-at-requires-2 c κs = search needs
-
-cast-place : tie.Need-cast-place
-cast-place c = search needs
 
 add-place : tie.Need-add-place
 add-place c =
@@ -86,15 +71,15 @@ pub spot-in-spec : {M : Type 1} → statement M
 spot-in-spec =
     tie.close
     (tie.spec
-    cast-along
+    (λ c. search needs)
     sub-along
     add-left
-    cast-right
+    (λ c. search needs)
     sub-right
     nearer-edge-requires
-    beside-at-requires
-    beside-at-requires-2
-    cast-place
+    (λ c κs. search needs)
+    (λ c κs. search needs)
+    (λ c. search needs)
     add-place
     returns
     returns-2

@@ -8,9 +8,6 @@ use Rattle.segments.specs.laws.Reading.{by-transcript}
 use Rattle.segments.proofs.transcript_to_genome.Statement.{statement}
 use Rattle.segments.proofs.transcript_to_genome.Tie as tie
 
-map-place-requires : tie.Need-map-place-requires
-map-place-requires c κs = search needs
-
 returns : tie.Need-returns
 returns c =
     let a = c .before .args in
@@ -18,4 +15,4 @@ returns c =
     (c .map-place .ensures .0 ∙ by-transcript _ _ holds (omega arith) _ _ _, c .map-place .ensures .1)
 
 pub transcript-to-genome-spec : {M : Type 1} → statement M
-transcript-to-genome-spec = tie.close (tie.spec map-place-requires returns)
+transcript-to-genome-spec = tie.close (tie.spec (λ c κs. search needs) returns)

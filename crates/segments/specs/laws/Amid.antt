@@ -9,7 +9,7 @@ use lib.IntN.{ℤ, pos, _+ℤ_, _-ℤ_}
 use lib.ListN.{getD, length, take, drop, length-append, take-append-drop, List·getD-append}
 use lib.Seq.{take-append-add, take-append-le, getD-append-add}
 use borrow.Author.Tests.{ltb-true, ltb-false, lt-ltb, le-ltb}
-use Rattle.whole.specs.Whole.{by-test, order, sum, dif}
+use Rattle.whole.specs.laws.Whole.{by-test, order, sum, dif}
 use Rattle.cigar.specs.Elements.{Element, Side, Kind, kind, kindOf, total}
 use Rattle.cigar.specs.Elements.Kind.{matches, inserts, deletes, skips}
 use Rattle.segments.specs.Tables.{entriesFrom, entriesOf, lettersOf}

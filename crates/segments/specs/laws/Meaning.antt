@@ -7,7 +7,7 @@ use mathlib.Core.Path.{_≡_, refl, sym, subst}
 use lib.ListN.{getD}
 use lib.Dec.{leb, eqb}
 use borrow.Author.Tests.{leb-true, eqb-true, le-leb, eq-eqb}
-use Rattle.whole.specs.Whole.{both, both-of}
+use Rattle.whole.specs.laws.Whole.{both, both-of}
 use Rattle.cigar.specs.Elements.{kindOf}
 use Rattle.segments.specs.Tables.{Tables, allBelow, stepRight, stepsOf, knownAt, rightAt, segmentsHold, Holds}
 

@@ -9,9 +9,6 @@ use borrow.Author.Needs.{needs}
 use Rattle.sequences.proofs.changed.Statement.{statement}
 use Rattle.sequences.proofs.changed.Tie as tie
 
-changed-part-requires : tie.Need-changed-part-requires
-changed-part-requires c κs = search needs
-
 -- of what `changed_part` gave
 within : (c : tie.After-changed-part) → let a = c .before .before .before .args in Inside (c .changed-part .result) (a .reference .now) (a .alternative .now)
 within c = rw (c .changed-part .ensures) (inside _ _ _)
@@ -32,4 +29,4 @@ returns-2 : tie.Need-returns-2
 returns-2 c = c .cut2 .ensures ∙ rw (c .before .if1 .left) at (named (c .before .before))
 
 pub changed-spec : {M : Type 1} → statement M
-changed-spec = tie.close (tie.spec changed-part-requires cut-requires cut-requires-2 returns returns-2)
+changed-spec = tie.close (tie.spec (λ c κs. search needs) cut-requires cut-requires-2 returns returns-2)

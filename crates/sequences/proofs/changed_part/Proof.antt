@@ -12,18 +12,6 @@ use borrow.Author.Needs.{needs}
 use Rattle.sequences.proofs.changed_part.Statement.{statement}
 use Rattle.sequences.proofs.changed_part.Tie as tie
 
-trim-common-prefixes-requires : tie.Need-trim-common-prefixes-requires
-trim-common-prefixes-requires c κs = search needs
-
-rest-requires : tie.Need-rest-requires
-rest-requires c κs = search needs
-
-rest-requires-2 : tie.Need-rest-requires-2
-rest-requires-2 c κs = search needs
-
-trim-common-suffixes-requires : tie.Need-trim-common-suffixes-requires
-trim-common-suffixes-requires c κs = search needs
-
 -- how many bytes go at the back
 removed : (c : tie.After-trim-common-suffixes) → let a = c .before .before .before .before .before .before .args in c .trim-common-suffixes .result ≡ after (a .reference .now) (a .alternative .now)
 removed c =
@@ -56,10 +44,10 @@ pub changed-part-spec : {M : Type 1} → statement M
 changed-part-spec =
     tie.close
     (tie.spec
-    trim-common-prefixes-requires
-    rest-requires
-    rest-requires-2
-    trim-common-suffixes-requires
+    (λ c κs. search needs)
+    (λ c κs. search needs)
+    (λ c κs. search needs)
+    (λ c κs. search needs)
     sub-to
     sub-to-2
     returns

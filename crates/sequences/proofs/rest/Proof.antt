@@ -8,17 +8,11 @@ use borrow.Author.Needs.{needs}
 use Rattle.sequences.proofs.rest.Statement.{statement}
 use Rattle.sequences.proofs.rest.Tie as tie
 
-cut-requires : tie.Need-cut-requires
-cut-requires c κs = search needs
-
 returns : tie.Need-returns
 returns c =
     let a = c .before .before .before .args in
     let begins : min (a .p) (length (a .s .now)) ≡ length (a .s .now) = omega arith in
     rw begins (c .cut .ensures)
-
-cut-requires-2 : tie.Need-cut-requires-2
-cut-requires-2 c κs = search needs
 
 returns-2 : tie.Need-returns-2
 returns-2 c =
@@ -27,4 +21,4 @@ returns-2 c =
     rw begins (c .cut2 .ensures)
 
 pub rest-spec : {M : Type 1} → statement M
-rest-spec = tie.close (tie.spec cut-requires returns cut-requires-2 returns-2)
+rest-spec = tie.close (tie.spec (λ c κs. search needs) returns (λ c κs. search needs) returns-2)

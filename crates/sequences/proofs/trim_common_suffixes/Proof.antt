@@ -5,12 +5,9 @@ use borrow.Author.Needs.{needs}
 use Rattle.sequences.proofs.trim_common_suffixes.Statement.{statement}
 use Rattle.sequences.proofs.trim_common_suffixes.Tie as tie
 
-common-requires : tie.Need-common-requires
-common-requires c κs = search needs
-
 returns : tie.Need-returns
 unfolding suffixLen
 returns c = c .common .ensures
 
 pub trim-common-suffixes-spec : {M : Type 1} → statement M
-trim-common-suffixes-spec = tie.close (tie.spec common-requires returns)
+trim-common-suffixes-spec = tie.close (tie.spec (λ c κs. search needs) returns)

@@ -1,15 +1,9 @@
 -- `transcript::number_of` meets its contract: an arm knows which bound it was handed, and the number in a bound that is given fits 32 bits, so that it is read back as it was. Assumes nothing.
 use mir.Syntax.{w32}
-use Rattle.whole.specs.Whole.{told}
+use Rattle.whole.specs.laws.Whole.{told}
 use borrow.Author.Needs.{needs}
 use Rattle.transcript.proofs.number_of.Statement.{statement}
 use Rattle.transcript.proofs.number_of.Tie as tie
-
-enum-known-bound : tie.Need-enum-known-bound
-enum-known-bound c = search needs
-
-enum-told : tie.Need-enum-told
-enum-told c = search needs
 
 returns : tie.Need-returns
 returns c = rw (c .before .bound .given .1) (told w32 _ (c .known-told .given .0 .1))
@@ -18,4 +12,4 @@ returns-2 : tie.Need-returns-2
 returns-2 c = rw (c .enum-told .given .1)
 
 pub number-of-spec : {M : Type 1} → statement M
-number-of-spec = tie.close (tie.spec enum-known-bound enum-told returns returns-2)
+number-of-spec = tie.close (tie.spec (λ c. search needs) (λ c. search needs) returns returns-2)

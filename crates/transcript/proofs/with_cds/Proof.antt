@@ -2,25 +2,10 @@
 use native.Mathlib.Omega.{arith}
 use mir.Syntax.{w32}
 use mir.ValLaws.{toZ-pos}
-use Rattle.whole.specs.Whole.{told, read}
+use Rattle.whole.specs.laws.Whole.{told, read}
 use borrow.Author.Needs.{needs}
 use Rattle.transcript.proofs.with_cds.Statement.{statement}
 use Rattle.transcript.proofs.with_cds.Tie as tie
-
-cast-given : tie.Need-cast-given
-cast-given c = search needs
-
-start-of-requires : tie.Need-start-of-requires
-start-of-requires c κs = search needs
-
-number-of-requires : tie.Need-number-of-requires
-number-of-requires c κs = search needs
-
-end-of-requires : tie.Need-end-of-requires
-end-of-requires c κs = search needs
-
-number-of-requires-2 : tie.Need-number-of-requires-2
-number-of-requires-2 c κs = search needs
 
 returns : tie.Need-returns
 returns c =
@@ -41,9 +26,9 @@ pub with-cds-spec : {M : Type 1} → statement M
 with-cds-spec =
     tie.close
     (tie.spec
-    cast-given
-    start-of-requires
-    number-of-requires
-    end-of-requires
-    number-of-requires-2
+    (λ c. search needs)
+    (λ c κs. search needs)
+    (λ c κs. search needs)
+    (λ c κs. search needs)
+    (λ c κs. search needs)
     returns)

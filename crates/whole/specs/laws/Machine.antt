@@ -9,7 +9,8 @@ use lib.Signed.{leZ, nonNeg}
 use borrow.Author.Tests.{eq-eqb, ne-eqb, lt-ltb}
 use mir.Syntax.{w32, w64}
 use mir.Val.{Fits, SFits, toZ, ofZ}
-use Rattle.whole.specs.Whole.{eqZ, by-test, eq-by, eq-says, eq-yes-says, eq-yes-by, eq-no-by, read}
+use Rattle.whole.specs.Whole.{eqZ}
+use Rattle.whole.specs.laws.Whole.{by-test, eq-by, eq-says, eq-yes-says, eq-yes-by, eq-no-by, read}
 
 pub other-32 : (a b : ℤ) → (ofZ w32 a ≡ ofZ w32 b → ⊥) → eqZ a b ≡ false
 other-32 a b h = eq-no-by a b (λ q. h (ap (ofZ w32) (eq-by a b q)))

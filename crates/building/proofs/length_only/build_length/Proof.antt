@@ -3,7 +3,7 @@ use mathlib.Core.Path.{_≡_, sym, ap, _∙_}
 use Prim.Native.Nat.{ℕ, _≤_}
 use lib.IntN.{pos, natAbs}
 use Rattle.refusals.specs.Numbers.{mostBases}
-use Rattle.whole.specs.Whole.{read, widened, fits-wider}
+use Rattle.whole.specs.laws.Whole.{read, widened, fits-wider}
 use Rattle.transcript.specs.Heads.{startOf, endOf}
 use Rattle.judging.specs.Judging.{halfFault, cdsFault, lengthFault}
 use Rattle.building.specs.Afterwards.{lengthAnswer}
@@ -22,9 +22,6 @@ returns c = let a = c .before .args in sym (ap lengthAnswer (bits-unknown (a .le
 cast-length-fault : tie.Need-cast-length-fault
 cast-length-fault c = let f = c .before .fits .length in rw (read f) (fits-wider f)
 
-length-fault-requires : tie.Need-length-fault-requires
-length-fault-requires c κs = search needs
-
 -- what 4 and 9 said of the length
 of-length : (c : tie.After-length-fault) → c .length-fault .result ≡ lengthFault (c .before .before .args .length)
 of-length c = rw (widened (c .before .before .fits .length)) at (c .length-fault .ensures)
@@ -33,15 +30,6 @@ returns-2 : tie.Need-returns-2
 returns-2 c =
     let a = c .before .before .before .args in
     sym (ap lengthAnswer (length-refused (a .length) (a .cds) (a .start) (a .end) (c .before .before .if1 .left) (of-length (c .before)) (c .if2 .taken)))
-
-start-of-requires : tie.Need-start-of-requires
-start-of-requires c κs = search needs
-
-end-of-requires : tie.Need-end-of-requires
-end-of-requires c κs = search needs
-
-half-fault-requires : tie.Need-half-fault-requires
-half-fault-requires c κs = search needs
 
 -- what 11 said of the bounds
 module _ (c : tie.After-half-fault) where
@@ -119,11 +107,11 @@ build-length-spec =
     (tie.spec
     returns
     cast-length-fault
-    length-fault-requires
+    (λ c κs. search needs)
     returns-2
-    start-of-requires
-    end-of-requires
-    half-fault-requires
+    (λ c κs. search needs)
+    (λ c κs. search needs)
+    (λ c κs. search needs)
     returns-3
     bases-of-requires
     cds-fault-requires

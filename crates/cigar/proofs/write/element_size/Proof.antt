@@ -5,7 +5,7 @@ use Prim.Native.Nat.{ℕ}
 use lib.IntN.{pos, natAbs}
 use lib.ListN.{length}
 use lib.Signed.{ltZ}
-use Rattle.whole.specs.Whole.{read}
+use Rattle.whole.specs.laws.Whole.{read}
 use Rattle.cigar.specs.Elements.{isLetter}
 use Rattle.cigar.specs.Write.{elementText}
 use Rattle.cigar.specs.declared.write.Written.the-variants as answer
@@ -13,9 +13,6 @@ use Rattle.cigar.proofs.Writing.{alone-long}
 use borrow.Author.Needs.{needs}
 use Rattle.cigar.proofs.write.element_size.Statement.{statement}
 use Rattle.cigar.proofs.write.element_size.Tie as tie
-
-is-letter-requires : tie.Need-is-letter-requires
-is-letter-requires c κs = search needs
 
 returns : tie.Need-returns
 returns c =
@@ -26,9 +23,6 @@ returns c =
 
 unsigned-requires : tie.Need-unsigned-requires
 unsigned-requires c κs = c .if2 .left
-
-element-len-requires : tie.Need-element-len-requires
-element-len-requires c κs = search needs
 
 returns-2 : tie.Need-returns-2
 returns-2 c =
@@ -49,9 +43,9 @@ pub element-size-spec : {M : Type 1} → statement M
 element-size-spec =
     tie.close
     (tie.spec
-    is-letter-requires
+    (λ c κs. search needs)
     returns
     unsigned-requires
-    element-len-requires
+    (λ c κs. search needs)
     returns-2
     returns-3)

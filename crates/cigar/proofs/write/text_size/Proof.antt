@@ -7,7 +7,7 @@ use lib.IntN.{ℤ, pos}
 use lib.ListN.{getD}
 use mir.Syntax.{w32}
 use Rattle.refusals.specs.Outcome.{answered}
-use Rattle.whole.specs.Whole.{told}
+use Rattle.whole.specs.laws.Whole.{told}
 use Rattle.cigar.specs.Text.{Reading}
 use Rattle.cigar.specs.Write.{judged, given, sizeOf, AtMost}
 use Rattle.cigar.proofs.Writing.{leftOf, left-all, left-more, left-none, sizeFrom, size-all, size-none, size-more, size-refused}

@@ -7,7 +7,7 @@ use lib.IntN.{ℤ, pos, negsuc, natAbs}
 use lib.Signed.{ltZ, nonNeg}
 use mir.Syntax.{w32}
 use mir.Val.{Fits, SFits}
-use Rattle.whole.specs.Whole.{read}
+use Rattle.whole.specs.laws.Whole.{read}
 use Rattle.cigar.proofs.write.unsigned.Statement.{statement}
 use Rattle.cigar.proofs.write.unsigned.Tie as tie
 

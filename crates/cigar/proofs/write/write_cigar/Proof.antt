@@ -21,9 +21,6 @@ returns c =
 text-size-requires : tie.Need-text-size-requires
 text-size-requires c κs = (record { counts-long = omega arith; letters-long = omega arith }, omega arith)
 
-enum-known-size : tie.Need-enum-known-size
-enum-known-size c = search needs
-
 -- what the elements take, where they were measured
 module _ (c : tie.After-size) where
   abbrev start : tie.Start
@@ -56,12 +53,6 @@ put-elements-requires c κs =
     let z = sized (all s) (measured s) in
     ((record { counts-long = omega arith; letters-long = omega arith }, few s), (z .granted, omega arith))
 
-enum-known-k : tie.Need-enum-known-k
-enum-known-k c = search needs
-
-same-length : tie.Need-same-length
-same-length c = search needs
-
 returns-4 : tie.Need-returns-4
 returns-4 c =
     let s = c .before .before .before .before .before .before .before .before .before in
@@ -84,11 +75,11 @@ write-cigar-spec =
     (tie.spec
     returns
     text-size-requires
-    enum-known-size
+    (λ c. search needs)
     returns-2
     returns-3
     put-elements-requires
-    enum-known-k
-    same-length
+    (λ c. search needs)
+    (λ c. search needs)
     returns-4
     returns-5)

@@ -1,20 +1,8 @@
 -- `entry::ask::txc_c_to_g` meets its contract: `c_asked` and `head_of` read what is handed over, the mapper's `c_to_g` answers, and `lay_g` lays the answer out. Assumes nothing.
-use Rattle.whole.specs.Whole.{read}
+use Rattle.whole.specs.laws.Whole.{read}
 use borrow.Author.Needs.{needs}
 use Rattle.entry.proofs.ask.txc_c_to_g.Statement.{statement}
 use Rattle.entry.proofs.ask.txc_c_to_g.Tie as tie
-
-c-asked-requires : tie.Need-c-asked-requires
-c-asked-requires c κs = search needs
-
-head-of-requires : tie.Need-head-of-requires
-head-of-requires c κs = search needs
-
-c-to-g-requires : tie.Need-c-to-g-requires
-c-to-g-requires c κs = search needs
-
-lay-g-requires : tie.Need-lay-g-requires
-lay-g-requires c κs = search needs
 
 returns : tie.Need-returns
 returns c =
@@ -32,4 +20,4 @@ returns c =
 
 pub txc-c-to-g-spec : {M : Type 1} → statement M
 txc-c-to-g-spec =
-    tie.close (tie.spec c-asked-requires head-of-requires c-to-g-requires lay-g-requires returns)
+    tie.close (tie.spec (λ c κs. search needs) (λ c κs. search needs) (λ c κs. search needs) (λ c κs. search needs) returns)

@@ -1,20 +1,8 @@
 -- `entry::ask::txc_c_to_n` meets its contract: `c_asked` and `head_of` read what is handed over, the mapper's `c_to_n` answers, and `lay_n_plain` lays the answer out. Assumes nothing.
-use Rattle.whole.specs.Whole.{read}
+use Rattle.whole.specs.laws.Whole.{read}
 use borrow.Author.Needs.{needs}
 use Rattle.entry.proofs.ask.txc_c_to_n.Statement.{statement}
 use Rattle.entry.proofs.ask.txc_c_to_n.Tie as tie
-
-c-asked-requires : tie.Need-c-asked-requires
-c-asked-requires c κs = search needs
-
-head-of-requires : tie.Need-head-of-requires
-head-of-requires c κs = search needs
-
-c-to-n-requires : tie.Need-c-to-n-requires
-c-to-n-requires c κs = search needs
-
-lay-n-plain-requires : tie.Need-lay-n-plain-requires
-lay-n-plain-requires c κs = search needs
 
 returns : tie.Need-returns
 returns c =
@@ -33,4 +21,4 @@ returns c =
 pub txc-c-to-n-spec : {M : Type 1} → statement M
 txc-c-to-n-spec =
     tie.close
-    (tie.spec c-asked-requires head-of-requires c-to-n-requires lay-n-plain-requires returns)
+    (tie.spec (λ c κs. search needs) (λ c κs. search needs) (λ c κs. search needs) (λ c κs. search needs) returns)

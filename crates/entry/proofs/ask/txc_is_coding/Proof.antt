@@ -3,15 +3,6 @@ use borrow.Author.Needs.{needs}
 use Rattle.entry.proofs.ask.txc_is_coding.Statement.{statement}
 use Rattle.entry.proofs.ask.txc_is_coding.Tie as tie
 
-head-of-requires : tie.Need-head-of-requires
-head-of-requires c κs = search needs
-
-is-coding-transcript-requires : tie.Need-is-coding-transcript-requires
-is-coding-transcript-requires c κs = search needs
-
-lay-said-requires : tie.Need-lay-said-requires
-lay-said-requires c κs = search needs
-
 returns : tie.Need-returns
 returns c =
     simp (
@@ -22,4 +13,4 @@ returns c =
 
 pub txc-is-coding-spec : {M : Type 1} → statement M
 txc-is-coding-spec =
-    tie.close (tie.spec head-of-requires is-coding-transcript-requires lay-said-requires returns)
+    tie.close (tie.spec (λ c κs. search needs) (λ c κs. search needs) (λ c κs. search needs) returns)

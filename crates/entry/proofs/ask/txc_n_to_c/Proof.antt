@@ -1,20 +1,8 @@
 -- `entry::ask::txc_n_to_c` meets its contract: `n_asked` and `head_of` read what is handed over, the mapper's `n_to_c` answers, and `lay_c_plain` lays the answer out. Assumes nothing.
-use Rattle.whole.specs.Whole.{read}
+use Rattle.whole.specs.laws.Whole.{read}
 use borrow.Author.Needs.{needs}
 use Rattle.entry.proofs.ask.txc_n_to_c.Statement.{statement}
 use Rattle.entry.proofs.ask.txc_n_to_c.Tie as tie
-
-n-asked-requires : tie.Need-n-asked-requires
-n-asked-requires c κs = search needs
-
-head-of-requires : tie.Need-head-of-requires
-head-of-requires c κs = search needs
-
-n-to-c-requires : tie.Need-n-to-c-requires
-n-to-c-requires c κs = search needs
-
-lay-c-plain-requires : tie.Need-lay-c-plain-requires
-lay-c-plain-requires c κs = search needs
 
 returns : tie.Need-returns
 returns c =
@@ -33,4 +21,4 @@ returns c =
 pub txc-n-to-c-spec : {M : Type 1} → statement M
 txc-n-to-c-spec =
     tie.close
-    (tie.spec n-asked-requires head-of-requires n-to-c-requires lay-c-plain-requires returns)
+    (tie.spec (λ c κs. search needs) (λ c κs. search needs) (λ c κs. search needs) (λ c κs. search needs) returns)

@@ -1,20 +1,11 @@
 -- `entry::build::txc_build` meets its contract: what `build` answers is laid out, and what it leaves in the tables stays.
 use mathlib.Core.Path.{ap, _∙_}
-use Rattle.whole.specs.Whole.{read}
+use Rattle.whole.specs.laws.Whole.{read}
 use Rattle.transcript.specs.declared.Built.{Built}
 use Rattle.entry.specs.Boundary.{builtNumber, builtHead}
 use borrow.Author.Needs.{needs}
 use Rattle.entry.proofs.build.txc_build.Statement.{statement}
 use Rattle.entry.proofs.build.txc_build.Tie as tie
-
-numbers-of-requires : tie.Need-numbers-of-requires
-numbers-of-requires c κs = search needs
-
-build-requires : tie.Need-build-requires
-build-requires c κs = search needs
-
-lay-built-requires : tie.Need-lay-built-requires
-lay-built-requires c κs = search needs
 
 returns : tie.Need-returns
 returns c =
@@ -25,4 +16,4 @@ returns c =
     (c .lay-built .ensures .0 ∙ ap builtNumber (b .0), (c .lay-built .ensures .1 ∙ ap (λ (x : Built). builtHead x (a .args .head .now)) (b .0), b .1))
 
 pub txc-build-spec : {M : Type 1} → statement M
-txc-build-spec = tie.close (tie.spec numbers-of-requires build-requires lay-built-requires returns)
+txc-build-spec = tie.close (tie.spec (λ c κs. search needs) (λ c κs. search needs) (λ c κs. search needs) returns)

@@ -6,12 +6,6 @@ use borrow.Author.Needs.{needs}
 use Rattle.entry.proofs.build.txc_build_card.Statement.{statement}
 use Rattle.entry.proofs.build.txc_build_card.Tie as tie
 
-build-card-requires : tie.Need-build-card-requires
-build-card-requires c κs = search needs
-
-lay-built-requires : tie.Need-lay-built-requires
-lay-built-requires c κs = search needs
-
 returns : tie.Need-returns
 returns c =
     let a = c .before .before .before .before .before .before .before in
@@ -19,4 +13,4 @@ returns c =
     (c .lay-built .ensures .0 ∙ ap builtNumber (b .0), (c .lay-built .ensures .1 ∙ ap (λ (x : Built). builtHead x (a .args .head .now)) (b .0), b .1))
 
 pub txc-build-card-spec : {M : Type 1} → statement M
-txc-build-card-spec = tie.close (tie.spec build-card-requires lay-built-requires returns)
+txc-build-card-spec = tie.close (tie.spec (λ c κs. search needs) (λ c κs. search needs) returns)

@@ -1,17 +1,11 @@
 -- `entry::build::txc_build_length` meets its contract: what `build_length` answers is laid out.
 use mathlib.Core.Path.{ap, _∙_}
-use Rattle.whole.specs.Whole.{read}
+use Rattle.whole.specs.laws.Whole.{read}
 use Rattle.transcript.specs.declared.Built.{Built}
 use Rattle.entry.specs.Boundary.{builtNumber, builtHead}
 use borrow.Author.Needs.{needs}
 use Rattle.entry.proofs.build.txc_build_length.Statement.{statement}
 use Rattle.entry.proofs.build.txc_build_length.Tie as tie
-
-build-length-requires : tie.Need-build-length-requires
-build-length-requires c κs = search needs
-
-lay-built-requires : tie.Need-lay-built-requires
-lay-built-requires c κs = search needs
 
 returns : tie.Need-returns
 returns c =
@@ -20,4 +14,4 @@ returns c =
     (c .lay-built .ensures .0 ∙ ap builtNumber b, c .lay-built .ensures .1 ∙ ap (λ (x : Built). builtHead x (a .args .head .now)) b)
 
 pub txc-build-length-spec : {M : Type 1} → statement M
-txc-build-length-spec = tie.close (tie.spec build-length-requires lay-built-requires returns)
+txc-build-length-spec = tie.close (tie.spec (λ c κs. search needs) (λ c κs. search needs) returns)

@@ -1,7 +1,8 @@
 -- `entry::build::txc_write_card` meets its contract: what `write_card` answers is laid out.
 use mathlib.Core.Path.{_≡_, sym, ap, _∙_}
-use Rattle.whole.specs.Whole.{read}
-use Rattle.entry.specs.Boundary.{numbersOf, writtenLaid}
+use Rattle.whole.specs.laws.Whole.{read}
+use Rattle.judging.specs.Input.{numbersOf}
+use Rattle.entry.specs.Boundary.{writtenLaid}
 use borrow.Author.Needs.{needs}
 use Rattle.entry.proofs.build.txc_write_card.Statement.{statement}
 use Rattle.entry.proofs.build.txc_write_card.Tie as tie
@@ -14,32 +15,11 @@ handed c =
     let f = c .before .before .before .fits in
     simp (read (f .strand), read (f .cds-start), read (f .cds-end)) at (c .numbers-of .ensures)
 
-numbers-of-requires : tie.Need-numbers-of-requires
-numbers-of-requires c κs = search needs
-
-write-card-requires : tie.Need-write-card-requires
-write-card-requires c κs = search needs
-
-enum-known-n : tie.Need-enum-known-n
-enum-known-n c = search needs
-
-enum-known-k : tie.Need-enum-known-k
-enum-known-k c = search needs
-
-cast-t15 : tie.Need-cast-t15
-cast-t15 c = search needs
-
-same-length : tie.Need-same-length
-same-length c = search needs
-
 returns : tie.Need-returns
 returns c =
     let w = c .before .before .before .before .before in
     let r = simp (handed (w .before .before)) at (w .write-card .ensures) in
     (ap writtenLaid (sym (c .before .n .given .1) ∙ r .0), r .1)
-
-same-length-2 : tie.Need-same-length-2
-same-length-2 c = search needs
 
 returns-2 : tie.Need-returns-2
 returns-2 c =
@@ -51,12 +31,12 @@ pub txc-write-card-spec : {M : Type 1} → statement M
 txc-write-card-spec =
     tie.close
     (tie.spec
-    numbers-of-requires
-    write-card-requires
-    enum-known-n
-    enum-known-k
-    cast-t15
-    same-length
+    (λ c κs. search needs)
+    (λ c κs. search needs)
+    (λ c. search needs)
+    (λ c. search needs)
+    (λ c. search needs)
+    (λ c. search needs)
     returns
-    same-length-2
+    (λ c. search needs)
     returns-2)

@@ -5,18 +5,6 @@ use borrow.Author.Needs.{needs}
 use Rattle.entry.proofs.text.txc_read_cigar.Statement.{statement}
 use Rattle.entry.proofs.text.txc_read_cigar.Tie as tie
 
-read-cigar-requires : tie.Need-read-cigar-requires
-read-cigar-requires c κs = search needs
-
-enum-known-n : tie.Need-enum-known-n
-enum-known-n c = search needs
-
-enum-known-k : tie.Need-enum-known-k
-enum-known-k c = search needs
-
-cast-t10 : tie.Need-cast-t10
-cast-t10 c = search needs
-
 returns : tie.Need-returns
 returns c =
     let r = c .before .before .before .read-cigar in
@@ -29,4 +17,4 @@ returns-2 c =
 
 pub txc-read-cigar-spec : {M : Type 1} → statement M
 txc-read-cigar-spec =
-    tie.close (tie.spec read-cigar-requires enum-known-n enum-known-k cast-t10 returns returns-2)
+    tie.close (tie.spec (λ c κs. search needs) (λ c. search needs) (λ c. search needs) (λ c. search needs) returns returns-2)

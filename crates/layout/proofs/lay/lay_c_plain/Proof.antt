@@ -3,24 +3,6 @@ use borrow.Author.Needs.{needs}
 use Rattle.layout.proofs.lay.lay_c_plain.Statement.{statement}
 use Rattle.layout.proofs.lay.lay_c_plain.Tie as tie
 
-enum-known-a : tie.Need-enum-known-a
-enum-known-a c = search needs
-
-c-position-requires : tie.Need-c-position-requires
-c-position-requires c κs = search needs
-
-c-position-requires-2 : tie.Need-c-position-requires-2
-c-position-requires-2 c κs = search needs
-
-answer-of-requires : tie.Need-answer-of-requires
-answer-of-requires c κs = search needs
-
-enum-known-a-2 : tie.Need-enum-known-a-2
-enum-known-a-2 c = search needs
-
-refusal-of-requires : tie.Need-refusal-of-requires
-refusal-of-requires c κs = search needs
-
 returns : tie.Need-returns
 returns c = simp (c .before .before .before .before .a .given .1, c .answer-of .ensures, c .before .c-position2 .ensures, c .before .before .c-position .ensures)
 
@@ -31,11 +13,11 @@ pub lay-c-plain-spec : {M : Type 1} → statement M
 lay-c-plain-spec =
     tie.close
     (tie.spec
-    enum-known-a
-    c-position-requires
-    c-position-requires-2
-    answer-of-requires
-    enum-known-a-2
-    refusal-of-requires
+    (λ c. search needs)
+    (λ c κs. search needs)
+    (λ c κs. search needs)
+    (λ c κs. search needs)
+    (λ c. search needs)
+    (λ c κs. search needs)
     returns
     returns-2)

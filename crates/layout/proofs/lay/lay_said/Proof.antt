@@ -3,18 +3,6 @@ use borrow.Author.Needs.{needs}
 use Rattle.layout.proofs.lay.lay_said.Statement.{statement}
 use Rattle.layout.proofs.lay.lay_said.Tie as tie
 
-enum-told : tie.Need-enum-told
-enum-told c = search needs
-
-enum-told-2 : tie.Need-enum-told-2
-enum-told-2 c = search needs
-
-enum-known-a : tie.Need-enum-known-a
-enum-known-a c = search needs
-
-cast-t4 : tie.Need-cast-t4
-cast-t4 c = search needs
-
 returns : tie.Need-returns
 returns c = simp (c .enum-told .given .1)
 
@@ -26,4 +14,4 @@ returns-3 c = simp (c .before .a .given .1)
 
 pub lay-said-spec : {M : Type 1} → statement M
 lay-said-spec =
-    tie.close (tie.spec enum-told enum-told-2 enum-known-a cast-t4 returns returns-2 returns-3)
+    tie.close (tie.spec (λ c. search needs) (λ c. search needs) (λ c. search needs) (λ c. search needs) returns returns-2 returns-3)

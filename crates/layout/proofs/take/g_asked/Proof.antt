@@ -1,15 +1,9 @@
 -- `layout::take::g_asked` meets its contract: each end is that of its own bit. Assumes nothing.
-use Rattle.whole.specs.Whole.{read}
+use Rattle.whole.specs.laws.Whole.{read}
 use borrow.Author.Needs.{needs}
 use Rattle.layout.specs.Layout.{gAsked}
 use Rattle.layout.proofs.take.g_asked.Statement.{statement}
 use Rattle.layout.proofs.take.g_asked.Tie as tie
-
-g-end-requires : tie.Need-g-end-requires
-g-end-requires c κs = search needs
-
-g-end-requires-2 : tie.Need-g-end-requires-2
-g-end-requires-2 c κs = search needs
 
 returns : tie.Need-returns
 unfolding gAsked
@@ -18,4 +12,4 @@ returns c =
     simp (c .before .g-end .ensures, c .g-end2 .ensures, read (a .fits .start), read (a .fits .end))
 
 pub g-asked-spec : {M : Type 1} → statement M
-g-asked-spec = tie.close (tie.spec g-end-requires g-end-requires-2 returns)
+g-asked-spec = tie.close (tie.spec (λ c κs. search needs) (λ c κs. search needs) returns)

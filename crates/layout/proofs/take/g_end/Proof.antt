@@ -1,5 +1,5 @@
 -- `layout::take::g_end` meets its contract: the bit says which of the two it is, and the number is read back as it was handed over. Assumes nothing.
-use Rattle.whole.specs.Whole.{read}
+use Rattle.whole.specs.laws.Whole.{read}
 use Rattle.layout.proofs.take.g_end.Statement.{statement}
 use Rattle.layout.proofs.take.g_end.Tie as tie
 

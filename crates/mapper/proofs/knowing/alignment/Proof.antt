@@ -6,12 +6,6 @@ use borrow.Author.Needs.{needs}
 use Rattle.mapper.proofs.knowing.alignment.Statement.{statement}
 use Rattle.mapper.proofs.knowing.alignment.Tie as tie
 
-first-start-requires : tie.Need-first-start-requires
-first-start-requires c κs = search needs
-
-segment-count-requires : tie.Need-segment-count-requires
-segment-count-requires c κs = search needs
-
 returns : tie.Need-returns
 returns c =
     let f = c .before in
@@ -20,4 +14,4 @@ returns c =
     simp (strand, f .first-start .ensures, c .segment-count .ensures .0)
 
 pub alignment-spec : {M : Type 1} → statement M
-alignment-spec = tie.close (tie.spec first-start-requires segment-count-requires returns)
+alignment-spec = tie.close (tie.spec (λ c κs. search needs) (λ c κs. search needs) returns)

@@ -5,7 +5,7 @@ use native.Mathlib.Omega.{arith}
 use borrow.Author.Tests.{eq-eqb, ne-eqb}
 use lib.IntN.{pos}
 use mir.Syntax.{w32}
-use Rattle.whole.specs.Whole.{told}
+use Rattle.whole.specs.laws.Whole.{told}
 use Rattle.whole.specs.laws.Machine.{bits-32}
 use Rattle.holding.specs.Holding.{bothGiven}
 use Rattle.mapper.proofs.knowing.coding_of.Statement.{statement}

@@ -5,7 +5,7 @@ use native.Mathlib.Omega.{arith}
 use lib.IntN.{pos}
 use mir.Syntax.{w32}
 use mir.Val.{SFits}
-use Rattle.whole.specs.Whole.{told}
+use Rattle.whole.specs.laws.Whole.{told}
 use Rattle.whole.specs.laws.Machine.{same-32, other-32}
 use Rattle.holding.specs.Holding.{ofRecords, lent, holds}
 use Rattle.holding.specs.laws.Held.{natural-says, together, length-right, held-head}
@@ -24,9 +24,6 @@ is-records c =
 
 is-length : (c : tie.Else2) → ofRecords (c .before .before .before .before .before .args .head) ≡ false
 is-length c = other-32 (c .before .before .before .before .before .args .head .kind) (pos 0) (c .if2 .left)
-
-check-requires : tie.Need-check-requires
-check-requires c κs = search needs
 
 coding-of-requires : tie.Need-coding-of-requires
 coding-of-requires c κs = natural-bounds _ (is-held c)
@@ -58,4 +55,4 @@ returns-3 : tie.Need-returns-3
 returns-3 c = rw (sym (c .before .check .ensures) ∙ c .if1 .left)
 
 pub known-of-spec : {M : Type 1} → statement M
-known-of-spec = tie.close (tie.spec check-requires coding-of-requires alignment-requires returns natural-requires returns-2 returns-3)
+known-of-spec = tie.close (tie.spec (λ c κs. search needs) coding-of-requires alignment-requires returns natural-requires returns-2 returns-3)

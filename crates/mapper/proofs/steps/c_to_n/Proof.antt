@@ -4,15 +4,6 @@ use borrow.Author.Needs.{needs}
 use Rattle.mapper.proofs.steps.c_to_n.Statement.{statement}
 use Rattle.mapper.proofs.steps.c_to_n.Tie as tie
 
-enum-known-cds : tie.Need-enum-known-cds
-enum-known-cds c = search needs
-
-to-n-requires : tie.Need-to-n-requires
-to-n-requires c κs = search needs
-
-enum-told : tie.Need-enum-told
-enum-told c = search needs
-
 returns : tie.Need-returns
 returns c = rw (c .before .before .cds .given .1) (c .to-n .ensures)
 
@@ -21,4 +12,4 @@ unfolding cToN
 returns-2 c = rw (c .enum-told .given .1)
 
 pub c-to-n-spec : {M : Type 1} → statement M
-c-to-n-spec = tie.close (tie.spec enum-known-cds to-n-requires enum-told returns returns-2)
+c-to-n-spec = tie.close (tie.spec (λ c. search needs) (λ c κs. search needs) (λ c. search needs) returns returns-2)

@@ -1,21 +1,9 @@
 -- `mapper::steps::g_to_n` meets its contract: where both ends are given the mapping of `places` is asked, and else it is 19. Assumes nothing.
 use mir.Syntax.{w32}
-use Rattle.whole.specs.Whole.{told}
+use Rattle.whole.specs.laws.Whole.{told}
 use borrow.Author.Needs.{needs}
 use Rattle.mapper.proofs.steps.g_to_n.Statement.{statement}
 use Rattle.mapper.proofs.steps.g_to_n.Tie as tie
-
-both-ends-requires : tie.Need-both-ends-requires
-both-ends-requires c κs = search needs
-
-enum-known-from : tie.Need-enum-known-from
-enum-known-from c = search needs
-
-to-n-requires : tie.Need-to-n-requires
-to-n-requires c κs = search needs
-
-enum-told : tie.Need-enum-told
-enum-told c = search needs
 
 returns : tie.Need-returns
 returns c =
@@ -29,4 +17,4 @@ returns-2 : tie.Need-returns-2
 returns-2 c = rw (← c .before .before .both-ends .ensures, c .enum-told .given .1)
 
 pub g-to-n-spec : {M : Type 1} → statement M
-g-to-n-spec = tie.close (tie.spec both-ends-requires enum-known-from to-n-requires enum-told returns returns-2)
+g-to-n-spec = tie.close (tie.spec (λ c κs. search needs) (λ c. search needs) (λ c κs. search needs) (λ c. search needs) returns returns-2)

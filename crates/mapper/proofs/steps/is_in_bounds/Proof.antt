@@ -2,22 +2,10 @@
 use mathlib.Core.Path.{sym, ap, _∙_}
 use mir.Syntax.{w32}
 use Rattle.refusals.specs.Outcome.{answered}
-use Rattle.whole.specs.Whole.{told}
+use Rattle.whole.specs.laws.Whole.{told}
 use borrow.Author.Needs.{needs}
 use Rattle.mapper.proofs.steps.is_in_bounds.Statement.{statement}
 use Rattle.mapper.proofs.steps.is_in_bounds.Tie as tie
-
-both-ends-requires : tie.Need-both-ends-requires
-both-ends-requires c κs = search needs
-
-enum-known-from : tie.Need-enum-known-from
-enum-known-from c = search needs
-
-is-in-bounds-requires : tie.Need-is-in-bounds-requires
-is-in-bounds-requires c κs = search needs
-
-enum-told : tie.Need-enum-told
-enum-told c = search needs
 
 returns : tie.Need-returns
 returns c =
@@ -41,4 +29,4 @@ returns-3 : tie.Need-returns-3
 returns-3 c = rw (← c .before .before .both-ends .ensures, c .enum-told .given .1)
 
 pub is-in-bounds-spec : {M : Type 1} → statement M
-is-in-bounds-spec = tie.close (tie.spec both-ends-requires enum-known-from is-in-bounds-requires enum-told returns returns-2 returns-3)
+is-in-bounds-spec = tie.close (tie.spec (λ c κs. search needs) (λ c. search needs) (λ c κs. search needs) (λ c. search needs) returns returns-2 returns-3)

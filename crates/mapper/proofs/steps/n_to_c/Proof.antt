@@ -4,15 +4,6 @@ use borrow.Author.Needs.{needs}
 use Rattle.mapper.proofs.steps.n_to_c.Statement.{statement}
 use Rattle.mapper.proofs.steps.n_to_c.Tie as tie
 
-enum-known-cds : tie.Need-enum-known-cds
-enum-known-cds c = search needs
-
-to-c-requires : tie.Need-to-c-requires
-to-c-requires c κs = search needs
-
-enum-told : tie.Need-enum-told
-enum-told c = search needs
-
 returns : tie.Need-returns
 returns c = rw (c .before .before .cds .given .1) (c .to-c .ensures)
 
@@ -21,4 +12,4 @@ unfolding nToC cOfInterval
 returns-2 c = rw (c .enum-told .given .1)
 
 pub n-to-c-spec : {M : Type 1} → statement M
-n-to-c-spec = tie.close (tie.spec enum-known-cds to-c-requires enum-told returns returns-2)
+n-to-c-spec = tie.close (tie.spec (λ c. search needs) (λ c κs. search needs) (λ c. search needs) returns returns-2)

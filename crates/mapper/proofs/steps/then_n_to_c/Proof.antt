@@ -3,33 +3,6 @@ use borrow.Author.Needs.{needs}
 use Rattle.mapper.proofs.steps.then_n_to_c.Statement.{statement}
 use Rattle.mapper.proofs.steps.then_n_to_c.Tie as tie
 
-enum-known-n : tie.Need-enum-known-n
-enum-known-n c = search needs
-
-asked-again-requires : tie.Need-asked-again-requires
-asked-again-requires c κs = search needs
-
-n-to-c-requires : tie.Need-n-to-c-requires
-n-to-c-requires c κs = search needs
-
-c-marked-requires : tie.Need-c-marked-requires
-c-marked-requires c κs = search needs
-
-enum-known-n-2 : tie.Need-enum-known-n-2
-enum-known-n-2 c = search needs
-
-asked-again-requires-2 : tie.Need-asked-again-requires-2
-asked-again-requires-2 c κs = search needs
-
-n-to-c-requires-2 : tie.Need-n-to-c-requires-2
-n-to-c-requires-2 c κs = search needs
-
-c-marked-requires-2 : tie.Need-c-marked-requires-2
-c-marked-requires-2 c κs = search needs
-
-enum-known-n-3 : tie.Need-enum-known-n-3
-enum-known-n-3 c = search needs
-
 returns : tie.Need-returns
 returns c =
     let n = c .before in
@@ -46,4 +19,4 @@ returns-3 : tie.Need-returns-3
 returns-3 c = rw (c .before .n3 .given .1)
 
 pub then-n-to-c-spec : {M : Type 1} → statement M
-then-n-to-c-spec = tie.close (tie.spec enum-known-n asked-again-requires n-to-c-requires c-marked-requires enum-known-n-2 asked-again-requires-2 n-to-c-requires-2 c-marked-requires-2 enum-known-n-3 returns returns-2 returns-3)
+then-n-to-c-spec = tie.close (tie.spec (λ c. search needs) (λ c κs. search needs) (λ c κs. search needs) (λ c κs. search needs) (λ c. search needs) (λ c κs. search needs) (λ c κs. search needs) (λ c κs. search needs) (λ c. search needs) returns returns-2 returns-3)

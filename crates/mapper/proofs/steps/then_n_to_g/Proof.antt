@@ -5,18 +5,6 @@ use borrow.Author.Needs.{needs}
 use Rattle.mapper.proofs.steps.then_n_to_g.Statement.{statement}
 use Rattle.mapper.proofs.steps.then_n_to_g.Tie as tie
 
-enum-known-n : tie.Need-enum-known-n
-enum-known-n c = search needs
-
-asked-again-requires : tie.Need-asked-again-requires
-asked-again-requires c κs = search needs
-
-to-g-requires : tie.Need-to-g-requires
-to-g-requires c κs = search needs
-
-enum-known-n-2 : tie.Need-enum-known-n-2
-enum-known-n-2 c = search needs
-
 returns : tie.Need-returns
 returns c =
     let q = c .before in
@@ -26,4 +14,4 @@ returns-2 : tie.Need-returns-2
 returns-2 c = rw (c .before .n2 .given .1)
 
 pub then-n-to-g-spec : {M : Type 1} → statement M
-then-n-to-g-spec = tie.close (tie.spec enum-known-n asked-again-requires to-g-requires enum-known-n-2 returns returns-2)
+then-n-to-g-spec = tie.close (tie.spec (λ c. search needs) (λ c κs. search needs) (λ c κs. search needs) (λ c. search needs) returns returns-2)

@@ -3,12 +3,6 @@ use borrow.Author.Needs.{needs}
 use Rattle.mapper.proofs.steps.then_no_genome.Statement.{statement}
 use Rattle.mapper.proofs.steps.then_no_genome.Tie as tie
 
-enum-told : tie.Need-enum-told
-enum-told c = search needs
-
-enum-known-n : tie.Need-enum-known-n
-enum-known-n c = search needs
-
 returns : tie.Need-returns
 returns c = rw (c .enum-told .given .1)
 
@@ -16,4 +10,4 @@ returns-2 : tie.Need-returns-2
 returns-2 c = rw (c .before .n .given .1)
 
 pub then-no-genome-spec : {M : Type 1} → statement M
-then-no-genome-spec = tie.close (tie.spec enum-told enum-known-n returns returns-2)
+then-no-genome-spec = tie.close (tie.spec (λ c. search needs) (λ c. search needs) returns returns-2)

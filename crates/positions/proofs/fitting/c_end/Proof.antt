@@ -2,7 +2,7 @@
 use mathlib.Core.Path.{_≡_, sym, _∙_}
 use borrow.Author.Needs.{needs}
 use mir.Syntax.{w64}
-use Rattle.whole.specs.Whole.{read, told}
+use Rattle.whole.specs.laws.Whole.{read, told}
 use Rattle.whole.specs.Fits.{fitOf}
 use Rattle.positions.proofs.Wide.{fits-yes, fit-number, fit-wide}
 use Rattle.positions.proofs.fitting.c_end.Statement.{statement}
@@ -10,15 +10,6 @@ use Rattle.positions.proofs.fitting.c_end.Tie as tie
 
 fit-is : (c : tie.After-fits2) → fitOf (c .before .before .args .c .0) ≡ c .fits2 .result
 fit-is c = sym (simp (told w64 (c .before .before .args .c .0) (c .before .struct-told .given .0 .1)) at (c .fits2 .ensures))
-
-fits-requires : tie.Need-fits-requires
-fits-requires c κs = search needs
-
-enum-known-base : tie.Need-enum-known-base
-enum-known-base c = search needs
-
-enum-told : tie.Need-enum-told
-enum-told c = search needs
 
 returns : tie.Need-returns
 returns c =
@@ -31,4 +22,4 @@ returns-2 : tie.Need-returns-2
 returns-2 c = simp (fit-wide _ (fit-is (c .before .before) ∙ c .enum-told .given .1))
 
 pub c-end-spec : {M : Type 1} → statement M
-c-end-spec = tie.close (tie.spec fits-requires enum-known-base enum-told returns returns-2)
+c-end-spec = tie.close (tie.spec (λ c κs. search needs) (λ c. search needs) (λ c. search needs) returns returns-2)

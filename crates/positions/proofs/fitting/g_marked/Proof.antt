@@ -3,21 +3,6 @@ use borrow.Author.Needs.{needs}
 use Rattle.positions.proofs.fitting.g_marked.Statement.{statement}
 use Rattle.positions.proofs.fitting.g_marked.Tie as tie
 
-enum-known-a : tie.Need-enum-known-a
-enum-known-a c = search needs
-
-enum-known-b : tie.Need-enum-known-b
-enum-known-b c = search needs
-
-g-interval-requires : tie.Need-g-interval-requires
-g-interval-requires c κs = search needs
-
-enum-known-b-2 : tie.Need-enum-known-b-2
-enum-known-b-2 c = search needs
-
-enum-known-a-2 : tie.Need-enum-known-a-2
-enum-known-a-2 c = search needs
-
 returns : tie.Need-returns
 returns c = simp (c .before .before .before .before .before .a .given .1, c .before .before .b .given .1) (c .g-interval .ensures)
 
@@ -31,11 +16,11 @@ pub g-marked-spec : {M : Type 1} → statement M
 g-marked-spec =
     tie.close
     (tie.spec
-    enum-known-a
-    enum-known-b
-    g-interval-requires
-    enum-known-b-2
-    enum-known-a-2
+    (λ c. search needs)
+    (λ c. search needs)
+    (λ c κs. search needs)
+    (λ c. search needs)
+    (λ c. search needs)
     returns
     returns-2
     returns-3)

@@ -3,7 +3,7 @@ use mathlib.Core.Path.{_≡_, sym, _∙_}
 use mathlib.Core.Bool.{and-false}
 use borrow.Author.Needs.{needs}
 use mir.Syntax.{w64}
-use Rattle.whole.specs.Whole.{read, told}
+use Rattle.whole.specs.laws.Whole.{read, told}
 use Rattle.whole.specs.Fits.{fitOf}
 use Rattle.positions.proofs.Wide.{fit-number, fit-wide}
 use Rattle.positions.proofs.fitting.n_end.Statement.{statement}
@@ -14,24 +14,6 @@ base-is c = sym (simp (told w64 (c .before .before .args .n .0) (c .before .stru
 
 offset-is : (c : tie.After-fits3) → fitOf (c .before .before .before .before .before .before .args .offset) ≡ c .fits3 .result
 offset-is c = sym (simp (read (c .before .before .before .before .before .before .fits .offset)) at (c .fits3 .ensures))
-
-fits-requires : tie.Need-fits-requires
-fits-requires c κs = search needs
-
-enum-known-base : tie.Need-enum-known-base
-enum-known-base c = search needs
-
-fits-requires-2 : tie.Need-fits-requires-2
-fits-requires-2 c κs = search needs
-
-enum-known-offset : tie.Need-enum-known-offset
-enum-known-offset c = search needs
-
-enum-told : tie.Need-enum-told
-enum-told c = search needs
-
-enum-told-2 : tie.Need-enum-told-2
-enum-told-2 c = search needs
 
 returns : tie.Need-returns
 returns c =
@@ -51,12 +33,12 @@ pub n-end-spec : {M : Type 1} → statement M
 n-end-spec =
     tie.close
     (tie.spec
-    fits-requires
-    enum-known-base
-    fits-requires-2
-    enum-known-offset
-    enum-told
-    enum-told-2
+    (λ c κs. search needs)
+    (λ c. search needs)
+    (λ c κs. search needs)
+    (λ c. search needs)
+    (λ c. search needs)
+    (λ c. search needs)
     returns
     returns-2
     returns-3)

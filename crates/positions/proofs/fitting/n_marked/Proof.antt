@@ -3,12 +3,6 @@ use borrow.Author.Needs.{needs}
 use Rattle.positions.proofs.fitting.n_marked.Statement.{statement}
 use Rattle.positions.proofs.fitting.n_marked.Tie as tie
 
-enum-known-a : tie.Need-enum-known-a
-enum-known-a c = search needs
-
-enum-known-a-2 : tie.Need-enum-known-a-2
-enum-known-a-2 c = search needs
-
 returns : tie.Need-returns
 returns c = simp (c .before .before .a .given .1, c .if1 .taken)
 
@@ -19,4 +13,4 @@ returns-3 : tie.Need-returns-3
 returns-3 c = simp (c .before .a2 .given .1)
 
 pub n-marked-spec : {M : Type 1} → statement M
-n-marked-spec = tie.close (tie.spec enum-known-a enum-known-a-2 returns returns-2 returns-3)
+n-marked-spec = tie.close (tie.spec (λ c. search needs) (λ c. search needs) returns returns-2 returns-3)

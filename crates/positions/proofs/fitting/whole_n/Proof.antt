@@ -1,6 +1,6 @@
 -- An `i32` widened is itself, and small enough for the crossings. Assumes nothing.
 use mathlib.Core.Path.{refl}
-use Rattle.whole.specs.Whole.{widened, i32-40, fits-wider, read}
+use Rattle.whole.specs.laws.Whole.{widened, i32-40, fits-wider, read}
 use Rattle.positions.proofs.fitting.whole_n.Statement.{statement}
 use Rattle.positions.proofs.fitting.whole_n.Tie as tie
 

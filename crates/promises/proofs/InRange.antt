@@ -4,7 +4,7 @@ use native.Mathlib.Omega.{arith}
 use mathlib.Core.Bool.{true}
 use mathlib.Core.Path.{_≡_, sym, _∙_, subst}
 use Rattle.refusals.specs.Numbers.{mostBases}
-use Rattle.whole.specs.Whole.{by-test}
+use Rattle.whole.specs.laws.Whole.{by-test}
 use Rattle.transcript.specs.Transcript.{Transcript, Cds, genomeLength, transcriptLength}
 use Rattle.transcript.specs.Transcript.Source.{aligned, lengthOnly}
 use Rattle.transcript.specs.declared.Head.{Head}
@@ -12,7 +12,7 @@ use Rattle.judging.specs.laws.Accepted.{CdsInside}
 use Rattle.holding.specs.Holding.{Lent, ofRecords, bothGiven, holds, headCds, transcriptOf, sourceOf}
 use Rattle.holding.specs.laws.Held.{CdsRight, cds-bounds, together, source-of-records, source-of-length, genome-length, transcript-length}
 
-pub record Sound (t : Transcript) : Type 0 where
+pub record InRange (t : Transcript) : Type 0 where
   pub transcript-small : transcriptLength t ≤ mostBases
   pub genome-small : t .first + genomeLength t ≤ mostBases
   pub cds-inside : CdsInside (t .coding) (transcriptLength t)
@@ -24,13 +24,13 @@ head-inside h len right small =
     (λ given. let b = cds-bounds h len right given small in rw given (b .ordered, b .within))
     (λ given. rw given tt)
 
-pub held-sound : (x : Lent) (t : Transcript) → holds x ≡ true → sourceOf x ≡ aligned t → Sound t
-held-sound x t held stands =
+pub held-in-range : (x : Lent) (t : Transcript) → holds x ≡ true → sourceOf x ≡ aligned t → InRange t
+held-in-range x t held stands =
     by-test (ofRecords (x .head))
     (λ r.
     let w = together x held r in
     let is : transcriptOf x ≡ t = same (sym (source-of-records x r) ∙ stands) in
-    subst Sound is (record {
+    subst InRange is (record {
       transcript-small = rw (transcript-length x w) (w .transcript-within);
       genome-small = rw (genome-length x w) (w .genome-within);
       cds-inside = rw (transcript-length x w) (head-inside (x .head) _ (w .cds) (w .transcript-within));
