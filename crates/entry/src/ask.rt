@@ -1,8 +1,7 @@
 // The questions for the host, over a lent head and the three lent tables.
 ghost use mathlib.Core.Path.{_≡_};
-ghost use Rattle.holding.specs.Holding.{checked};
-ghost use Rattle.mapper.specs.Asking.{askGToN, askNToG, askNToC, askCToN, askGToC, askCToG, askCoding, askInBounds};
-ghost use Rattle.layout.specs.Layout.{lentAt, gAsked, nAsked, cAsked, gLaid, nLaid, cLaid, laid, saidLaid};
+ghost use Rattle.layout.specs.Layout.{lentAt};
+ghost use Rattle.entry.specs.Told.{toldGToN, toldGToC, toldNToG, toldNToC, toldCToN, toldCToG, toldInBounds, toldCoding};
 use layout::lay;
 use layout::lay::Answer;
 use layout::lay::Said;
@@ -21,7 +20,7 @@ pub extern "C" fn txc_g_to_n(
     missing: u32,
     strict: bool,
 ) -> Answer
-    ensures { λ r. ⌜ r ≡ laid nLaid (checked (lentAt (now (head .entry)) (now (genome .entry)) (now (transcript .entry)) (now (letters .entry))) (askGToN strict (gAsked start end missing))) ⌝ }
+    ensures { λ r. ⌜ r ≡ toldGToN (lentAt (now (head .entry)) (now (genome .entry)) (now (transcript .entry)) (now (letters .entry))) start end missing strict ⌝ }
 {
     let g = take::g_asked(start, end, missing);
     lay::lay_n(mapper::g_to_n(take::head_of(head), genome, transcript, letters, g, strict))
@@ -38,7 +37,7 @@ pub extern "C" fn txc_g_to_c(
     missing: u32,
     strict: bool,
 ) -> Answer
-    ensures { λ r. ⌜ r ≡ laid cLaid (checked (lentAt (now (head .entry)) (now (genome .entry)) (now (transcript .entry)) (now (letters .entry))) (askGToC strict (gAsked start end missing))) ⌝ }
+    ensures { λ r. ⌜ r ≡ toldGToC (lentAt (now (head .entry)) (now (genome .entry)) (now (transcript .entry)) (now (letters .entry))) start end missing strict ⌝ }
 {
     let g = take::g_asked(start, end, missing);
     lay::lay_c(mapper::g_to_c(take::head_of(head), genome, transcript, letters, g, strict))
@@ -56,7 +55,7 @@ pub extern "C" fn txc_n_to_g(
     end_offset: i32,
     strict: bool,
 ) -> Answer
-    ensures { λ r. ⌜ r ≡ laid gLaid (checked (lentAt (now (head .entry)) (now (genome .entry)) (now (transcript .entry)) (now (letters .entry))) (askNToG strict (nAsked start «start_offset» end «end_offset»))) ⌝ }
+    ensures { λ r. ⌜ r ≡ toldNToG (lentAt (now (head .entry)) (now (genome .entry)) (now (transcript .entry)) (now (letters .entry))) start «start_offset» end «end_offset» strict ⌝ }
 {
     let n = take::n_asked(start, start_offset, end, end_offset);
     lay::lay_g(mapper::n_to_g(take::head_of(head), genome, transcript, letters, n, strict))
@@ -74,7 +73,7 @@ pub extern "C" fn txc_n_to_c(
     end_offset: i32,
     strict: bool,
 ) -> Answer
-    ensures { λ r. ⌜ r ≡ laid cLaid (checked (lentAt (now (head .entry)) (now (genome .entry)) (now (transcript .entry)) (now (letters .entry))) (askNToC strict (nAsked start «start_offset» end «end_offset»))) ⌝ }
+    ensures { λ r. ⌜ r ≡ toldNToC (lentAt (now (head .entry)) (now (genome .entry)) (now (transcript .entry)) (now (letters .entry))) start «start_offset» end «end_offset» strict ⌝ }
 {
     let n = take::n_asked(start, start_offset, end, end_offset);
     lay::lay_c_plain(mapper::n_to_c(take::head_of(head), genome, transcript, letters, n, strict))
@@ -94,7 +93,7 @@ pub extern "C" fn txc_c_to_n(
     end_star: bool,
     strict: bool,
 ) -> Answer
-    ensures { λ r. ⌜ r ≡ laid nLaid (checked (lentAt (now (head .entry)) (now (genome .entry)) (now (transcript .entry)) (now (letters .entry))) (askCToN strict (cAsked start «start_offset» «start_star» end «end_offset» «end_star»))) ⌝ }
+    ensures { λ r. ⌜ r ≡ toldCToN (lentAt (now (head .entry)) (now (genome .entry)) (now (transcript .entry)) (now (letters .entry))) start «start_offset» «start_star» end «end_offset» «end_star» strict ⌝ }
 {
     let c = take::c_asked(start, start_offset, start_star, end, end_offset, end_star);
     lay::lay_n_plain(mapper::c_to_n(take::head_of(head), genome, transcript, letters, c, strict))
@@ -114,7 +113,7 @@ pub extern "C" fn txc_c_to_g(
     end_star: bool,
     strict: bool,
 ) -> Answer
-    ensures { λ r. ⌜ r ≡ laid gLaid (checked (lentAt (now (head .entry)) (now (genome .entry)) (now (transcript .entry)) (now (letters .entry))) (askCToG strict (cAsked start «start_offset» «start_star» end «end_offset» «end_star»))) ⌝ }
+    ensures { λ r. ⌜ r ≡ toldCToG (lentAt (now (head .entry)) (now (genome .entry)) (now (transcript .entry)) (now (letters .entry))) start «start_offset» «start_star» end «end_offset» «end_star» strict ⌝ }
 {
     let c = take::c_asked(start, start_offset, start_star, end, end_offset, end_star);
     lay::lay_g(mapper::c_to_g(take::head_of(head), genome, transcript, letters, c, strict))
@@ -131,7 +130,7 @@ pub extern "C" fn txc_in_bounds(
     end: i32,
     missing: u32,
 ) -> Said
-    ensures { λ r. ⌜ r ≡ saidLaid (checked (lentAt (now (head .entry)) (now (genome .entry)) (now (transcript .entry)) (now (letters .entry))) (askInBounds (gAsked start end missing))) ⌝ }
+    ensures { λ r. ⌜ r ≡ toldInBounds (lentAt (now (head .entry)) (now (genome .entry)) (now (transcript .entry)) (now (letters .entry))) start end missing ⌝ }
 {
     let g = take::g_asked(start, end, missing);
     lay::lay_said(mapper::is_g_interval_in_bounds(
@@ -151,7 +150,7 @@ pub extern "C" fn txc_is_coding(
     transcript: &[u32; MOST_STARTS],
     letters: &[u8; MOST_SEGMENTS],
 ) -> Said
-    ensures { λ r. ⌜ r ≡ saidLaid (checked (lentAt (now (head .entry)) (now (genome .entry)) (now (transcript .entry)) (now (letters .entry))) askCoding) ⌝ }
+    ensures { λ r. ⌜ r ≡ toldCoding (lentAt (now (head .entry)) (now (genome .entry)) (now (transcript .entry)) (now (letters .entry))) ⌝ }
 {
     lay::lay_said(mapper::is_coding_transcript(take::head_of(head), genome, transcript, letters))
 }

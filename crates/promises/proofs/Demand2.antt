@@ -238,7 +238,7 @@ module _ {t : Transcript} {p : ℕ} (b : InIntron t p) where
     right-named : leftNearer forward (pos (k + 1)) (pos (x .count - k)) ≡ false → (o : ℤ) → signed forward (negℤ (pos (x .count - k))) ≡ o → Named ours t p (record { upstream = upstreamOf right; offset = o })
     right-named far o = from-edge right (negℤ (pos (x .count - k))) o (from-right (as-nearer far))
 
-  nearest : InRange t → (forward : Bool) → t .forward ≡ forward → FromNearest ours t p (if forward then placeBefore b else placeAfter b) (if forward then placeAfter b else placeBefore b)
+  nearest : InRange t → (forward : Bool) → t .forward ≡ forward → FromNearest (Named ours t) t p (if forward then placeBefore b else placeAfter b) (if forward then placeAfter b else placeBefore b)
   unfolding intronName
   nearest in-range true e = record {
     up = left;
@@ -255,7 +255,7 @@ module _ {t : Transcript} {p : ℕ} (b : InIntron t p) where
         (λ h. rw (h, left-apart) (left-named in-range false e (omega (order, left-apart, right-apart, nearer-no)) (negℤ (pos (k + 1))) refl));
   }
 
-pub bases-named : (t : Transcript) → InRange t → BasesNamed ours t
+pub bases-named : (t : Transcript) → InRange t → BasesNamed (Named ours t) t
 bases-named t in-range = record {
   exon-base = λ p b. exon-named b in-range;
   intron-base = λ p b. nearest b in-range (t .forward) refl;

@@ -123,7 +123,7 @@ unfolding second build total transcript kindOf
 second-named = (demand-2-built inputA A (all-build .0) .exon-base 1 (second A of-A), demand-2-built inputB B (all-build .1) .exon-base 1 (second B of-B))
 
 -- g.23 lies between the exon bases g.20 and g.26, of which on A the first is upstream and on B the second
-middle-named : FromNearest ours A 12 9 15 × FromNearest ours B 12 15 9
+middle-named : FromNearest (Named ours A) A 12 9 15 × FromNearest (Named ours B) B 12 15 9
 unfolding middle build total genome kindOf
 middle-named = (demand-2-built inputA A (all-build .0) .intron-base 12 (middle A of-A), demand-2-built inputB B (all-build .1) .intron-base 12 (middle B of-B))
 

@@ -6,7 +6,8 @@
 --     Records, Demand3              demand 3 over records whose CIGARs were read
 --     Rooms, Built                  what is known of an input that builds
 --     Promises, Table               the promises
---     Reach                         what the code answers of a lent transcript is what the promises speak of
+--     Refusals, Occurring           which refusals there are, and that each occurs
+--     Host                          what a host sees
 --     Covers                        each place lies in an element
 --     Examples, Against             transcripts that meet every premise, and mappers that the promises shut out
 pub mod Turns
@@ -25,7 +26,9 @@ pub mod Rooms
 pub mod Built
 pub mod Promises
 pub mod Table
-pub mod Reach
+pub mod Refusals
+pub mod Occurring
+pub mod Host
 pub mod Covers
 pub mod Examples
 pub mod Against

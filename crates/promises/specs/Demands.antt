@@ -97,23 +97,23 @@ pub record Named (m : Mapper) (t : Transcript) (p : ℕ) (x : Name) : Type 0 whe
   pub c-to-g : (s e : ℕ) → t .coding ≡ cds s e → m .c-to-g strict t (each asksC (cAt s e x)) ≡ certainly (gAt t p)
 
 -- there are exon bases at u, upstream, and at d, downstream, and the base at place p has the name that counts from the nearer of the two
-pub record FromNearest (m : Mapper) (t : Transcript) (p u d : ℕ) : Type 0 where
+pub record FromNearest (has : ℕ → Name → Type 0) (t : Transcript) (p u d : ℕ) : Type 0 where
   pub up : Matched t u
   pub down : Matched t d
-  pub named : Named m t p (intronName p up down)
+  pub named : has p (intronName p up down)
 
--- each base in a matched column has the name of an exon base, and each base of an intron counts from the nearest exon base
-pub record BasesNamed (m : Mapper) (t : Transcript) : Type 0 where
-  pub exon-base : (p : ℕ) (b : Matched t p) → Named m t p (exonName b)
-  pub intron-base : (p : ℕ) (b : InIntron t p) → FromNearest m t p (upstreamPlace b) (downstreamPlace b)
+-- each base in a matched column has the name of an exon base, and each base of an intron counts from the nearest exon base; `has` says what it is to have a name
+pub record BasesNamed (has : ℕ → Name → Type 0) (t : Transcript) : Type 0 where
+  pub exon-base : (p : ℕ) (b : Matched t p) → has p (exonName b)
+  pub intron-base : (p : ℕ) (b : InIntron t p) → FromNearest has t p (upstreamPlace b) (downstreamPlace b)
 
 -- of every transcript that is lent and holds together, wherever it comes from
 abbrev pub Demand-2 : Mapper → Type 0
-Demand-2 m = (x : Lent) (t : Transcript) → holds x ≡ true → sourceOf x ≡ aligned t → BasesNamed m t
+Demand-2 m = (x : Lent) (t : Transcript) → holds x ≡ true → sourceOf x ≡ aligned t → BasesNamed (Named m t) t
 
 -- and so of every transcript that builds
 abbrev pub Demand-2-built : Mapper → Type 0
-Demand-2-built m = (x : Input) (t : Transcript) → Builds x t → BasesNamed m t
+Demand-2-built m = (x : Input) (t : Transcript) → Builds x t → BasesNamed (Named m t) t
 
 -- ---- demand 3
 

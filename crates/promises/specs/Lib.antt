@@ -2,6 +2,10 @@
 --     Bases      how HGVS names a base, and the bases of matched columns and introns
 --     Demands    demands 2 and 3
 --     Table      the table of places
+--     Refusals   the table of refusals of building, CIGAR text and cards
+--     Host       what a host sees: the demands in the numbers that it is told
 pub mod Bases
 pub mod Demands
 pub mod Table
+pub mod Refusals
+pub mod Host

@@ -22,10 +22,10 @@ use Rattle.judging.specs.Judging.{Made, judge, judgeInput, judgeOn, judg
 -- ---- what is judged
 
 -- a record of genome bounds, transcript bounds, `ord` and a CIGAR
-abbrev row : ℤ → ℤ → ℤ → ℤ → ℤ → List ℕ → Record
+abbrev pub row : ℤ → ℤ → ℤ → ℤ → ℤ → List ℕ → Record
 row a b c d o text = record { alt-start = a; alt-end = b; tx-start = c; tx-end = d; ord = o; cigar = text }
 
-abbrev bytesOf : List Record → List ℕ
+abbrev pub bytesOf : List Record → List ℕ
 bytesOf [] = []
 bytesOf (r ∷ rs) = laid r ++ bytesOf rs
 
@@ -41,35 +41,35 @@ abbrev made : Bool → List Exon → Cds → Outcome Made
 made forward xs c = answered (record { forward = forward; exon-list = xs; coding = c })
 
 -- a digit's byte, and that of a letter which is none of the six
-abbrev digit : ℕ → ℕ
+abbrev pub digit : ℕ → ℕ
 digit d = 48 + d
 
-abbrev letterS : ℕ
+abbrev pub letterS : ℕ
 letterS = 83
 
 -- `10M` and `8M`
-abbrev ten : List ℕ
+abbrev pub ten : List ℕ
 ten = digit 1 ∷ digit 0 ∷ letterM ∷ []
 
 abbrev eight : List ℕ
 eight = digit 8 ∷ letterM ∷ []
 
 -- `99999999999`
-abbrev nines : List ℕ
+abbrev pub nines : List ℕ
 nines = replicate 11 (digit 9)
 
 -- `2147483647M`
 abbrev largest : List ℕ
 largest = map digit (2 ∷ 1 ∷ 4 ∷ 7 ∷ 4 ∷ 8 ∷ 3 ∷ 6 ∷ 4 ∷ 7 ∷ []) ++ letterM ∷ []
 
-abbrev rowsA : List Record
+abbrev pub rowsA : List Record
 rowsA = row (pos 10) (pos 20) (pos 0) (pos 10) (pos 0) ten ∷ row (pos 25) (pos 33) (pos 10) (pos 18) (pos 1) eight ∷ []
 
 abbrev rowsB : List Record
 rowsB = row (pos 10) (pos 20) (pos 8) (pos 18) (pos 1) ten ∷ row (pos 25) (pos 33) (pos 0) (pos 8) (pos 0) eight ∷ []
 
 -- one record from a genome start on, with this CIGAR
-abbrev one : ℕ → List ℕ → List Record
+abbrev pub one : ℕ → List ℕ → List Record
 one start text = row (pos start) (pos start) (pos 0) (pos 0) (pos 0) text ∷ []
 
 -- the exons of A and of B
@@ -77,6 +77,11 @@ abbrev exonsAB : List Exon
 exonsAB = record { alt-start = 10; alt-end = 20; parts = element 10 letterM ∷ [] } ∷ record { alt-start = 25; alt-end = 33; parts = element 8 letterM ∷ [] } ∷ []
 
 -- ---- from records
+
+-- what a judgment is computed by, named once: to unfold this is to unfold all of it
+unfoldable pub computing : Unit {0}
+unfolding judge judgeInput judgeOn lastFault rangeFault exactly recordsFrom recordAt laid le16 le32 faults faultsAfter ownFault pairFault followFault spanFault startFault riseFault joinFault exonsOf exonsAfter readFirst readNext readFrom isLetter elementsOf elementsAfter partsOf firstStart total genome transcript kindOf
+computing = tt
 
 -- A; B; A with a start and an end that are not given; two records with empty CIGARs; `0M` alone
 built : judged (pos 1) 3 (pos 3) (pos 15) rowsA
@@ -91,7 +96,7 @@ built : judged (pos 1) 3 (pos 3) (pos 15) rowsA
     ∷ made true (record { alt-start = 5; alt-end = 5; parts = [] } ∷ record { alt-start = 5; alt-end = 7; parts = [] } ∷ []) noCds
     ∷ made true (record { alt-start = 7; alt-end = 7; parts = element 0 letterM ∷ [] } ∷ []) noCds
     ∷ []
-unfolding judge judgeInput judgeOn lastFault rangeFault exactly recordsFrom recordAt laid le16 le32 faults faultsAfter ownFault pairFault followFault spanFault startFault riseFault joinFault exonsOf exonsAfter readFirst readNext readFrom isLetter elementsOf elementsAfter partsOf firstStart total genome transcript kindOf
+unfolding computing
 built = refl
 
 -- in the order of the tests, each with what would refuse later:
@@ -131,7 +136,7 @@ denied : judge (numbersOf (pos 1) 4 (pos 0) (pos 0) 0) (0 ∷ [])
     ∷ refused tooLong
     ∷ refused badCds
     ∷ []
-unfolding judge judgeInput judgeOn lastFault rangeFault exactly recordsFrom recordAt laid le16 le32 faults faultsAfter ownFault pairFault followFault spanFault startFault riseFault joinFault exonsOf exonsAfter readFirst readNext readFrom isLetter elementsOf elementsAfter partsOf firstStart total genome transcript kindOf
+unfolding computing
 denied = refl
 
 -- the elements of `2M1D` and, touching it, `3=`: on strand -1 each record's are reversed, and the N of length 0 stands on both

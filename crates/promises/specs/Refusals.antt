@@ -1,0 +1,47 @@
+-- The table of refusals, of what is not a question: which numbers building, CIGAR text and a card can give. That of the questions stands in `mapper`. Assumes nothing.
+use Prim.Native.Nat.{ℕ}
+use mathlib.Core.List.{List, [], _∷_, _++_}
+use lib.IntN.{ℤ}
+use Rattle.refusals.specs.Numbers.{noRecords, noStrand, tooMuch, badBound, badOrd, notAdjacent, noElement, badCount, tooLong, noSegment, halfCds, badCds, noRoom, noCard, badVersion, notTogether}
+use Rattle.refusals.specs.Refusing.{Only}
+use Rattle.cigar.specs.Read.{readText}
+use Rattle.cigar.specs.Write.{writing}
+use Rattle.transcript.specs.declared.Numbers.{Numbers}
+use Rattle.judging.specs.Judging.{judge, judgeLength}
+use Rattle.card.specs.Writing.{judgeCard, cardWriting}
+
+-- txc_read_cigar
+abbrev pub readingRefusals : List ℕ
+readingRefusals = tooMuch ∷ noElement ∷ badCount ∷ []
+
+-- txc_write_cigar
+abbrev pub writingRefusals : List ℕ
+writingRefusals = tooMuch ∷ noElement ∷ badCount ∷ noRoom ∷ []
+
+-- what building finds in the records once the strand is known
+abbrev pub recordsRefusals : List ℕ
+recordsRefusals = tooMuch ∷ badBound ∷ badOrd ∷ notAdjacent ∷ noElement ∷ badCount ∷ tooLong ∷ noSegment ∷ halfCds ∷ badCds ∷ []
+
+-- txc_build
+abbrev pub buildingRefusals : List ℕ
+buildingRefusals = noRecords ∷ noStrand ∷ noCard ∷ notTogether ∷ recordsRefusals
+
+-- txc_build_card: not 2 and not 23, as a card's strand and CDS bits are right where it is a card
+abbrev pub cardRefusals : List ℕ
+cardRefusals = noRecords ∷ noCard ∷ badVersion ∷ recordsRefusals
+
+-- txc_build_length
+abbrev pub lengthRefusals : List ℕ
+lengthRefusals = badBound ∷ tooLong ∷ halfCds ∷ badCds ∷ notTogether ∷ []
+
+-- txc_write_card
+abbrev pub cardWritingRefusals : List ℕ
+cardWritingRefusals = noRoom ∷ buildingRefusals
+
+pub record Refusals : Type 0 where
+  pub read-cigar : (text : List ℕ) → Only readingRefusals (readText text)
+  pub write-cigar : (number : ℕ) (counts : List ℤ) (letters : List ℕ) (room : ℕ) → Only writingRefusals (writing number counts letters room)
+  pub build : (n : Numbers) (bytes : List ℕ) → Only buildingRefusals (judge n bytes)
+  pub build-card : (bytes : List ℕ) → Only cardRefusals (judgeCard bytes)
+  pub build-length : (len : ℤ) (bits : ℕ) (start end : ℤ) → Only lengthRefusals (judgeLength len bits start end)
+  pub write-card : (n : Numbers) (bytes : List ℕ) (room : ℕ) → Only cardWritingRefusals (cardWriting n bytes room)
