@@ -1,7 +1,6 @@
 -- What the boundary's questions tell of what is lent: an answer's numbers, as include/txc.h has them, and what building leaves in lent memory. Assumes nothing.
 use Prim.Native.Nat.{ℕ}
 use mathlib.Core.Bool.{Bool}
-use mathlib.Core.List.{List}
 use lib.IntN.{ℤ}
 use Rattle.holding.specs.Holding.{Lent, checked}
 use Rattle.mapper.specs.Asking.{askGToN, askNToG, askNToC, askCToN, askGToC, askCToG, askCoding, askInBounds}

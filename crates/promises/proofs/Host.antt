@@ -16,28 +16,27 @@ use Rattle.transcript.specs.Transcript.Source.{aligned, lengthOnly}
 use Rattle.transcript.specs.declared.Numbers.{Numbers}
 use Rattle.holding.specs.Holding.{Lent, holds, sourceOf, checked}
 use Rattle.holding.specs.laws.Held.{checked-held}
-use Rattle.judging.specs.Input.{inputOf}
 use Rattle.judging.specs.Judging.{Made, Measured, elementsMade, judge, judgeLength}
-use Rattle.judging.specs.laws.Accepted.{Sane, judged-sane, measured-means, measured-inside}
+use Rattle.judging.specs.laws.Accepted.{judged-sane, measured-means, measured-inside}
 use Rattle.building.specs.Afterwards.{headOf, lengthHead, answerOf, lengthAnswer, tablesAfter}
 use Rattle.building.specs.laws.Standing.{beside, built-holds, built-stands, measured-holds, measured-stands}
 use Rattle.card.specs.Layout.{recordsAt}
-use Rattle.card.specs.Card.{readCard, numbersIn, inputIn}
+use Rattle.card.specs.Card.{readCard, numbersIn}
 use Rattle.card.specs.Writing.{judgeRead, judgeCard}
 use Rattle.card.specs.laws.RoundTrips.{read-means}
 use Rattle.card.specs.declared.ReadCard.{ReadCard}
 use Rattle.card.specs.declared.ReadCard.the-variants as read
-use Rattle.positions.specs.Positions.{Interval, GAsked, NAsked, CAsked, NPosition, CPosition, GPosition, asksN}
+use Rattle.positions.specs.Positions.{Interval, NAsked, NPosition, GPosition, asksN}
 use Rattle.positions.specs.Answers.{Answer, chain}
-use Rattle.coding.specs.Coding.{nToC, cToN}
+use Rattle.coding.specs.Coding.{cToN}
 use Rattle.mapper.specs.Asking.{given, askGToN, askNToG, askNToC, askCToN, askGToC, askCToG, askCoding, askInBounds}
 use Rattle.mapper.specs.Chains.{gToC, cToG}
 use Rattle.mapper.specs.laws.Refusing.{gToCRefusals, cToGRefusals, g-to-c-refuses, c-to-g-refuses}
 use Rattle.layout.specs.Layout.{headAt, gAsked as asked, nAsked, cAsked, gLaid, nLaid, cLaid, laid, saidLaid}
 use Rattle.layout.specs.declared.lay.Position.{Position}
 use Rattle.entry.specs.Boundary.{builtNumber, builtHead}
-use Rattle.promises.specs.Bases.{Name, Matched, InIntron}
-use Rattle.promises.specs.Demands.{ours, strict, madeOf, Builds, Named, FromNearest, BasesNamed, Lengthens, AllSpan, Keeps}
+use Rattle.promises.specs.Bases.{Name}
+use Rattle.promises.specs.Demands.{ours, strict, madeOf, Builds, Named, BasesNamed, Keeps}
 use Rattle.promises.specs.Refusals.{buildingRefusals, cardRefusals, lengthRefusals}
 use Rattle.promises.specs.Host.{Way, of-records, of-card, judgment, input, toldBuilding, writtenBy, Sees, Host-sees, writtenByLength, SeesLength, Host-sees-length, ToldName, Host-2, KeepsTold, Host-3}
 use Rattle.promises.proofs.Refusals.{refusals}

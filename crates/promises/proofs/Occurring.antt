@@ -5,11 +5,10 @@ use mathlib.Core.Path.{_≡_, refl}
 use lib.IntN.{ℤ, pos, negsuc}
 use lib.ListN.{length, replicate, drop}
 use Rattle.refusals.specs.Outcome.{refused}
-use Rattle.fields.specs.Fields.{bytes16, bytes32, bits32, le16, le32}
 use Rattle.cigar.specs.Elements.{isLetter, letterD, letterM}
 use Rattle.cigar.specs.Text.{readFrom}
 use Rattle.cigar.specs.Read.{readText}
-use Rattle.cigar.specs.Write.{writing, givenFrom, elementsText, elementText, decimal, digitsBy}
+use Rattle.cigar.specs.Write.{writing, givenFrom, elementsText, elementText}
 use Rattle.records.specs.Records.{Record, laid}
 use Rattle.judging.specs.Input.{inputOf, numbersOf}
 use Rattle.judging.specs.Judging.{judge, judgeLength, lengthFault, rangeFault}

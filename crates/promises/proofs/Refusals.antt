@@ -1,25 +1,25 @@
 -- The table of refusals holds: each judgment is a chain of tests, and a test gives one number of its row or lets the rest decide. Assumes nothing.
 use Prim.Native.Nat.{ℕ, zero, suc, _+_, _-_, _*_}
 use native.Mathlib.Omega.{arith}
-use mathlib.Core.Bool.{Bool, true, false, cond, not, _&&_, _||_}
+use mathlib.Core.Bool.{Bool, true, false, not, _&&_}
 use mathlib.Core.List.{List, [], _∷_}
-use mathlib.Core.Path.{_≡_, refl, sym, _∙_, subst}
+use mathlib.Core.Path.{_≡_, refl}
 use lib.Dec.{eqb, ltb}
 use lib.IntN.{ℤ, pos, negsuc, natAbs}
 use lib.ListN.{length, drop, getD}
 use lib.Signed.{ltZ}
 use borrow.Author.Tests.{eqb-true, ltb-true}
-use Rattle.refusals.specs.Numbers.{noRecords, noStrand, tooMuch, badBound, badOrd, notAdjacent, noElement, badCount, tooLong, noSegment, halfCds, badCds, noRoom, noCard, badVersion, notTogether, mostCount, mostSegments, mostText, mostRecords, mostBases, mostCard}
+use Rattle.refusals.specs.Numbers.{noRecords, noStrand, tooMuch, badBound, badOrd, notAdjacent, noElement, badCount, tooLong, noSegment, halfCds, badCds, noRoom, noCard, notTogether, mostCount, mostSegments, mostText, mostRecords, mostBases, mostCard}
 use Rattle.refusals.specs.Outcome.{Outcome, answered, refused, unless}
 use Rattle.refusals.specs.Refusing.{oneOf, Only}
 use Rattle.refusals.specs.laws.Refusing.{only-through, only-then}
 use Rattle.whole.specs.Whole.{if_then_else_, eqZ}
 use Rattle.whole.specs.laws.Whole.{by-test, both}
 use Rattle.fields.specs.Fields.{le16}
-use Rattle.cigar.specs.Elements.{Element, isLetter}
-use Rattle.cigar.specs.Text.{Reading, isDigit, countOf, element, taken, before, readFrom, readAll}
+use Rattle.cigar.specs.Elements.{isLetter}
+use Rattle.cigar.specs.Text.{Reading, isDigit, countOf, readFrom}
 use Rattle.cigar.specs.Read.{readText}
-use Rattle.cigar.specs.Write.{elementsText, Writing, judged, givenFrom, given, fitted, textOf, writing}
+use Rattle.cigar.specs.Write.{elementsText, givenFrom, given, fitted, textOf, writing}
 use Rattle.records.specs.Records.{Record, exactly}
 use Rattle.records.specs.Faults.{_orElse_, spanFault, startFault, riseFault, joinFault, ownFault, followFault, pairFault, faultsAfter, faults}
 use Rattle.transcript.specs.Heads.{bothBits, startOf, endOf, strandOf}
@@ -27,7 +27,7 @@ use Rattle.transcript.specs.laws.Heads.{plus-is}
 use Rattle.transcript.specs.declared.Bound.{Bound}
 use Rattle.transcript.specs.declared.Bound.the-variants.{Given, Absent}
 use Rattle.transcript.specs.declared.Numbers.{Numbers}
-use Rattle.reading.specs.Reading.{Exons, exonOf, beforeAll, readFirst, readNext, exonsAfter, exonsOf}
+use Rattle.reading.specs.Reading.{Exons, readFirst, readNext, exonsAfter, exonsOf}
 use Rattle.judging.specs.Input.{Input, inputOf}
 use Rattle.judging.specs.Judging.{Made, halfFault, rangeFault, cdsFault, lastFault, lengthFault, judgeExons, judgeOn, judgeInput, judge, judgeLength}
 use Rattle.positions.specs.laws.Refusing.{only-if, only-unless}

@@ -19,8 +19,7 @@ use Rattle.judging.specs.Judging.{Made, Measured, judge, judgeLength}
 use Rattle.building.specs.Afterwards.{answerOf, lengthAnswer, tablesAfter}
 use Rattle.card.specs.Card.{numbersIn, inputIn}
 use Rattle.card.specs.Writing.{judgeCard}
-use Rattle.positions.specs.Positions.{Interval, NAsked, GPosition, CPosition, asksN}
-use Rattle.positions.specs.Answers.{Answer, certainly, chain}
+use Rattle.positions.specs.Answers.{certainly}
 use Rattle.coding.specs.Coding.{nToC, cToN}
 use Rattle.places.specs.Mapping.{inBounds}
 use Rattle.mapper.specs.Asking.{given, codes}

@@ -1,6 +1,6 @@
 -- The table of refusals, of what is not a question: which numbers building, CIGAR text and a card can give. That of the questions stands in `mapper`. Assumes nothing.
 use Prim.Native.Nat.{ℕ}
-use mathlib.Core.List.{List, [], _∷_, _++_}
+use mathlib.Core.List.{List, [], _∷_}
 use lib.IntN.{ℤ}
 use Rattle.refusals.specs.Numbers.{noRecords, noStrand, tooMuch, badBound, badOrd, notAdjacent, noElement, badCount, tooLong, noSegment, halfCds, badCds, noRoom, noCard, badVersion, notTogether}
 use Rattle.refusals.specs.Refusing.{Only}

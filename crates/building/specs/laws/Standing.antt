@@ -2,7 +2,6 @@
 --     built-holds, built-stands          of what records make, with the tables that building wrote
 --     measured-holds, measured-stands    of what a length makes, beside any tables
 --     makes, refuses                     a judgment by what building answers
---     built-answered, answered-length          the same of what building answers, with the tables as it leaves them
 -- Assumes nothing.
 use Prim.Native.Nat.{ℕ, _≤_}
 use native.Mathlib.Omega.{arith}
@@ -10,7 +9,6 @@ use mathlib.Core.Bool.{Bool, true, false}
 use mathlib.Core.List.{List}
 use mathlib.Core.Logic.{_⊎_, inl, inr}
 use mathlib.Core.Path.{_≡_, refl, ap}
-use lib.IntN.{ℤ}
 use Rattle.refusals.specs.Numbers.{mostBases}
 use Rattle.refusals.specs.Outcome.{Outcome, answered, refused}
 use Rattle.cigar.specs.Elements.{Element, genome, transcript, total}
@@ -22,13 +20,12 @@ use Rattle.transcript.specs.Transcript.Source.{aligned, lengthOnly}
 use Rattle.transcript.specs.Building.{build}
 use Rattle.holding.specs.Holding.{Lent, isForward, isBackward, holds, headCds, sourceOf}
 use Rattle.holding.specs.laws.Held.{CdsRight, Together, held-where}
-use Rattle.judging.specs.Judging.{Made, Measured, judge, judgeLength, elementsMade}
+use Rattle.judging.specs.Judging.{Made, Measured, elementsMade}
 use Rattle.transcript.specs.Heads.{bitsOf, startIn, endIn, strandOf}
-use Rattle.building.specs.Afterwards.{headOf, lengthHead, answerOf, lengthAnswer, tablesAfter}
-use Rattle.judging.specs.laws.Accepted.{CdsInside, Sane, judged-sane, measured-means, measured-inside}
+use Rattle.building.specs.Afterwards.{headOf, lengthHead, answerOf}
+use Rattle.judging.specs.laws.Accepted.{CdsInside, Sane}
 use Rattle.transcript.specs.laws.Heads.{plus-is}
 use Rattle.transcript.specs.declared.Head.{Head}
-use Rattle.transcript.specs.declared.Numbers.{Numbers}
 use Rattle.transcript.specs.declared.Built.the-variants as answer
 
 -- a head beside the tables that are lent with it
@@ -95,7 +92,7 @@ module _ (m : Measured) (a : Tables) where
   unfolding sourceOf
   measured-stands = ap (lengthOnly (m .bases)) (cds-is (lengthHead m) (m .coding) refl refl refl)
 
--- ---- what building answers, with the tables as it leaves them
+-- ---- what building answers
 
 -- a judgment that is answered by a head
 pub record Makes (j : Outcome Made) (h : Head) : Type 0 where
@@ -111,42 +108,3 @@ makes (answered m) h e = record { made = m; judged = refl; head-is = cc }
 pub refuses : (j : Outcome Made) (k : ℕ) → answerOf j ≡ answer.Refused k → j ≡ refused k
 refuses (refused l) k e = let is : l ≡ k = cc in ap refused is
 refuses (answered m) k e = let z : _≡_ {A = ℕ} 0 1 = cc in absurd (omega arith)
-
--- the head h that building answered: what was made, and that h holds together with the tables and stands for it
-pub record Answered (j : Outcome Made) (h : Head) (a : Tables) : Type 0 where
-  pub made : Made
-  pub judged : j ≡ answered made
-  pub together : holds (beside h (tablesAfter j a)) ≡ true
-  pub stands : sourceOf (beside h (tablesAfter j a)) ≡ aligned (build (made .forward) (made .exon-list) (made .coding))
-
-answered-by : (j : Outcome Made) (h : Head) (a : Tables) (m : Made) → j ≡ answered m → h ≡ headOf m → Sane m → Answered j h a
-answered-by j h a m is head sane = record { made = m; judged = is; together = rw (is, head) (built-holds m sane); stands = rw (is, head) (built-stands m sane) }
-
-module _ (n : Numbers) (bytes : List ℕ) (h : Head) (a : Tables) where
-  pub built-answered : answerOf (judge n bytes) ≡ answer.Transcript h → Answered (judge n bytes) h a
-  built-answered e =
-      let by = makes (judge n bytes) h e in
-      answered-by (judge n bytes) h a (by .made) (by .judged) (by .head-is) (judged-sane n bytes (by .made) (by .judged))
-
--- the same of a length, beside any tables
-pub record AnsweredLength (j : Outcome Measured) (h : Head) (a : Tables) : Type 0 where
-  pub made : Measured
-  pub judged : j ≡ answered made
-  pub together : holds (beside h a) ≡ true
-  pub stands : sourceOf (beside h a) ≡ lengthOnly (made .bases) (made .coding)
-
-module _ (len : ℤ) (bits : ℕ) (start end : ℤ) (h : Head) (a : Tables) where
-  pub answered-length : lengthAnswer (judgeLength len bits start end) ≡ answer.Transcript h → AnsweredLength (judgeLength len bits start end) h a
-  answered-length e = go (judgeLength len bits start end) refl e
-    where
-      go : (j : Outcome Measured) → judgeLength len bits start end ≡ j → lengthAnswer j ≡ answer.Transcript h → AnsweredLength j h a
-      go (refused k) is e = let z : _≡_ {A = ℕ} 0 1 = cc in absurd (omega arith)
-      go (answered m) is e =
-          let head : lengthHead m ≡ h = cc in
-          let measures = measured-means len bits start end m is in
-          record {
-            made = m;
-            judged = refl;
-            together = rw (← head) (measured-holds m a (measures .small) (measured-inside len bits start end m measures));
-            stands = rw (← head) (measured-stands m a);
-          }

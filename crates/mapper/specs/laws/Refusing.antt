@@ -1,8 +1,8 @@
 -- Which refusals a question to what a host lends can give: one row for each question, of either kind of transcript and in either mode. Assumes nothing.
 use Prim.Native.Nat.{ℕ}
-use mathlib.Core.Bool.{Bool, true, false, cond, _||_, false≢true}
+use mathlib.Core.Bool.{Bool, true, false, cond, false≢true}
 use mathlib.Core.List.{List, [], _∷_}
-use mathlib.Core.Path.{_≡_, refl, sym}
+use mathlib.Core.Path.{_≡_, refl}
 use lib.IntN.{ℤ, pos, _-ℤ_}
 use lib.Signed.{leZ, ltZ}
 use Rattle.refusals.specs.Numbers.{notCoding, outside, nOutside, cOutside, tooWide, noGenome, missingEnd, notTogether}
