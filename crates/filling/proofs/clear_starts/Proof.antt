@@ -1,4 +1,4 @@
--- `building::filling::clear_starts` meets its contract: the table with the zeros that are left stays the one promised: a turn stores one zero (`zeros-more`), and at the end none is left (`zeros-none`). Assumes nothing.
+-- `filling::clear_starts` meets its contract: the table with the zeros that are left stays the one promised: a turn stores one zero (`zeros-more`), and at the end none is left (`zeros-none`). Assumes nothing.
 use Prim.Native.Nat.{_-_, _≤_}
 use mathlib.Core.Path.{_≡_, refl, sym, _∙_}
 use native.Mathlib.Omega.{arith}

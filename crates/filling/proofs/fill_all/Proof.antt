@@ -1,4 +1,4 @@
--- `building::filling::fill_all` meets its contract: the first record's elements end where the rest begin (`first-ends`), so that the two fills are one (`fill-then`); a small tally is no refusal. Assumes nothing.
+-- `filling::fill_all` meets its contract: the first record's elements end where the rest begin (`first-ends`), so that the two fills are one (`fill-then`); a small tally is no refusal. Assumes nothing.
 use mathlib.Core.Path.{_≡_, sym, ap, subst, _∙_}
 use Prim.Native.Nat.{_-_}
 use Rattle.records.specs.Records.{nextAt, recordAt, recordsFrom}

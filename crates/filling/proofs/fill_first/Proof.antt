@@ -1,4 +1,4 @@
--- `building::filling::fill_first` meets its contract: a record whose tally is no refusal reads as its text does (`first-accepted`), and `fill_text` puts that text's elements in. Assumes nothing.
+-- `filling::fill_first` meets its contract: a record whose tally is no refusal reads as its text does (`first-accepted`), and `fill_text` puts that text's elements in. Assumes nothing.
 use Prim.Native.Nat.{_-_}
 use mathlib.Core.Path.{_≡_, sym, ap, _∙_}
 use native.Mathlib.Omega.{arith}

@@ -1,4 +1,4 @@
--- `building::filling::fill_next` meets its contract: the gap is put in, for which there is room, since all goes to `to`, and `fill_text` puts in the text as which the record reads (`next-accepted`). Assumes nothing.
+-- `filling::fill_next` meets its contract: the gap is put in, for which there is room, since all goes to `to`, and `fill_text` puts in the text as which the record reads (`next-accepted`). Assumes nothing.
 use Prim.Native.Nat.{_+_, _-_, _≤_, _<_}
 use mathlib.Core.Path.{_≡_, sym, ap, _∙_}
 use native.Mathlib.Omega.{arith}

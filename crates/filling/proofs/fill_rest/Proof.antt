@@ -1,4 +1,4 @@
--- `building::filling::fill_rest` meets its contract: the tables with what is left put in stay those promised: a record's elements end where the rest begin (`next-ends`), so fills join (`fill-then`). Assumes nothing.
+-- `filling::fill_rest` meets its contract: the tables with what is left put in stay those promised: a record's elements end where the rest begin (`next-ends`), so fills join (`fill-then`). Assumes nothing.
 use mathlib.Core.Path.{_≡_, refl, sym, ap, subst, _∙_}
 use mathlib.Core.List.{List}
 use Prim.Native.Nat.{ℕ, _-_, _<_}

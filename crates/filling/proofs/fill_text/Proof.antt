@@ -1,4 +1,4 @@
--- `building::filling::fill_text` meets its contract: the tables with what is left put in stay those promised: a turn puts in the first of what is left, or on strand -1 the last (`fill-turn`). Assumes nothing.
+-- `filling::fill_text` meets its contract: the tables with what is left put in stay those promised: a turn puts in the first of what is left, or on strand -1 the last (`fill-turn`). Assumes nothing.
 use Prim.Native.Nat.{ℕ, _+_, _-_, _≤_, _<_}
 use mathlib.Core.Path.{_≡_, sym, ap, subst, _∙_}
 use mathlib.Core.List.{List}

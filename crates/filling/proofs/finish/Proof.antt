@@ -1,4 +1,4 @@
--- `building::filling::finish` meets its contract: small totals are kept by `narrow` and stored behind the last segment, and what `clear_starts` and `clear_letters` ensure is the rest of `finished`. Assumes nothing.
+-- `filling::finish` meets its contract: small totals are kept by `narrow` and stored behind the last segment, and what `clear_starts` and `clear_letters` ensure is the rest of `finished`. Assumes nothing.
 use mathlib.Core.Path.{ap, _∙_}
 use native.Mathlib.Omega.{arith}
 use lib.ListN.{length, length-set}

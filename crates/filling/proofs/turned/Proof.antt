@@ -1,4 +1,4 @@
--- `building::filling::turned` meets its contract: forward the element begins at `at`; on strand -1 `after` goes no further than `to`, so that no difference wraps and the element begins before `to`. Assumes nothing.
+-- `filling::turned` meets its contract: forward the element begins at `at`; on strand -1 `after` goes no further than `to`, so that no difference wraps and the element begins before `to`. Assumes nothing.
 use mathlib.Core.Path.{refl}
 use native.Mathlib.Omega.{arith}
 use borrow.Author.Needs.{needs}

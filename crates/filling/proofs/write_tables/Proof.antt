@@ -1,4 +1,4 @@
--- `building::filling::write_tables` meets its contract: `fill_all` puts all elements in, `finish` puts the totals behind them, and tables so filled and finished are the elements' own (`fill-finished`). Assumes nothing.
+-- `filling::write_tables` meets its contract: `fill_all` puts all elements in, `finish` puts the totals behind them, and tables so filled and finished are the elements' own (`fill-finished`). Assumes nothing.
 use mathlib.Core.Path.{sym, ap, ap₂, subst, _∙_}
 use Prim.Native.Nat.{_≤_}
 use native.Mathlib.Omega.{arith}

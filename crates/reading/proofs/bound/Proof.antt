@@ -1,4 +1,4 @@
--- `judging::reading::bound` meets its contract: bits that read as a number not below 0 are that number's size (`bits-whole`), so that `u32_at` gives it. Assumes nothing.
+-- `reading::bound` meets its contract: bits that read as a number not below 0 are that number's size (`bits-whole`), so that `u32_at` gives it. Assumes nothing.
 use mathlib.Core.Path.{_∙_}
 use Rattle.reading.proofs.Gaps.{bits-whole}
 use borrow.Author.Needs.{needs}

@@ -1,5 +1,6 @@
--- `judging::reading::gap_at` meets its contract: `bound` gives the start and the previous end, and records that stand `Beside` each other do not overlap (`beside-order`), so that no difference wraps. Assumes nothing.
+-- `reading::gap_at` meets its contract: `bound` gives the start and the previous end, and records that stand `Beside` each other do not overlap (`beside-order`), so that no difference wraps. Assumes nothing.
 use mathlib.Core.Path.{ap₂}
+use Prim.Native.Nat.{_-_}
 use native.Mathlib.Omega.{arith}
 use Rattle.records.specs.Records.{recordAt}
 use Rattle.records.specs.laws.Walk.{beside-order}

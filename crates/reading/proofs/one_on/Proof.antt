@@ -1,4 +1,4 @@
--- `judging::reading::one_on` meets its contract: `along_genome` and `along_transcript` say how far the element goes, less than 2^32 on either side, so that bounded sums stay bounded and fit. Assumes nothing.
+-- `reading::one_on` meets its contract: `along_genome` and `along_transcript` say how far the element goes, less than 2^32 on either side, so that bounded sums stay bounded and fit. Assumes nothing.
 use mathlib.Core.Path.{refl}
 use native.Mathlib.Omega.{arith}
 use Rattle.cigar.specs.Elements.{genome, transcript}

@@ -1,4 +1,4 @@
--- `judging::reading::tally_all` meets its contract: the first record's refusal is that of all (`first-refused`), and from its sums on all is the tally of the rest (`first-sums`). Assumes nothing.
+-- `reading::tally_all` meets its contract: the first record's refusal is that of all (`first-refused`), and from its sums on all is the tally of the rest (`first-sums`). Assumes nothing.
 use mathlib.Core.Path.{sym, subst, _∙_}
 use native.Mathlib.Omega.{arith}
 use Rattle.reading.specs.Tallies.{BoundedTally}

@@ -1,4 +1,4 @@
--- `judging::reading::tally_first` meets its contract: a CIGAR over the largest size is refused (`first-large`), and any other reads as its text (`first-read`), which is tallied from nothing. Assumes nothing.
+-- `reading::tally_first` meets its contract: a CIGAR over the largest size is refused (`first-large`), and any other reads as its text (`first-read`), which is tallied from nothing. Assumes nothing.
 use mathlib.Core.Path.{sym, ap, _∙_}
 use native.Mathlib.Omega.{arith}
 use Rattle.reading.specs.Tallies.{nothing, tallied}

@@ -1,4 +1,4 @@
--- `judging::reading::tally_next` meets its contract: a large CIGAR and a full table are refused (`next-large`, `next-full`); otherwise the text (`next-read`) is tallied from the sums with the gap. Assumes nothing.
+-- `reading::tally_next` meets its contract: a large CIGAR and a full table are refused (`next-large`, `next-full`); otherwise the text (`next-read`) is tallied from the sums with the gap. Assumes nothing.
 use mathlib.Core.Path.{sym, ap, _∙_}
 use native.Mathlib.Omega.{arith}
 use Rattle.reading.specs.Tallies.{tallied}

@@ -1,4 +1,4 @@
--- `judging::reading::tally_rest` meets its contract: the loop keeps that the whole tally is that of the records that are left, from the sums so far. Assumes nothing.
+-- `reading::tally_rest` meets its contract: the loop keeps that the whole tally is that of the records that are left, from the sums so far. Assumes nothing.
 use mathlib.Core.Path.{_≡_, refl, sym, subst, _∙_}
 use native.Mathlib.Omega.{arith}
 use Rattle.records.specs.Records.{recordAt, recordsFrom}

@@ -1,4 +1,4 @@
--- `judging::reading::tally_text` meets its contract: the loop keeps that the whole tally is that of the text that is left, from the sums so far; each step's case has its law. Assumes nothing.
+-- `reading::tally_text` meets its contract: the loop keeps that the whole tally is that of the text that is left, from the sums so far; each step's case has its law. Assumes nothing.
 use mathlib.Core.Path.{_≡_, refl, sym, subst, _∙_}
 use mathlib.Core.List.{List}
 use Prim.Native.Nat.{ℕ, _-_, _≤_, _<_}
