@@ -1,4 +1,5 @@
 -- Reading what was written gives the same elements, and a text that was read can be written again.
+--     read-count, read-letter    a count in decimal, and a letter, in front of what follows
 --     read-back       any sound elements, written and read
 --     read-again      the elements of a text that was read, written and read again
 --     shorter         written again, a text is no longer than it was
@@ -34,7 +35,7 @@ read-digit room given m d s h =
     rw (digit-yes d h) (ap (λ (k : ℕ). readFrom room true k s) {x = m * 10 + (48 + d - 48)} {y = m * 10 + d} (omega arith))
 
 -- a count in front, whatever is behind it
-read-count : (room k n : ℕ) → n < k → (given : Bool) (s : List ℕ) → readFrom room given 0 (decimal n ++ s) ≡ readFrom room true n s
+pub read-count : (room k n : ℕ) → n < k → (given : Bool) (s : List ℕ) → readFrom room given 0 (decimal n ++ s) ≡ readFrom room true n s
 read-count room zero n h given s = absurd (omega arith)
 read-count room (suc k) n h given s =
     elim (decLt n 10) [
@@ -50,7 +51,7 @@ read-count room (suc k) n h given s =
     ]
 
 -- a letter in front
-read-letter : (room : ℕ) (given : Bool) (n letter : ℕ) (s : List ℕ) → 0 < room → countOf given n ≤ mostCount → isLetter letter ≡ true
+pub read-letter : (room : ℕ) (given : Bool) (n letter : ℕ) (s : List ℕ) → 0 < room → countOf given n ≤ mostCount → isLetter letter ≡ true
     → readFrom room given n (letter ∷ s) ≡ before (element (countOf given n) letter) (readAll (room - 1) s)
 unfolding readFrom
 read-letter room given n letter s r h l =

@@ -1,0 +1,18 @@
+-- `words::is_known` meets its contract. Assumes nothing.
+use mathlib.Core.Path.{ap, _∙_}
+use Rattle.cigar.specs.Elements.{isLetter}
+use borrow.Author.Needs.{needs}
+use Rattle.words.proofs.is_known.Statement.{statement}
+use Rattle.words.proofs.is_known.Tie as tie
+
+letter-in-requires : tie.Need-letter-in-requires
+letter-in-requires c κs = search needs
+
+is-letter-requires : tie.Need-is-letter-requires
+is-letter-requires c κs = search needs
+
+returns : tie.Need-returns
+returns c = c .is-letter .ensures ∙ ap isLetter (c .before .letter-in .ensures)
+
+pub is-known-spec : {M : Type 1} → statement M
+is-known-spec = tie.close (tie.spec letter-in-requires is-letter-requires returns)
