@@ -18,21 +18,6 @@ abbrev μ-loop : tie.MeasureT-loop
 loop-holds : tie.Need-loop-holds Inv-loop μ-loop
 loop-holds c = (omega arith, refl)
 
-mul-is-known : tie.Need-mul-is-known Inv-loop μ-loop
-mul-is-known c = search needs
-
-shared-slice-read-is-known : tie.Need-shared-slice-read-is-known Inv-loop μ-loop
-shared-slice-read-is-known c = search needs
-
-is-known-requires : tie.Need-is-known-requires Inv-loop μ-loop
-is-known-requires c κs = search needs
-
-add-i : tie.Need-add-i Inv-loop μ-loop
-add-i c = search needs
-
-loop-less : tie.Need-loop-less Inv-loop μ-loop
-loop-less c = search needs
-
 loop-again : tie.Need-loop-again Inv-loop μ-loop
 loop-again c =
     let a = c .before .before .before .before .before .before .args in
@@ -60,11 +45,11 @@ all-known-spec =
     Inv-loop
     μ-loop
     loop-holds
-    mul-is-known
-    shared-slice-read-is-known
-    is-known-requires
-    add-i
-    loop-less
+    (λ c. search needs)
+    (λ c. search needs)
+    (λ c κs. search needs)
+    (λ c. search needs)
+    (λ c. search needs)
     loop-again
     returns
     returns-2)

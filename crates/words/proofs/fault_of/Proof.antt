@@ -11,9 +11,6 @@ use borrow.Author.Needs.{needs}
 use Rattle.words.proofs.fault_of.Statement.{statement}
 use Rattle.words.proofs.fault_of.Tie as tie
 
-is-letter-requires : tie.Need-is-letter-requires
-is-letter-requires c κs = search needs
-
 returns : tie.Need-returns
 unfolding faultOf
 returns c =
@@ -47,4 +44,4 @@ returns-4 c =
     rw l
 
 pub fault-of-spec : {M : Type 1} → statement M
-fault-of-spec = tie.close (tie.spec is-letter-requires returns returns-2 returns-3 returns-4)
+fault-of-spec = tie.close (tie.spec (λ c κs. search needs) returns returns-2 returns-3 returns-4)

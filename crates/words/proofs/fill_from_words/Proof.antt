@@ -31,38 +31,11 @@ abbrev μ-loop : tie.MeasureT-loop
 loop-holds : tie.Need-loop-holds Inv-loop μ-loop
 loop-holds c = (omega arith, refl, refl, record { counts-is = refl; letters-is = refl })
 
-mul-length-in : tie.Need-mul-length-in Inv-loop μ-loop
-mul-length-in c = search needs
-
-shared-slice-read-length-in : tie.Need-shared-slice-read-length-in Inv-loop μ-loop
-shared-slice-read-length-in c = search needs
-
-length-in-requires : tie.Need-length-in-requires Inv-loop μ-loop
-length-in-requires c κs = search needs
-
-mul-letter-in : tie.Need-mul-letter-in Inv-loop μ-loop
-mul-letter-in c = search needs
-
-shared-slice-read-letter-in : tie.Need-shared-slice-read-letter-in Inv-loop μ-loop
-shared-slice-read-letter-in c = search needs
-
-letter-in-requires : tie.Need-letter-in-requires Inv-loop μ-loop
-letter-in-requires c κs = search needs
-
-mul-count : tie.Need-mul-count Inv-loop μ-loop
-mul-count c = search needs
-
 slice-set-from-count : tie.Need-slice-set-from-count Inv-loop μ-loop
 slice-set-from-count c = let r = c .before .before .before .before .before .before .before .before .pre .counts-room in omega arith
 
 slice-write-letters : tie.Need-slice-write-letters Inv-loop μ-loop
 slice-write-letters c = let r = c .before .before .before .before .before .before .before .before .pre .letters-room in omega arith
-
-add-i : tie.Need-add-i Inv-loop μ-loop
-add-i c = search needs
-
-loop-less : tie.Need-loop-less Inv-loop μ-loop
-loop-less c = search needs
 
 loop-again : tie.Need-loop-again Inv-loop μ-loop
 loop-again c =
@@ -99,17 +72,17 @@ fill-from-words-spec =
     Inv-loop
     μ-loop
     loop-holds
-    mul-length-in
-    shared-slice-read-length-in
-    length-in-requires
-    mul-letter-in
-    shared-slice-read-letter-in
-    letter-in-requires
-    mul-count
+    (λ c. search needs)
+    (λ c. search needs)
+    (λ c κs. search needs)
+    (λ c. search needs)
+    (λ c. search needs)
+    (λ c κs. search needs)
+    (λ c. search needs)
     slice-set-from-count
     slice-write-letters
-    add-i
-    loop-less
+    (λ c. search needs)
+    (λ c. search needs)
     loop-again
     same-length
     same-length-2

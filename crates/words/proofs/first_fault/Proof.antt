@@ -41,24 +41,6 @@ module _ (c : tie.After-fault-of Inv-loop μ-loop) where
 loop-holds : tie.Need-loop-holds Inv-loop μ-loop
 loop-holds c = let a = c .before .args in (omega arith, ap (faultFrom (a .counts .now) (a .letters .now) 0) {x = a .number} {y = a .number - 0} (omega arith))
 
-mul-fault-of : tie.Need-mul-fault-of Inv-loop μ-loop
-mul-fault-of c = search needs
-
-shared-slice-copy-out-fault-of : tie.Need-shared-slice-copy-out-fault-of Inv-loop μ-loop
-shared-slice-copy-out-fault-of c = search needs
-
-shared-slice-read-fault-of : tie.Need-shared-slice-read-fault-of Inv-loop μ-loop
-shared-slice-read-fault-of c = search needs
-
-fault-of-requires : tie.Need-fault-of-requires Inv-loop μ-loop
-fault-of-requires c κs = search needs
-
-add-i : tie.Need-add-i Inv-loop μ-loop
-add-i c = search needs
-
-loop-less : tie.Need-loop-less Inv-loop μ-loop
-loop-less c = search needs
-
 loop-again : tie.Need-loop-again Inv-loop μ-loop
 loop-again c =
     let e = c .before in
@@ -82,12 +64,12 @@ first-fault-spec =
     Inv-loop
     μ-loop
     loop-holds
-    mul-fault-of
-    shared-slice-copy-out-fault-of
-    shared-slice-read-fault-of
-    fault-of-requires
-    add-i
-    loop-less
+    (λ c. search needs)
+    (λ c. search needs)
+    (λ c. search needs)
+    (λ c κs. search needs)
+    (λ c. search needs)
+    (λ c. search needs)
     loop-again
     returns
     returns-2)

@@ -5,14 +5,8 @@ use borrow.Author.Needs.{needs}
 use Rattle.words.proofs.is_known.Statement.{statement}
 use Rattle.words.proofs.is_known.Tie as tie
 
-letter-in-requires : tie.Need-letter-in-requires
-letter-in-requires c κs = search needs
-
-is-letter-requires : tie.Need-is-letter-requires
-is-letter-requires c κs = search needs
-
 returns : tie.Need-returns
 returns c = c .is-letter .ensures ∙ ap isLetter (c .before .letter-in .ensures)
 
 pub is-known-spec : {M : Type 1} → statement M
-is-known-spec = tie.close (tie.spec letter-in-requires is-letter-requires returns)
+is-known-spec = tie.close (tie.spec (λ c κs. search needs) (λ c κs. search needs) returns)

@@ -47,29 +47,11 @@ loop-holds c =
     let all : s .args .number - 0 ≡ s .args .number = omega arith in
     rw all (omega arith, refl, s .pre .1 .0, refl)
 
-mul-word-of : tie.Need-mul-word-of Inv-loop μ-loop
-mul-word-of c = search needs
-
-shared-slice-copy-out-word-of : tie.Need-shared-slice-copy-out-word-of Inv-loop μ-loop
-shared-slice-copy-out-word-of c = search needs
-
-shared-slice-read-word-of : tie.Need-shared-slice-read-word-of Inv-loop μ-loop
-shared-slice-read-word-of c = search needs
-
 word-of-requires : tie.Need-word-of-requires Inv-loop μ-loop
 word-of-requires c κs = let n = c .before .before in rw (told w32 (count n) (c .before .word-of-arg .given)) (here n .0)
 
-mul-words : tie.Need-mul-words Inv-loop μ-loop
-mul-words c = search needs
-
 slice-write-words : tie.Need-slice-write-words Inv-loop μ-loop
 slice-write-words c = let r = c .before .before .before .before .before .before .before .pre .1 .1 in omega arith
-
-add-i : tie.Need-add-i Inv-loop μ-loop
-add-i c = search needs
-
-loop-less : tie.Need-loop-less Inv-loop μ-loop
-loop-less c = search needs
 
 loop-again : tie.Need-loop-again Inv-loop μ-loop
 loop-again c =
@@ -100,14 +82,14 @@ put-words-spec =
     Inv-loop
     μ-loop
     loop-holds
-    mul-word-of
-    shared-slice-copy-out-word-of
-    shared-slice-read-word-of
+    (λ c. search needs)
+    (λ c. search needs)
+    (λ c. search needs)
     word-of-requires
-    mul-words
+    (λ c. search needs)
     slice-write-words
-    add-i
-    loop-less
+    (λ c. search needs)
+    (λ c. search needs)
     loop-again
     same-length
     returns)

@@ -29,9 +29,6 @@ module _ (c : tie.After-all-known) where
 known : (c : tie.Then1) → allKnown (words (c .before)) ≡ true
 known c = sym (c .before .all-known .ensures) ∙ c .if1 .taken
 
-all-known-requires : tie.Need-all-known-requires
-all-known-requires c κs = search needs
-
 returns : tie.Need-returns
 returns c =
     let a = c .before .before in
@@ -46,15 +43,6 @@ returns-3 : tie.Need-returns-3
 returns-3 c =
     let a = c .before .before .before .before in
     rw (letters-full (words a) (length (counts a)) (length (letters a)) (known (c .before .before .before)) (c .before .before .if2 .left) (c .before .if3 .left) (c .if4 .taken)) (refl, (refl, refl))
-
-fill-from-words-requires : tie.Need-fill-from-words-requires
-fill-from-words-requires c κs = search needs
-
-same-length : tie.Need-same-length
-same-length c = search needs
-
-same-length-2 : tie.Need-same-length-2
-same-length-2 c = search needs
 
 returns-4 : tie.Need-returns-4
 returns-4 c =
@@ -80,12 +68,12 @@ pub read-words-spec : {M : Type 1} → statement M
 read-words-spec =
     tie.close
     (tie.spec
-    all-known-requires
+    (λ c κs. search needs)
     returns
     returns-2
     returns-3
-    fill-from-words-requires
-    same-length
-    same-length-2
+    (λ c κs. search needs)
+    (λ c. search needs)
+    (λ c. search needs)
     returns-4
     returns-5)

@@ -15,12 +15,6 @@ use borrow.Author.Needs.{needs}
 use Rattle.words.proofs.write_words.Statement.{statement}
 use Rattle.words.proofs.write_words.Tie as tie
 
-held-requires : tie.Need-held-requires
-held-requires c κs = search needs
-
-first-fault-requires : tie.Need-first-fault-requires
-first-fault-requires c κs = search needs
-
 -- what was handed in, where the elements were judged, and their first refusal
 module _ (c : tie.After-first-fault) where
   abbrev number : ℕ
@@ -58,9 +52,6 @@ put-words-requires c κs =
     let few = e .before .if2 .left in
     ((record { counts-long = omega arith; letters-long = omega arith }, few), (all-held (number a) (counts a) (letters a) (length (words a)) (none (e .before .before)) few, e .if3 .left))
 
-same-length : tie.Need-same-length
-same-length c = search needs
-
 returns-3 : tie.Need-returns-3
 returns-3 c =
     let e = c .before .before .before .before .before .before in
@@ -79,11 +70,11 @@ pub write-words-spec : {M : Type 1} → statement M
 write-words-spec =
     tie.close
     (tie.spec
-    held-requires
-    first-fault-requires
+    (λ c κs. search needs)
+    (λ c κs. search needs)
     returns
     returns-2
     put-words-requires
-    same-length
+    (λ c. search needs)
     returns-3
     returns-4)
