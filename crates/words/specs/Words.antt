@@ -1,4 +1,4 @@
--- CIGAR words of BAM, as the SAM/BAM specification has them: 32 bits, the length in the upper 28 and the code in the lower 4, so that a word is 16 times its length, and its code.
+-- CIGAR words of BAM, as the SAM/BAM specification has them: 32 bits, the length in the upper 28 and the code in the lower 4, so that a word is its length times 16, and its code.
 -- Words and elements keep their order. BAM's run along the genome and a record's along the transcript, so on strand -1 a caller turns them round. Assumes nothing.
 use Prim.Native.Nat.{ℕ, zero, suc, _+_, _*_, _/_, _%_, _≤_, min}
 use Prim.Native.Char.{code}
@@ -20,7 +20,7 @@ use Rattle.cigar.specs.declared.Counted.the-variants as counted
 
 -- ---- letters and codes
 
--- the bytes of a text
+-- the bytes of a text of ASCII
 abbrev pub bytes : String → List ℕ
 bytes []ˢ = []
 bytes (c ∷ˢ s) = code c ∷ bytes s
@@ -40,6 +40,7 @@ exchanged letter =
     else if eqb letter letterD then letterI
     else letter
 
+-- our letter of a code
 unfoldable pub letterOf : ℕ → ℕ
 letterOf code = exchanged (bamLetter code)
 
@@ -48,22 +49,27 @@ abbrev pub placeIn : List ℕ → ℕ → ℕ
 placeIn [] letter = 0
 placeIn (x ∷ xs) letter = if eqb letter x then 0 else suc (placeIn xs letter)
 
+-- the code of a letter of ours
 unfoldable pub codeOf : ℕ → ℕ
 codeOf letter = placeIn bamLetters (exchanged letter)
 
 -- ---- words and elements
 
+-- the lower 4 bits have room for so many codes
+abbrev pub codes : ℕ
+codes = 16
+
 abbrev pub lengthIn : ℕ → ℕ
-lengthIn word = word / 16
+lengthIn word = word / codes
 
 abbrev pub codeIn : ℕ → ℕ
-codeIn word = word % 16
+codeIn word = word % codes
 
 abbrev pub elementOfWord : ℕ → Element
 elementOfWord word = element (lengthIn word) (letterOf (codeIn word))
 
 abbrev pub wordOf : Element → ℕ
-wordOf x = x .count * 16 + codeOf (x .letter)
+wordOf x = x .count * codes + codeOf (x .letter)
 
 -- ---- reading
 

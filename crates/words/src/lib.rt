@@ -22,7 +22,7 @@ use refusals::NO_ELEMENT;
 use refusals::NO_ROOM;
 use refusals::TOO_MUCH;
 
-// A word is this many times its length, and its code: the code has the lower 4 bits.
+// The lower 4 bits of a word have room for so many codes: the word is its length times that, and its code.
 const CODES: u32 = 16;
 
 // The letter of a word's code, 0 where it has none. BAM's I is our D, and its D our I.

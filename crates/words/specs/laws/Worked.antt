@@ -1,4 +1,4 @@
--- Worked examples, computed: 16 times the length, and the code. Assumes nothing.
+-- Worked examples, computed: a word is its length times 16, and its code. Assumes nothing.
 use mathlib.Core.Path.{_≡_, refl}
 use mathlib.Core.List.{List, [], _∷_, _++_, map}
 use Prim.Native.Nat.{ℕ, _+_, _*_}
