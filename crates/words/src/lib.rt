@@ -25,22 +25,16 @@ use refusals::TOO_MUCH;
 // The lower 4 bits of a word have room for so many codes: the word is its length times that, and its code.
 const CODES: u32 = 16;
 
-// The letter of a word's code, 0 where it has none. BAM's I is our D, and its D our I.
+// The letter of a word's code, 0 where it has none: BAM's are MIDNSHP=X, its I is our D, and its D our I.
 fn letter_in(word: u32) -> u8
     ensures { λ r. ⌜ r ≡ letterOf (codeIn word) ⌝ }
 {
-    match word % CODES {
-        0 => b'M',
-        1 => b'D',
-        2 => b'I',
-        3 => b'N',
-        4 => b'S',
-        5 => b'H',
-        6 => b'P',
-        7 => b'=',
-        8 => b'X',
-        _ => 0,
+    let letters = b"MDINSHP=X";
+    let code = (word % CODES) as usize;
+    if code < letters.len() {
+        return letters[code];
     }
+    0
 }
 
 // A word's length as the signed number of a table.

@@ -13,7 +13,7 @@ use native.Mathlib.Nat.{min-eq-left}
 use native.Mathlib.Omega.{arith}
 use lib.Dec.{ltb, eqb}
 use lib.IntN.{ℤ, pos, negsuc, natAbs}
-use lib.ListN.{length, getD, drop, length-append, length-map, List·getD-eq-default}
+use lib.ListN.{length, getD, drop, length-append, length-map}
 use lib.Seq.{append-snoc, getD-at}
 use lib.Signed.{ltZ}
 use borrow.Author.Tests.{eqb-true, eqb-false, le-ltb, ltb-false}
@@ -25,7 +25,7 @@ use Rattle.cigar.specs.Elements.{Element, isLetter, letterEqual, letterD, lette
 use Rattle.cigar.specs.Text.{element}
 use Rattle.cigar.specs.Lent.{atFront}
 use Rattle.cigar.specs.Read.{countsOf, lettersOf}
-use Rattle.words.specs.Words.{bamLetters, letterOf, codeOf, lengthIn, codeIn, elementOfWord, wordOf, isKnown, allKnown, readWords, faultOf, faultFrom, elementsFrom, writeWords}
+use Rattle.words.specs.Words.{letterOf, codeOf, lengthIn, codeIn, elementOfWord, wordOf, isKnown, allKnown, readWords, faultOf, faultFrom, elementsFrom, writeWords}
 
 -- ---- one element, one word
 
@@ -47,56 +47,23 @@ by-letter P equal d i m n x b h =
     is : (letter : ℕ) → eqb b letter ≡ true → P letter → P b
     is letter e p = subst P (sym (eqb-true b letter e)) p
 
--- a code that is none of 0 to 8 has no letter
-above : (k n : ℕ) → n ≤ k → (k ≡ n → ⊥) → suc n ≤ k
-above k n h ne = omega arith
-
-pub letter-none : (k : ℕ) → (k ≡ 0 → ⊥) → (k ≡ 1 → ⊥) → (k ≡ 2 → ⊥) → (k ≡ 3 → ⊥) → (k ≡ 4 → ⊥) → (k ≡ 5 → ⊥) → (k ≡ 6 → ⊥) → (k ≡ 7 → ⊥) → (k ≡ 8 → ⊥) → letterOf k ≡ 0
-unfolding letterOf
-letter-none k n0 n1 n2 n3 n4 n5 n6 n7 n8 =
-    let to3 = above k 2 (above k 1 (above k 0 (omega arith) n0) n1) n2 in
-    let to6 = above k 5 (above k 4 (above k 3 to3 n3) n4) n5 in
-    rw (List·getD-eq-default bamLetters 0 {n = k} (above k 8 (above k 7 (above k 6 to6 n6) n7) n8))
-
--- what holds of each of the six codes holds of every code that has one of the six letters
-by-code : (P : ℕ → Type 0) → P 0 → P 1 → P 2 → P 3 → P 7 → P 8 → (k : ℕ) → isLetter (letterOf k) ≡ true → P k
-unfolding isLetter letterOf
-by-code P p0 p1 p2 p3 p7 p8 k h =
-    by-test (eqb k 0) (λ e. is 0 e p0)
-    (λ e0.
-    by-test (eqb k 1) (λ e. is 1 e p1)
-    (λ e1.
-    by-test (eqb k 2) (λ e. is 2 e p2)
-    (λ e2.
-    by-test (eqb k 3) (λ e. is 3 e p3)
-    (λ e3.
-    by-test (eqb k 4) (λ e. none (rw (eqb-true k 4 e) at h))
-    (λ e4.
-    by-test (eqb k 5) (λ e. none (rw (eqb-true k 5 e) at h))
-    (λ e5.
-    by-test (eqb k 6) (λ e. none (rw (eqb-true k 6 e) at h))
-    (λ e6.
-    by-test (eqb k 7) (λ e. is 7 e p7)
-    (λ e7.
-    by-test (eqb k 8) (λ e. is 8 e p8)
-    (λ e8.
-    let other =
-    letter-none k (eqb-false k 0 e0) (eqb-false k 1 e1) (eqb-false k 2 e2) (eqb-false k 3 e3) (eqb-false k 4 e4) (eqb-false k 5 e5) (eqb-false k 6 e6) (eqb-false k 7 e7) (eqb-false k 8 e8) in
-    none (rw other at h))))))))))
-  where
-    is : (n : ℕ) → eqb k n ≡ true → P n → P k
-    is n e p = subst P (sym (eqb-true k n e)) p
-
-    none : false ≡ true → P k
-    none e = absurd (false≢true e)
-
 letter-back : (letter : ℕ) → isLetter letter ≡ true → letterOf (codeOf letter) ≡ letter
 unfolding letterOf codeOf
 letter-back = by-letter (λ b. letterOf (codeOf b) ≡ b) refl refl refl refl refl refl
 
-code-back : (code : ℕ) → isLetter (letterOf code) ≡ true → codeOf (letterOf code) ≡ code
-unfolding letterOf codeOf
-code-back = by-code (λ k. codeOf (letterOf k) ≡ k) refl refl refl refl refl refl
+-- 4, 5 and 6 are S, H and P, and codes from 9 on have no letter
+code-back : (k : ℕ) → isLetter (letterOf k) ≡ true → codeOf (letterOf k) ≡ k
+unfolding isLetter letterOf codeOf
+code-back zero h = refl
+code-back (suc zero) h = refl
+code-back (suc (suc zero)) h = refl
+code-back (suc (suc (suc zero))) h = refl
+code-back (suc (suc (suc (suc zero)))) h = absurd (false≢true h)
+code-back (suc (suc (suc (suc (suc zero))))) h = absurd (false≢true h)
+code-back (suc (suc (suc (suc (suc (suc zero)))))) h = absurd (false≢true h)
+code-back (suc (suc (suc (suc (suc (suc (suc zero))))))) h = refl
+code-back (suc (suc (suc (suc (suc (suc (suc (suc zero)))))))) h = refl
+code-back (suc (suc (suc (suc (suc (suc (suc (suc (suc k))))))))) h = absurd (false≢true h)
 
 pub code-small : (letter : ℕ) → isLetter letter ≡ true → codeOf letter ≤ 8
 unfolding codeOf
