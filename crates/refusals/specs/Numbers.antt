@@ -94,12 +94,12 @@ abbrev pub notTogether : ℕ
 notTogether = 23
 
 -- a BAM word's code is none of those of the six letters
-abbrev pub badCode : ℕ
-badCode = 30
+abbrev pub noOperation : ℕ
+noOperation = 30
 
--- a count that a BAM word can't hold: below 0, or above the largest length
-abbrev pub badLength : ℕ
-badLength = 31
+-- a count that no BAM word can hold: below 0, or above the largest
+abbrev pub noWord : ℕ
+noWord = 31
 
 -- the most exon records of a transcript
 abbrev pub mostRecords : ℕ
@@ -129,6 +129,6 @@ mostBases = 2000000000
 abbrev pub mostCount : ℕ
 mostCount = 2147483647
 
--- the largest length of a BAM word: 28 bits
-abbrev pub mostLength : ℕ
-mostLength = 268435455
+-- the largest count that a BAM word has bits for: 28 of them
+abbrev pub mostWordCount : ℕ
+mostWordCount = 268435455

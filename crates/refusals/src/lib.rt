@@ -47,9 +47,9 @@ pub const BAD_VERSION: u8 = 22;
 // A transcript does not hold together.
 pub const NOT_TOGETHER: u8 = 23;
 // A BAM word's code is none of those of the six letters.
-pub const BAD_CODE: u8 = 30;
-// A count that a BAM word can't hold: below 0, or above the largest length.
-pub const BAD_LENGTH: u8 = 31;
+pub const NO_OPERATION: u8 = 30;
+// A count that no BAM word can hold: below 0, or above the largest.
+pub const NO_WORD: u8 = 31;
 
 // The most exon records of a transcript.
 pub const MOST_RECORDS: usize = 512;
@@ -65,5 +65,5 @@ pub const MOST_CARD: usize = 65_536;
 pub const MOST_BASES: u32 = 2_000_000_000;
 // The largest count of an element.
 pub const MOST_COUNT: u32 = 2_147_483_647;
-// The largest length of a BAM word: 28 bits.
-pub const MOST_LENGTH: i32 = 268_435_455;
+// The largest count that a BAM word has bits for: 28 of them.
+pub const MOST_WORD_COUNT: i32 = 268_435_455;

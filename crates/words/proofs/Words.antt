@@ -17,7 +17,7 @@ use lib.IntN.{ℤ, pos, natAbs}
 use lib.ListN.{length, getD, drop, drop-of-length-le}
 use lib.Seq.{drop-cons}
 use borrow.Author.Tests.{lt-ltb, le-ltb, eq-eqb, ne-eqb}
-use Rattle.refusals.specs.Numbers.{tooMuch, noRoom, badCode, mostSegments}
+use Rattle.refusals.specs.Numbers.{tooMuch, noRoom, noOperation, mostSegments}
 use Rattle.refusals.specs.Outcome.{answered, refused}
 use Rattle.cigar.specs.Text.{element}
 use Rattle.words.specs.Words.{elementOfWord, wordOf, isKnown, allKnown, readWords, faultOf, faultFrom, elementsFrom, writeWords}
@@ -78,7 +78,7 @@ module _ (counts : List ℤ) (letters : List ℕ) (number i : ℕ) where
       rw none
 
 module _ (words : List ℕ) (c l : ℕ) where
-  pub unknown-read : allKnown words ≡ false → readWords words c l ≡ refused badCode
+  pub unknown-read : allKnown words ≡ false → readWords words c l ≡ refused noOperation
   unfolding readWords
   unknown-read k = rw k
 

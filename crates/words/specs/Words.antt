@@ -1,8 +1,6 @@
 -- CIGAR words of BAM, as the SAM/BAM specification has them: 32 bits, the length in the upper 28 and the code in the lower 4, so that a word is its length times 16, and its code.
 -- Words and elements keep their order. BAM's run along the genome and a record's along the transcript, so on strand -1 a caller turns them round. Assumes nothing.
 use Prim.Native.Nat.{ℕ, zero, suc, _+_, _*_, _/_, _%_, _≤_, min}
-use Prim.Native.Char.{code}
-use Prim.Native.String.{String, [] as []ˢ, _∷_ as _∷ˢ_}
 use mathlib.Core.Bool.{Bool, true, not, _&&_}
 use mathlib.Core.List.{List, [], _∷_, map}
 use lib.Dec.{ltb, eqb}
@@ -10,8 +8,9 @@ use lib.IntN.{ℤ, pos, natAbs}
 use lib.ListN.{length, getD}
 use lib.Signed.{ltZ}
 use Rattle.whole.specs.Whole.{if_then_else_}
-use Rattle.refusals.specs.Numbers.{tooMuch, noElement, noRoom, badCode, badLength, mostSegments, mostLength}
+use Rattle.refusals.specs.Numbers.{tooMuch, noElement, noRoom, noOperation, noWord, mostSegments, mostWordCount}
 use Rattle.refusals.specs.Outcome.{answered, refused, unless}
+use Rattle.cigar.specs.Bytes.{bytes}
 use Rattle.cigar.specs.Elements.{Element, isLetter, letterD, letterI}
 use Rattle.cigar.specs.Text.{Reading, element}
 use Rattle.cigar.specs.Write.{Writing}
@@ -19,11 +18,6 @@ use Rattle.cigar.specs.declared.Counted.{Counted}
 use Rattle.cigar.specs.declared.Counted.the-variants as counted
 
 -- ---- letters and codes
-
--- the bytes of a text of ASCII
-abbrev pub bytes : String → List ℕ
-bytes []ˢ = []
-bytes (c ∷ˢ s) = code c ∷ bytes s
 
 -- BAM numbers its letters from 0 on
 abbrev pub bamLetters : List ℕ
@@ -84,7 +78,7 @@ allKnown (w ∷ ws) = isKnown w && allKnown ws
 -- What words read as, for two lent tables of these lengths: 30 where any of them has another code, then 3 where they are too many, then 20 where a table is shorter.
 unfoldable pub readWords : List ℕ → ℕ → ℕ → Reading
 readWords words countsRoom lettersRoom =
-    if not (allKnown words) then refused badCode
+    if not (allKnown words) then refused noOperation
     else if ltb mostSegments (length words) then refused tooMuch
     else if ltb countsRoom (length words) then refused noRoom
     else if ltb lettersRoom (length words) then refused noRoom
@@ -96,8 +90,8 @@ readWords words countsRoom lettersRoom =
 unfoldable pub faultOf : ℤ → ℕ → ℕ
 faultOf count letter =
     if not (isLetter letter) then noElement
-    else if ltZ count (pos 0) then badLength
-    else if ltZ (pos mostLength) count then badLength
+    else if ltZ count (pos 0) then noWord
+    else if ltZ (pos mostWordCount) count then noWord
     else 0
 
 -- the first refusal at m places of the tables from place i on, 0 for none

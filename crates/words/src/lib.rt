@@ -7,19 +7,19 @@ ghost use Prim.Native.Nat.{_≤_, min};
 ghost use lib.IntN.{pos, natAbs};
 ghost use lib.ListN.{length};
 ghost use lib.Seq.{sets};
-ghost use Rattle.refusals.specs.Numbers.{mostLength, mostSegments};
+ghost use Rattle.refusals.specs.Numbers.{mostWordCount, mostSegments};
 ghost use Rattle.cigar.specs.Elements.{isLetter};
 ghost use Rattle.cigar.specs.Text.{element, countedOf};
 ghost use Rattle.cigar.specs.Read.{countsAfter, lettersAfter, FullLength, Filled};
 ghost use Rattle.cigar.specs.Write.{bufferAfter};
 ghost use Rattle.words.specs.Words.{letterOf, codeOf, lengthIn, codeIn, elementOfWord, wordOf, isKnown, allKnown, readWords, faultOf, faultFrom, elementsFrom, writeWords, countedWords, Room};
 use cigar::Counted;
-use refusals::BAD_CODE;
-use refusals::BAD_LENGTH;
-use refusals::MOST_LENGTH;
 use refusals::MOST_SEGMENTS;
+use refusals::MOST_WORD_COUNT;
 use refusals::NO_ELEMENT;
+use refusals::NO_OPERATION;
 use refusals::NO_ROOM;
+use refusals::NO_WORD;
 use refusals::TOO_MUCH;
 
 // The lower 4 bits of a word have room for so many codes: the word is its length times that, and its code.
@@ -39,7 +39,7 @@ fn letter_in(word: u32) -> u8
 
 // A word's length as the signed number of a table.
 fn length_in(word: u32) -> i32
-    ensures { λ r. ⌜ (r ≡ pos (lengthIn word)) × (lengthIn word ≤ mostLength) ⌝ }
+    ensures { λ r. ⌜ (r ≡ pos (lengthIn word)) × (lengthIn word ≤ mostWordCount) ⌝ }
 {
     cigar::signed(word / CODES)
 }
@@ -101,7 +101,7 @@ pub fn read_words(words: &[u32], counts: &mut [i32], letters: &mut [u8]) -> Coun
         fill_from_words(words, counts, letters);
         return Counted::Count(number);
     }
-    Counted::Refused(BAD_CODE)
+    Counted::Refused(NO_OPERATION)
 }
 
 // The code of one of the six letters.
@@ -125,10 +125,10 @@ fn fault_of(count: i32, letter: u8) -> u8
 {
     if cigar::is_letter(letter) {
         if count < 0 {
-            return BAD_LENGTH;
+            return NO_WORD;
         }
-        if MOST_LENGTH < count {
-            return BAD_LENGTH;
+        if MOST_WORD_COUNT < count {
+            return NO_WORD;
         }
         return 0;
     }

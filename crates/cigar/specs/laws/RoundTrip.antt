@@ -9,6 +9,7 @@ use mathlib.Core.Path.{_≡_, refl, ap, subst, _∙_}
 use mathlib.Core.Bool.{Bool, true, false, true≢false}
 use mathlib.Core.List.{List, [], _∷_, _++_}
 use Prim.Native.Nat.{ℕ, zero, suc, _+_, _*_, _-_, _/_, _%_, _≤_, _<_}
+use Prim.Native.Char.{code}
 use native.Mathlib.Nat.{div-add-mod'}
 use native.Mathlib.Decide.{decLt, ℕ-discrete}
 use native.Mathlib.Omega.{arith}
@@ -20,6 +21,7 @@ use Rattle.whole.specs.Whole.{if_then_else_}
 use Rattle.whole.specs.laws.Whole.{by-test}
 use Rattle.refusals.specs.Numbers.{mostCount}
 use Rattle.refusals.specs.Outcome.{answered, refused}
+use Rattle.cigar.specs.Bytes.{bytes}
 use Rattle.cigar.specs.Elements.{Element, isLetter}
 use Rattle.cigar.specs.laws.Letters.{digit-bounds, digit-yes, letter-no-digit}
 use Rattle.cigar.specs.Text.{isDigit, countOf, Reading, before, element, taken, readFrom, readAll}
@@ -157,8 +159,7 @@ pub shorter : (room : ℕ) (text : List ℕ) {es : List Element} → readAll roo
 unfolding soFar
 shorter room text e = omega (arith, subst (Short (length text + 0)) e (short-read text room false 0 (λ _. refl)))
 
--- M 77, 0 48, X 88, 3 51, = 61
-pub p14 : (let text : List ℕ = 77 ∷ 48 ∷ 88 ∷ 51 ∷ 61 ∷ [] in let es : List Element = element 1 77 ∷ element 0 88 ∷ element 3 61 ∷ [] in
+pub p14 : (let text : List ℕ = bytes "M0X3=" in let es : List Element = element 1 (code "M") ∷ element 0 (code "X") ∷ element 3 (code "=") ∷ [] in
     (readText text ≡ answered es) × (elementsText es ≡ text))
 unfolding isLetter readText readFrom digitsBy decimal elementText elementsText
 p14 = (refl, refl)

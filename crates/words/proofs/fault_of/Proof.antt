@@ -4,7 +4,7 @@ use mathlib.Core.Bool.{true, false}
 use lib.IntN.{pos}
 use lib.Signed.{ltZ}
 use Rattle.whole.specs.laws.Whole.{read}
-use Rattle.refusals.specs.Numbers.{mostLength}
+use Rattle.refusals.specs.Numbers.{mostWordCount}
 use Rattle.cigar.specs.Elements.{isLetter}
 use Rattle.words.specs.Words.{faultOf}
 use borrow.Author.Needs.{needs}
@@ -25,7 +25,7 @@ returns-2 c =
     let s = c .before .before .before .before in
     let l : isLetter (s .args .letter) ≡ true = sym (c .before .before .before .is-letter .ensures) ∙ c .before .before .if1 .taken in
     let b : ltZ (s .args .count) (pos 0) ≡ false = rw (read (s .fits .count)) at (c .before .if2 .left) in
-    let m : ltZ (pos mostLength) (s .args .count) ≡ true = rw (read (s .fits .count)) at (c .if3 .taken) in
+    let m : ltZ (pos mostWordCount) (s .args .count) ≡ true = rw (read (s .fits .count)) at (c .if3 .taken) in
     rw (l, b, m)
 
 returns-3 : tie.Need-returns-3
@@ -34,7 +34,7 @@ returns-3 c =
     let s = c .before .before .before .before in
     let l : isLetter (s .args .letter) ≡ true = sym (c .before .before .before .is-letter .ensures) ∙ c .before .before .if1 .taken in
     let b : ltZ (s .args .count) (pos 0) ≡ false = rw (read (s .fits .count)) at (c .before .if2 .left) in
-    let m : ltZ (pos mostLength) (s .args .count) ≡ false = rw (read (s .fits .count)) at (c .if3 .left) in
+    let m : ltZ (pos mostWordCount) (s .args .count) ≡ false = rw (read (s .fits .count)) at (c .if3 .left) in
     rw (l, b, m)
 
 returns-4 : tie.Need-returns-4

@@ -4,7 +4,7 @@ use Prim.Native.Nat.{ℕ, _+_, _*_, _≤_}
 use native.Mathlib.Omega.{arith}
 use lib.IntN.{natAbs}
 use Rattle.whole.specs.laws.Whole.{read}
-use Rattle.refusals.specs.Numbers.{mostLength}
+use Rattle.refusals.specs.Numbers.{mostWordCount}
 use Rattle.words.specs.Words.{codes}
 use Rattle.words.specs.laws.RoundTrips.{Held, fault-none}
 use Rattle.words.proofs.word_of.Statement.{statement}
@@ -24,8 +24,8 @@ code-of-requires c κs = held (c .before) .wordable .lettered
 length-is : (c : tie.After-code-of) → c .before .unsigned .result ≡ natAbs (c .before .before .args .count)
 length-is c = c .before .unsigned .ensures ∙ ap natAbs (read (c .before .before .fits .count))
 
-short : (c : tie.After-code-of) → c .before .unsigned .result ≤ mostLength
-short c = subst (λ (n : ℕ). n ≤ mostLength) (sym (length-is c)) (held (c .before .before) .wordable .small)
+short : (c : tie.After-code-of) → c .before .unsigned .result ≤ mostWordCount
+short c = subst (λ (n : ℕ). n ≤ mostWordCount) (sym (length-is c)) (held (c .before .before) .wordable .small)
 
 mul-result : tie.Need-mul-result
 mul-result c = let s = short c in omega arith

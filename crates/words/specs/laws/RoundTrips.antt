@@ -18,7 +18,7 @@ use lib.Seq.{append-snoc, getD-at}
 use lib.Signed.{ltZ}
 use borrow.Author.Tests.{eqb-true, eqb-false, le-ltb, ltb-false}
 use Rattle.whole.specs.laws.Whole.{by-test, both}
-use Rattle.refusals.specs.Numbers.{noElement, badLength, mostLength, mostSegments}
+use Rattle.refusals.specs.Numbers.{noElement, noWord, mostWordCount, mostSegments}
 use Rattle.refusals.specs.Outcome.{answered}
 use Rattle.refusals.specs.laws.Outcomes.{clash, same, passed}
 use Rattle.cigar.specs.Elements.{Element, isLetter, letterEqual, letterD, letterI, letterM, letterN, letterX}
@@ -72,7 +72,7 @@ code-small = by-letter (λ b. codeOf b ≤ 8) (omega arith) (omega arith) (omega
 -- an element that a word can hold
 pub record Wordable (x : Element) : Type 0 where
   pub lettered : isLetter (x .letter) ≡ true
-  pub small : x .count ≤ mostLength
+  pub small : x .count ≤ mostWordCount
 
 abbrev pub AllWordable : List Element → Type 0
 AllWordable [] = Unit
@@ -83,7 +83,7 @@ pub record Held (z : ℤ) (letter : ℕ) : Type 0 where
   pub whole : ltZ z (pos 0) ≡ false
   pub wordable : Wordable (element (natAbs z) letter)
 
-size-small : (z : ℤ) → ltZ z (pos 0) ≡ false → ltZ (pos mostLength) z ≡ false → natAbs z ≤ mostLength
+size-small : (z : ℤ) → ltZ z (pos 0) ≡ false → ltZ (pos mostWordCount) z ≡ false → natAbs z ≤ mostWordCount
 size-small (pos n) h k = omega (arith, ltb-false)
 size-small (negsuc n) h k = absurd (true≢false h)
 
@@ -151,16 +151,16 @@ unfolding faultOf
 fault-none z letter h =
     by-test (isLetter letter)
     (λ l.
-    by-test (ltZ z (pos 0)) (λ b. let e : badLength ≡ 0 = rw (l, b) at h in absurd (omega arith))
+    by-test (ltZ z (pos 0)) (λ b. let e : noWord ≡ 0 = rw (l, b) at h in absurd (omega arith))
     (λ b.
-    by-test (ltZ (pos mostLength) z) (λ s. let e : badLength ≡ 0 = rw (l, b, s) at h in absurd (omega arith))
+    by-test (ltZ (pos mostWordCount) z) (λ s. let e : noWord ≡ 0 = rw (l, b, s) at h in absurd (omega arith))
     (λ s. record { whole = b; wordable = record { lettered = l; small = size-small z b s } })))
     (λ l. let e : noElement ≡ 0 = rw l at h in absurd (omega arith))
 
 -- an element that a word can hold is not refused
 held-no-fault : (x : Element) → Wordable x → faultOf (pos (x .count)) (x .letter) ≡ 0
 unfolding faultOf
-held-no-fault x h = rw (h .lettered, le-ltb (x .count) 0 (omega arith), le-ltb mostLength (x .count) (h .small))
+held-no-fault x h = rw (h .lettered, le-ltb (x .count) 0 (omega arith), le-ltb mostWordCount (x .count) (h .small))
 
 -- the first place of those that are not refused
 pub fault-first : (counts : List ℤ) (letters : List ℕ) (i m : ℕ) → faultFrom counts letters i (suc m) ≡ 0

@@ -6,10 +6,11 @@ use Prim.Native.Char.{code}
 use lib.IntN.{pos, negsuc}
 use lib.ListN.{replicate}
 use Rattle.refusals.specs.Outcome.{answered, refused}
+use Rattle.cigar.specs.Bytes.{bytes}
 use Rattle.cigar.specs.Elements.{Element, isLetter}
 use Rattle.cigar.specs.Text.{element}
 use Rattle.cigar.specs.Write.{digitsBy, decimal, elementText, elementsText}
-use Rattle.words.specs.Words.{bytes, letterOf, codeOf, allKnown, readWords, faultOf, faultFrom, elementsFrom, writeWords}
+use Rattle.words.specs.Words.{letterOf, codeOf, allKnown, readWords, faultOf, faultFrom, elementsFrom, writeWords}
 use Rattle.words.specs.Retyping.{alignersText, retyped}
 
 -- BAM's 10M 2I 3D
