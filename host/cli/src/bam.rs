@@ -36,8 +36,6 @@ enum Fault {
     Word(usize, u32),
     /// An N without an exon on one of its sides.
     Intron,
-    /// How many bases the CIGAR and the sequence have.
-    Lengths(i64, i64),
     /// Building's refusal, or that of too many words.
     Refused(Refusal),
     /// How often the name stands.
@@ -70,9 +68,6 @@ impl fmt::Display for Fault {
                 write!(f, "{refusal}; word {number} has {operation}, length {length}{clipped}")
             }
             Fault::Intron => f.write_str("an N of its CIGAR has no exon on one of its sides"),
-            Fault::Lengths(cigar, sequence) => {
-                write!(f, "its CIGAR has {cigar} bases of the transcript, its sequence {sequence}")
-            }
             Fault::Refused(refusal) => refusal.fmt(f),
             Fault::Twice(times) => write!(f, "the name stands {times} times, each a primary alignment"),
             Fault::NoName => f.write_str("a read without a name"),
@@ -89,7 +84,6 @@ impl Fault {
             Fault::NoCigar => "no CIGAR".into(),
             Fault::Word(_, word) => format!("refusal 30 for {}", operation(word)),
             Fault::Intron => "an N without an exon on one side".into(),
-            Fault::Lengths(..) => "CIGAR and sequence of two lengths".into(),
             Fault::Refused(refusal) => format!("refusal {}", refusal.number()),
             Fault::Twice(_) => "a name that stands twice".into(),
             Fault::NoName => "no name".into(),
@@ -182,10 +176,6 @@ fn card(alignment: &Alignment, [cds_start, cds_end]: Cds) -> Result<Vec<u8>, Fau
         return Err(Fault::NoCigar);
     }
     let elements = elements(&alignment.words)?;
-    let length = reach(&elements)[1];
-    if let Some(bases) = alignment.bases.filter(|&bases| bases != length) {
-        return Err(Fault::Lengths(length, bases));
-    }
     let reverse = alignment.flag & REVERSE != 0;
     let records = records(start, &elements, reverse)?;
     let exons = records.iter().map(Record::exon).collect::<Result<Vec<_>, _>>()?;
@@ -339,7 +329,7 @@ mod tests {
     use pulindraxi::Transcript;
 
     fn alignment(flag: u16, start: i64, words: &[u32]) -> Alignment {
-        Alignment { name: b"read".to_vec(), flag, start: Some(start), words: words.to_vec(), bases: None }
+        Alignment { name: b"read".to_vec(), flag, start: Some(start), words: words.to_vec() }
     }
 
     /// A word of a length and an operation's letter.
@@ -401,8 +391,6 @@ mod tests {
         assert_eq!(card(&alignment(0, 1 << 40, &[m]), [None; 2]), Err(Fault::Refused(Refusal::TooLong)));
         assert_eq!(card(&alignment(0, 0, &[m]), [Some(3), None]), Err(Fault::Refused(Refusal::HalfCds)));
         assert_eq!(card(&alignment(0, 0, &[m]), [Some(3), Some(6)]), Err(Fault::Refused(Refusal::BadCds)));
-        let longer = Alignment { bases: Some(6), ..alignment(0, 0, &[m]) };
-        assert_eq!(card(&longer, [None; 2]), Err(Fault::Lengths(5, 6)));
         let nowhere = Alignment { start: None, ..alignment(0, 0, &[m]) };
         assert_eq!(card(&nowhere, [None; 2]), Err(Fault::Unmapped));
     }

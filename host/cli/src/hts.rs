@@ -54,7 +54,7 @@ struct Core {
     flag: u16,
     l_qname: u16,
     n_cigar: u32,
-    l_qseq: i32,
+    _l_qseq: i32,
     _mtid: i32,
     _mpos: i64,
     _isize: i64,
@@ -72,6 +72,10 @@ struct Record {
 }
 
 const _: () = assert!(size_of::<Core>() == 48 && size_of::<Record>() == 80);
+
+/// What `hts_check_EOF` says of an end marker that is there, and of a file whose kind has none.
+const END_THERE: c_int = 1;
+const NO_SUCH_END: c_int = 3;
 
 /// `EFTYPE`, by which htslib says that it does not know a file's kind; Linux has `ENOEXEC` in its place.
 const UNKNOWN_KIND: i32 = 8;
@@ -108,8 +112,6 @@ pub struct Alignment {
     pub start: Option<i64>,
     /// The words of its CIGAR, along the genome.
     pub words: Vec<u32>,
-    /// How many bases its sequence has; none where the file does not say.
-    pub bases: Option<i64>,
 }
 
 /// Why a file's alignments are not read.
@@ -181,14 +183,15 @@ fn open(path: &Path) -> Result<Owned<File>, Unread> {
     })
 }
 
-/// Whether the file is of the three kinds and has its end. A text of SAM has no end marker: what is cut off there is an alignment, or
-/// cannot be told.
+/// Whether the file is of the three kinds and has its end. A BAM file has a marker there; a text of SAM and the oldest CRAM files have
+/// none, and what is cut off is seen where the last alignment is not whole.
 fn look(file: &Owned<File>) -> Result<(), Unread> {
     let (format, end) = unsafe { ((*hts_get_format(file.pointer())).format, hts_check_EOF(file.pointer())) };
-    match format {
-        Format::SAM | Format::BAM | Format::CRAM if end > 0 => Ok(()),
-        Format::SAM | Format::BAM | Format::CRAM => Err(Unread::NoEnd),
-        Format::EMPTY => Err(Unread::Empty),
+    match (format, end) {
+        (Format::SAM | Format::BAM | Format::CRAM, END_THERE) => Ok(()),
+        (Format::SAM | Format::CRAM, NO_SUCH_END) => Ok(()),
+        (Format::SAM | Format::BAM | Format::CRAM, _) => Err(Unread::NoEnd),
+        (Format::EMPTY, _) => Err(Unread::Empty),
         _ => Err(Unread::NoAlignments),
     }
 }
@@ -262,6 +265,44 @@ fn alignment(core: &Core, data: &[u8]) -> Option<Alignment> {
         flag: core.flag,
         start: (core.tid >= 0 && core.pos >= 0).then_some(core.pos),
         words: words.chunks_exact(4).map(word).collect(),
-        bases: (core.l_qseq > 0).then_some(core.l_qseq.into()),
     })
+}
+
+#[cfg(test)]
+mod tests {
+    use super::*;
+    use std::{env, process};
+
+    /// The alignments of a text.
+    fn read(name: &str, lines: &str) -> Vec<Alignment> {
+        let path = env::temp_dir().join(format!("pulindraxi-{}-{name}.sam", process::id()));
+        fs::write(&path, format!("@HD\tVN:1.6\n@SQ\tSN:chr1\tLN:300000000\n{lines}")).unwrap();
+        let alignments = Alignments::open(&path).unwrap().collect::<Result<Vec<_>, _>>().unwrap();
+        fs::remove_file(path).unwrap();
+        alignments
+    }
+
+    /// Every number that is taken from htslib's structs has a value of its own, and names of every length modulo 4 stand before the words.
+    #[test]
+    fn the_structs_are_htslibs() {
+        for name in ["a", "ab", "abc", "abcd", "NM_000059.4"] {
+            let line =
+                format!("{name}\t1745\tchr1\t123456789\t37\t3M2I1D70000N4=\tchr1\t200000001\t99\tACGTACGTA\t*\n");
+            let expected = Alignment {
+                name: name.into(),
+                flag: 1745,
+                start: Some(123_456_788),
+                words: vec![3 << 4, 2 << 4 | 1, 1 << 4 | 2, 70_000 << 4 | 3, 4 << 4 | 7],
+            };
+            assert_eq!(read(name, &line.repeat(2)), [expected.clone(), expected]);
+        }
+    }
+
+    #[test]
+    fn what_is_not_there_is_none() {
+        let lines = "lost\t4\t*\t0\t0\t*\t*\t0\t0\t*\t*\nbare\t0\tchr1\t1\t0\t5M\t*\t0\t0\t*\t*\n";
+        let [lost, bare] = &read("none", lines)[..] else { panic!("two alignments") };
+        assert_eq!((lost.start, &lost.words[..]), (None, &[][..]));
+        assert_eq!((bare.start, &bare.words[..]), (Some(0), &[5 << 4][..]));
+    }
 }

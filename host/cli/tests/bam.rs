@@ -428,9 +428,8 @@ fn a_file_that_is_cut_off_is_refused() {
     let lines: Vec<_> = (0..40).map(|index| line(&format!("NM_{index}"), 0, 11 + index, "10M5N8M")).collect();
     let whole = fs::read(bam(&folder, "whole.bam", &lines)).unwrap();
     let cut = folder.join("cut.bam");
-    // The end marker is an empty block of 28 bytes.
-    assert_eq!(&whole[whole.len() - 28..][..4], b"\x1f\x8b\x08\x04");
-    fs::write(&cut, &whole[..whole.len() - 28]).unwrap();
+    assert!(whole.ends_with(END));
+    fs::write(&cut, &whole[..whole.len() - END.len()]).unwrap();
     refused(&cut, &["--name", "NM_3"], &["the file is cut off: its end marker is missing"]);
     for length in (1..whole.len()).step_by(7).chain([whole.len() - 1, whole.len() - 27, whole.len() - 29]) {
         fs::write(&cut, &whole[..length]).unwrap();
@@ -441,11 +440,9 @@ fn a_file_that_is_cut_off_is_refused() {
         assert!(!all.exists());
     }
     // Whole blocks are missing, and the marker is there.
-    let marker = &whole[whole.len() - 28..];
-    fs::write(&cut, marker).unwrap();
+    fs::write(&cut, END).unwrap();
     refused(&cut, &["--name", "NM_3"], &[]);
-    let damaged: Vec<_> = (0..whole.len() - 28).step_by(5).collect();
-    for at in damaged {
+    for at in (0..whole.len() - END.len()).step_by(5) {
         let mut bytes = whole.clone();
         bytes[at] ^= 0x55;
         fs::write(&cut, &bytes).unwrap();
@@ -487,7 +484,7 @@ fn what_is_no_file_of_alignments_is_refused() {
     fs::write(&empty, b"").unwrap();
     refused(&empty, &[], &["the file is empty"]);
     let zipped = folder.join("empty.gz");
-    fs::write(&zipped, b"\x1f\x8b\x08\x04\0\0\0\0\0\xff\x06\0BC\x02\0\x1b\0\x03\0\0\0\0\0\0\0\0\0").unwrap();
+    fs::write(&zipped, END).unwrap();
     refused(&zipped, &[], &["the file is empty"]);
     for (name, bytes) in [
         ("words.txt", &b"not an alignment at all\n"[..]),
@@ -552,8 +549,8 @@ fn all_writes_a_card_for_each_and_counts_the_rest() {
     }
     assert_eq!(complaints.lines().count(), 9);
     let expected = [
-        "%2E..card",
         "%2E.%2F..%2Fout.card",
+        "%2E..card",
         "%2Ftmp%2Fout.card",
         "A.card",
         "B.card",
@@ -592,4 +589,250 @@ fn all_makes_its_folder_and_follows_no_link_out_of_it() {
     let output = pulindraxi(&["card", "--bam", text(&file), "--all", text(&outside)]);
     assert_eq!(output.status.code(), Some(1));
     assert!(String::from_utf8_lossy(&output.stderr).contains("outside: "));
+}
+
+// ---- Bytes that no tool writes
+
+/// A block of BGZF that holds bytes as they are, by the SAM specification.
+fn block(bytes: &[u8]) -> Vec<u8> {
+    let size = 18 + 5 + bytes.len() + 8;
+    let mut block = b"\x1f\x8b\x08\x04\0\0\0\0\0\xff\x06\0BC\x02\0".to_vec();
+    block.extend((size as u16 - 1).to_le_bytes());
+    block.push(1);
+    block.extend((bytes.len() as u16).to_le_bytes());
+    block.extend((!(bytes.len() as u16)).to_le_bytes());
+    block.extend(bytes);
+    let crc = bytes.iter().fold(!0u32, |crc, &byte| {
+        (0..8).fold(crc ^ u32::from(byte), |crc, _| crc >> 1 ^ if crc & 1 == 1 { 0xedb8_8320 } else { 0 })
+    });
+    block.extend((!crc).to_le_bytes());
+    block.extend((bytes.len() as u32).to_le_bytes());
+    block
+}
+
+/// The block that ends a file of BGZF, byte for byte as the SAM specification has it.
+const END: &[u8] = b"\x1f\x8b\x08\x04\0\0\0\0\0\xff\x06\0BC\x02\0\x1b\0\x03\0\0\0\0\0\0\0\0\0";
+
+/// One alignment as BAM lays it out. The name has its last 0 with it.
+struct Raw<'a> {
+    reference: i32,
+    position: i32,
+    name: &'a [u8],
+    flag: u16,
+    words: &'a [u32],
+    bases: usize,
+}
+
+const RAW: Raw<'static> = Raw { reference: 0, position: 10, name: b"NM_1\0", flag: 0, words: &[10 << 4], bases: 0 };
+
+/// A BAM file of one alignment, and the same without BGZF around it.
+fn raw(alignment: &Raw<'_>) -> (Vec<u8>, Vec<u8>) {
+    let Raw { reference, position, name, flag, words, bases } = *alignment;
+    let mut record = Vec::new();
+    record.extend(reference.to_le_bytes());
+    record.extend(position.to_le_bytes());
+    record.extend([name.len() as u8, 60, 0, 0]);
+    record.extend((words.len() as u16).to_le_bytes());
+    record.extend(flag.to_le_bytes());
+    record.extend((bases as i32).to_le_bytes());
+    record.extend([-1i32, -1, 0].map(i32::to_le_bytes).concat());
+    record.extend(name);
+    record.extend(words.iter().flat_map(|word| word.to_le_bytes()));
+    record.extend(vec![0x11; bases.div_ceil(2)]);
+    record.extend(vec![0xff; bases]);
+    let mut file = b"BAM\x01\0\0\0\0\x01\0\0\0\x05\0\0\0chr1\0\0\0\x01\0".to_vec();
+    file.extend((record.len() as u32).to_le_bytes());
+    file.extend(record);
+    ([&block(&file)[..], END].concat(), file)
+}
+
+#[test]
+fn words_and_names_that_no_tool_writes() {
+    let folder = folder("raw");
+    let write = |name: &str, alignment: &Raw<'_>| {
+        let path = folder.join(name);
+        fs::write(&path, raw(alignment).0).unwrap();
+        path
+    };
+    let ten = card_of("strand 1\nexon 10 20 0 10 0 10M");
+    assert_eq!(card_from(&write("whole", &RAW), &["--name", "NM_1"]), ten);
+    assert_eq!(card_from(&write("sequence", &Raw { bases: 10, ..RAW }), &[]), ten);
+    for code in 9..16 {
+        let file = write(&format!("code-{code}"), &Raw { words: &[10 << 4, 3 << 4 | code], ..RAW });
+        refused(&file, &[], &["NM_1: refused 30: ", &format!("word 2 has code {code}, length 3")]);
+    }
+    refused(&write("no-cigar", &Raw { words: &[], ..RAW }), &[], &["NM_1: it has no CIGAR"]);
+    refused(&write("no-reference", &Raw { reference: -1, ..RAW }), &[], &["NM_1: unmapped"]);
+    refused(&write("no-position", &Raw { position: -1, ..RAW }), &[], &["NM_1: unmapped"]);
+    // htslib holds the CIGAR to the sequence.
+    for bases in [9, 11] {
+        refused(
+            &write(&format!("bases-{bases}"), &Raw { bases, ..RAW }),
+            &[],
+            &["damaged or cut off after 0 alignments"],
+        );
+    }
+    let longest = (1 << 28) - 1;
+    let wide = write("wide", &Raw { words: &[longest << 4, longest << 4 | 3, 1 << 4], ..RAW });
+    let expected =
+        "strand 1\nexon 10 268435465 0 268435455 0 268435455M\nexon 536870920 536870921 268435455 268435456 1 M\n";
+    assert_eq!(card_from(&wide, &[]), card_of(expected));
+    // What a name has behind its first 0 is no part of it, and one without any name is a read still.
+    let odd = write("odd", &Raw { name: b"NM_1\0/../x\0", ..RAW });
+    let output = pulindraxi(&["card", "--bam", text(&odd), "--name", "NM_1"]);
+    assert!(output.stdout == ten || output.status.code() == Some(1));
+    let nameless = write("nameless", &Raw { name: b"\0", ..RAW });
+    let cards = folder.join("cards");
+    let output = pulindraxi(&["card", "--bam", text(&nameless), "--all", text(&cards)]);
+    assert_eq!(output.status.code(), Some(1), "{}", String::from_utf8_lossy(&output.stdout));
+    assert!(!cards.exists() || names(&cards).is_empty());
+}
+
+#[test]
+fn a_bam_file_without_blocks_cannot_show_its_end() {
+    let folder = folder("naked");
+    let naked = folder.join("naked.bam");
+    fs::write(&naked, raw(&RAW).1).unwrap();
+    refused(&naked, &[], &["its end marker is missing"]);
+}
+
+// ---- From an aligner
+
+const BASES: [u8; 4] = *b"ACGT";
+
+fn complement(base: u8) -> u8 {
+    match base {
+        b'A' => b'T',
+        b'C' => b'G',
+        b'G' => b'C',
+        _ => b'A',
+    }
+}
+
+/// A transcript that was cut from a genome: its bases, and which base of the genome each is, from 0; none for one that was put in.
+struct Cut {
+    strand: i32,
+    bases: Vec<(u8, Option<usize>)>,
+}
+
+impl Draw {
+    /// Another base than some.
+    fn other(&mut self, than: &[u8]) -> u8 {
+        let left: Vec<_> = BASES.into_iter().filter(|base| !than.contains(base)).collect();
+        self.of(&left)
+    }
+
+    /// Cuts a transcript from a stretch of the genome. Introns are given their signals, and bases beside them by which no intron can be
+    /// moved: what is cut there is told from what is left.
+    fn cut(&mut self, genome: &mut [u8], mut at: usize, strand: i32) -> Cut {
+        let mut bases = Vec::new();
+        let exons = 2 + self.below(4);
+        for exon in 0..exons {
+            let end = at + 150 + self.below(250);
+            let intron_end = end + 200 + self.below(900);
+            if exon + 1 < exons {
+                let (first, last) = if strand == 1 { (b"GT", b"AG") } else { (b"CT", b"AC") };
+                genome[end..end + 2].copy_from_slice(first);
+                genome[intron_end - 2..intron_end].copy_from_slice(last);
+                genome[end - 1] = b'A';
+                genome[intron_end] = b'T';
+            }
+            bases.extend((at..end).map(Some));
+            at = intron_end;
+        }
+        let bases = bases.into_iter().map(|place: Option<usize>| (genome[place.unwrap()], place)).collect();
+        Cut { strand, bases }
+    }
+
+    /// A place in the transcript that is far from its ends and from its introns.
+    fn inside(&mut self, bases: &[(u8, Option<usize>)]) -> usize {
+        loop {
+            let at = 50 + self.below(bases.len() - 100);
+            let around: Vec<_> = bases[at - 40..at + 40].iter().map(|&(_, place)| place).collect();
+            let steady = |pair: &[Option<usize>]| matches!(pair, [Some(a), Some(b)] if a + 1 == *b);
+            if around.windows(2).all(steady) {
+                return at;
+            }
+        }
+    }
+
+    /// Exchanges a base, takes some out or puts some in, where it can be told which.
+    fn change(&mut self, genome: &[u8], cut: &mut Cut) {
+        let at = self.inside(&cut.bases);
+        let place = cut.bases[at].1.unwrap();
+        let long = 1 + self.below(4);
+        match self.below(3) {
+            0 => cut.bases[at].0 = self.other(&[genome[place]]),
+            1 if genome[place] != genome[place + long] && genome[place - 1] != genome[place + long - 1] => {
+                cut.bases.drain(at..at + long);
+            }
+            1 => (),
+            _ => {
+                let put: Vec<_> = (0..long).map(|_| (self.other(&[genome[place], genome[place - 1]]), None)).collect();
+                cut.bases.splice(at..at, put);
+            }
+        }
+    }
+
+    /// A genome and transcripts of both strands, each in its own stretch; every other one differs a little from its genome.
+    fn world(&mut self, count: usize) -> (Vec<u8>, Vec<Cut>) {
+        const STRETCH: usize = 12_000;
+        let mut genome: Vec<u8> = (0..(count + 1) * STRETCH).map(|_| self.of(&BASES)).collect();
+        let mut cuts = Vec::new();
+        for index in 0..count {
+            let strand = if index % 2 == 0 { 1 } else { -1 };
+            let mut cut = self.cut(&mut genome, index * STRETCH + 2_000, strand);
+            for _ in 0..if index % 4 < 2 { 0 } else { 3 } {
+                self.change(&genome, &mut cut);
+            }
+            if strand == -1 {
+                cut.bases.reverse();
+                cut.bases.iter_mut().for_each(|(base, _)| *base = complement(*base));
+            }
+            cuts.push(cut);
+        }
+        (genome, cuts)
+    }
+}
+
+#[test]
+fn an_aligners_file_maps_every_base_to_where_it_was_cut() {
+    let folder = folder("aligner");
+    let (genome, cuts) = Draw(4_711).world(24);
+    // On both strands there are transcripts into which bases were put, and some from which they were taken.
+    for strand in [1, -1] {
+        let own = || cuts.iter().filter(|cut| cut.strand == strand).flat_map(|cut| cut.bases.windows(2));
+        let taken = |a: usize, b: usize| (2..9).contains(&a.abs_diff(b));
+        assert!(own().any(|pair| pair[0].1.is_none()));
+        assert!(own().any(|pair| matches!((pair[0].1, pair[1].1), (Some(a), Some(b)) if taken(a, b))));
+    }
+    let (genome_file, reads_file) = (folder.join("genome.fa"), folder.join("reads.fa"));
+    fs::write(&genome_file, [b">chr1\n", &genome[..], b"\n"].concat()).unwrap();
+    let read = |(index, cut): (usize, &Cut)| {
+        let bases: Vec<_> = cut.bases.iter().map(|&(base, _)| base).collect();
+        format!(">NM_{index}.1\n{}\n", String::from_utf8(bases).unwrap())
+    };
+    fs::write(&reads_file, cuts.iter().enumerate().map(read).collect::<String>()).unwrap();
+    for (kind, options) in [("both", &[][..]), ("forward", &["-uf"]), ("eqx", &["-uf", "--eqx"])] {
+        let aligned = [&["-ax", "splice"], options, &[text(&genome_file), text(&reads_file)]].concat();
+        let file = folder.join(format!("{kind}.bam"));
+        made("samtools", &["sort", "-o", text(&file), "-"], &made("minimap2", &aligned, b""));
+        for (index, cut) in cuts.iter().enumerate() {
+            let card = folder.join(format!("{kind}-{index}.card"));
+            card_from(&file, &["--name", &format!("NM_{index}.1"), "--output", text(&card)]);
+            let transcript = Transcript::from_card(&fs::read(&card).unwrap()).unwrap();
+            assert_eq!(transcript.strand(), cut.strand);
+            assert_eq!(transcript.transcript_length() as usize, cut.bases.len());
+            for (&(_, place), base) in cut.bases.iter().zip(1..) {
+                let g = transcript.n_to_g(n(base), Bounds::Strict).unwrap();
+                let Some(place) = place else {
+                    assert!(!g.is_certain(), "{kind} NM_{index}.1 n.{base} is {g}, and was put in");
+                    continue;
+                };
+                assert_eq!(g.to_string(), format!("g.{}", place + 1), "{kind} NM_{index}.1 n.{base}");
+                let back = transcript.g_to_n(GInterval::at(place as i32 + 1), Bounds::Strict).unwrap();
+                assert_eq!(back.to_string(), format!("n.{base}"), "{kind} NM_{index}.1");
+            }
+        }
+    }
 }
