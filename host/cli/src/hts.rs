@@ -129,7 +129,7 @@ pub enum Unread {
     NoEnd,
     /// Its header is damaged or cut off.
     Header,
-    /// An alignment is damaged or cut off; how many were whole before it.
+    /// An alignment is damaged or cut off: its number, from 1.
     Damaged(u64),
 }
 
@@ -142,7 +142,7 @@ impl fmt::Display for Unread {
             Unread::NoAlignments => f.write_str("not a BAM, SAM or CRAM file"),
             Unread::NoEnd => f.write_str("the file is cut off: its end marker is missing"),
             Unread::Header => f.write_str("the file is damaged or cut off in its header"),
-            Unread::Damaged(whole) => write!(f, "the file is damaged or cut off after {whole} alignments"),
+            Unread::Damaged(number) => write!(f, "the file is damaged or cut off at alignment {number}"),
         }
     }
 }
@@ -215,7 +215,8 @@ pub struct Alignments {
     record: Owned<Record>,
     header: Owned<Header>,
     file: Owned<File>,
-    whole: u64,
+    /// How many were asked for.
+    number: u64,
 }
 
 impl Alignments {
@@ -228,7 +229,7 @@ impl Alignments {
         }
         let file = open(&path)?;
         look(&file)?;
-        Ok(Alignments { record: record()?, header: header(&file)?, file, whole: 0 })
+        Ok(Alignments { record: record()?, header: header(&file)?, file, number: 0 })
     }
 }
 
@@ -247,9 +248,9 @@ impl Iterator for Alignments {
             let length = if record.data.is_null() { 0 } else { usize::try_from(record.l_data).unwrap_or(0) };
             (&record.core, if length == 0 { &[] } else { slice::from_raw_parts(record.data, length) })
         };
+        self.number += 1;
         let alignment = if read < 0 { None } else { alignment(core, data) };
-        self.whole += u64::from(alignment.is_some());
-        Some(alignment.ok_or(Unread::Damaged(self.whole)))
+        Some(alignment.ok_or(Unread::Damaged(self.number)))
     }
 }
 

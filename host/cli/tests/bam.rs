@@ -464,7 +464,7 @@ fn a_text_or_cram_that_is_cut_off_is_refused() {
     let last = text_of_sam.len() - "10M5N8M\t*\t0\t0\t*\t*\n".len();
     for length in last..text_of_sam.len() - 2 {
         fs::write(&cut, &text_of_sam[..length]).unwrap();
-        refused(&cut, &["--name", "NM_1"], &["the file is damaged or cut off after 1 alignments"]);
+        refused(&cut, &["--name", "NM_1"], &["the file is damaged or cut off at alignment 2"]);
     }
     let cram = folder.join("cut.cram");
     let arguments = ["view", "-O", "cram,no_ref", "-o", text(&cram), "-"];
@@ -666,11 +666,7 @@ fn words_and_names_that_no_tool_writes() {
     refused(&write("no-position", &Raw { position: -1, ..RAW }), &[], &["NM_1: unmapped"]);
     // htslib holds the CIGAR to the sequence.
     for bases in [9, 11] {
-        refused(
-            &write(&format!("bases-{bases}"), &Raw { bases, ..RAW }),
-            &[],
-            &["damaged or cut off after 0 alignments"],
-        );
+        refused(&write(&format!("bases-{bases}"), &Raw { bases, ..RAW }), &[], &["damaged or cut off at alignment 1"]);
     }
     let longest = (1 << 28) - 1;
     let wide = write("wide", &Raw { words: &[longest << 4, longest << 4 | 3, 1 << 4], ..RAW });
