@@ -60,7 +60,7 @@ fn operation(word: u32) -> String {
 impl fmt::Display for Fault {
     fn fmt(&self, f: &mut fmt::Formatter<'_>) -> fmt::Result {
         match *self {
-            Fault::Unmapped => f.write_str("unmapped (flag 0x4)"),
+            Fault::Unmapped => f.write_str("unmapped: flag 0x4 is set, or it has no position"),
             Fault::NoCigar => f.write_str("it has no CIGAR"),
             Fault::Word(number, word) => {
                 let clipped = if matches!(word & 15, 4 | 5) { ": the alignment is clipped" } else { "" };
@@ -110,41 +110,12 @@ struct Record {
     alt: [i64; 2],
     tx: [i64; 2],
     ord: usize,
-    cigar: Vec<u8>,
-}
-
-/// A record for each stretch between N, in genomic order.
-fn records(start: i64, elements: &[Element], reverse: bool) -> Result<Vec<Record>, Fault> {
-    let stretches: Vec<_> = elements.split(is_intron).collect();
-    if stretches.iter().any(|stretch| stretch.is_empty()) {
-        return Err(Fault::Intron);
-    }
-    let introns = elements.iter().filter(|element| is_intron(element)).map(|element| i64::from(element.count));
-    let last = stretches.len() - 1;
-    let (mut alt, mut tx, total) = (start, 0, reach(elements)[1]);
-    let mut records = Vec::new();
-    for (index, (stretch, intron)) in stretches.into_iter().zip(introns.chain([0])).enumerate() {
-        let [along_genome, along_transcript] = reach(stretch);
-        let (alt_end, tx_end) = (alt + along_genome, tx + along_transcript);
-        records.push(if reverse {
-            let turned: Vec<_> = stretch.iter().rev().copied().collect();
-            Record {
-                alt: [alt, alt_end],
-                tx: [total - tx_end, total - tx],
-                ord: last - index,
-                cigar: cigar::write(&turned)?,
-            }
-        } else {
-            Record { alt: [alt, alt_end], tx: [tx, tx_end], ord: index, cigar: cigar::write(stretch)? }
-        });
-        (alt, tx) = (alt_end + intron, tx_end);
-    }
-    Ok(records)
+    elements: Vec<Element>,
 }
 
 impl Record {
-    /// A number that 32 bits do not hold is above the largest that building takes.
-    fn exon(&self) -> Result<Exon<'_>, Refusal> {
+    /// The record with its CIGAR's text. A number that 32 bits do not hold is above the largest that building takes.
+    fn exon<'a>(&self, cigar: &'a [u8]) -> Result<Exon<'a>, Refusal> {
         let narrow = |number: i64| i32::try_from(number).map_err(|_| Refusal::TooLong);
         Ok(Exon {
             alt_start_i: narrow(self.alt[0])?,
@@ -152,8 +123,35 @@ impl Record {
             tx_start_i: narrow(self.tx[0])?,
             tx_end_i: narrow(self.tx[1])?,
             ord: i32::try_from(self.ord).map_err(|_| Refusal::TooMuch)?,
-            cigar: &self.cigar,
+            cigar,
         })
+    }
+}
+
+/// A record for each stretch between N, as on strand 1.
+fn records(start: i64, elements: &[Element]) -> Result<Vec<Record>, Fault> {
+    let introns = elements.iter().filter(|element| is_intron(element)).map(|element| i64::from(element.count));
+    let (mut alt, mut tx) = (start, 0);
+    let mut records = Vec::new();
+    for (ord, (stretch, intron)) in elements.split(is_intron).zip(introns.chain([0])).enumerate() {
+        if stretch.is_empty() {
+            return Err(Fault::Intron);
+        }
+        let [along_genome, along_transcript] = reach(stretch);
+        let (alt_end, tx_end) = (alt + along_genome, tx + along_transcript);
+        records.push(Record { alt: [alt, alt_end], tx: [tx, tx_end], ord, elements: stretch.to_vec() });
+        (alt, tx) = (alt_end + intron, tx_end);
+    }
+    Ok(records)
+}
+
+/// Counts the transcript from its other end: the records stay in genomic order, and each runs the other way.
+fn turn_round(records: &mut [Record]) {
+    let (count, total) = (records.len(), records.last().map_or(0, |last| last.tx[1]));
+    for record in records {
+        record.tx = [total - record.tx[1], total - record.tx[0]];
+        record.ord = count - 1 - record.ord;
+        record.elements.reverse();
     }
 }
 
@@ -175,10 +173,13 @@ fn card(alignment: &Alignment, [cds_start, cds_end]: Cds) -> Result<Vec<u8>, Fau
     if alignment.words.is_empty() {
         return Err(Fault::NoCigar);
     }
-    let elements = elements(&alignment.words)?;
+    let mut records = records(start, &elements(&alignment.words)?)?;
     let reverse = alignment.flag & REVERSE != 0;
-    let records = records(start, &elements, reverse)?;
-    let exons = records.iter().map(Record::exon).collect::<Result<Vec<_>, _>>()?;
+    if reverse {
+        turn_round(&mut records);
+    }
+    let texts = records.iter().map(|record| cigar::write(&record.elements)).collect::<Result<Vec<_>, _>>()?;
+    let exons = records.iter().zip(&texts).map(|(record, text)| record.exon(text)).collect::<Result<Vec<_>, _>>()?;
     Ok(Input { strand: if reverse { -1 } else { 1 }, cds_start, cds_end, exons: &exons }.card()?)
 }
 
@@ -237,17 +238,14 @@ fn unchosen(name: Option<&OsStr>, found: &Found) -> String {
 }
 
 /// Writes the card of the one alignment of a file, or of the one that is named.
-pub fn run(path: &Path, name: Option<&OsStr>, cds: Cds, place: Option<&Path>, mut output: impl Write) -> Outcome {
+pub fn run(path: &Path, name: Option<&OsStr>, cds: Cds, place: Option<&Path>, output: impl Write) -> Outcome {
     let found = find(path, 2, |alignment| name.is_none_or(|name| alignment.name == name.as_bytes()))?;
     let [alignment] = &found.primary[..] else {
         return Err(format!("{}: {}", path.display(), unchosen(name, &found)).into());
     };
     let no_card = |fault| format!("{}: {}: {fault}", path.display(), shown(&alignment.name));
     let card = card(alignment, cds).map_err(no_card)?;
-    match place {
-        Some(place) => store::put(place, &card).map_err(about(place))?,
-        None => output.write_all(&card)?,
-    }
+    store::put_or_write(place, &card, output)?;
     Ok(true)
 }
 

@@ -9,7 +9,7 @@ use std::{
 
 use pulindraxi::{Exon, Input};
 
-use crate::{about, store, Outcome};
+use crate::{store, Outcome};
 
 /// What the lines gave so far.
 #[derive(Default)]
@@ -75,7 +75,7 @@ impl<'a> Records<'a> {
 }
 
 /// Writes the card of a text of records. Lines that are none go to `complaints` with their numbers, and then there is no card.
-pub fn run(text: &[u8], path: Option<&Path>, mut output: impl Write, mut complaints: impl Write) -> Outcome {
+pub fn run(text: &[u8], path: Option<&Path>, output: impl Write, mut complaints: impl Write) -> Outcome {
     let text = String::from_utf8_lossy(text);
     let mut records = Records::default();
     let mut bad = 0u64;
@@ -94,10 +94,7 @@ pub fn run(text: &[u8], path: Option<&Path>, mut output: impl Write, mut complai
     let [cds_start, cds_end] = records.cds.unwrap_or_default();
     let strand = records.strand.ok_or("the text has no line `strand 1` or `strand -1`")?;
     let card = Input { strand, cds_start, cds_end, exons: &records.exons }.card()?;
-    match path {
-        Some(path) => store::put(path, &card).map_err(about(path))?,
-        None => output.write_all(&card)?,
-    }
+    store::put_or_write(path, &card, output)?;
     Ok(true)
 }
 

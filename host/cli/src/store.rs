@@ -1,14 +1,29 @@
 //! Cards put where they belong, whole or not at all.
 
 use std::{
+    error::Error,
     fs::{self, File},
     io::{self, Write},
     path::Path,
     process,
 };
 
+use crate::about;
+
+/// Writes a card to a path, or to an output where there is none.
+pub fn put_or_write(path: Option<&Path>, card: &[u8], mut output: impl Write) -> Result<(), Box<dyn Error>> {
+    match path {
+        Some(path) => put(path, card).map_err(about(path))?,
+        None => {
+            output.write_all(card)?;
+            output.flush()?;
+        }
+    }
+    Ok(())
+}
+
 /// Writes a card to where a caller wants it. A file that is there stays as it was unless the whole card is written.
-pub fn put(path: &Path, card: &[u8]) -> io::Result<()> {
+fn put(path: &Path, card: &[u8]) -> io::Result<()> {
     match fs::canonicalize(path) {
         // A device or a pipe, as /dev/stdout, is written to and not replaced.
         Ok(there) if !there.is_file() => fs::write(there, card),

@@ -391,6 +391,8 @@ fn what_does_not_build_is_refused() {
         ("words", "1M".repeat(2_049), "NM_1: refused 3: "),
         ("exons", "1M1N".repeat(512) + "1M", "NM_1: refused 3: "),
         ("letters", "10000M1=".repeat(700), "NM_1: refused 3: "),
+        // So many words stand in a tag of their own.
+        ("tagged", "1M1I".repeat(35_000), "NM_1: refused 3: "),
     ] {
         refused(&bam(&folder, name, &[line("NM_1", 0, 11, &cigar)]), &[], &[said]);
     }
