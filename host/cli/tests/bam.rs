@@ -185,9 +185,8 @@ enum Column {
 /// The columns of an alignment, by its text: read and genome are counted from 1, the read as it stands in the file.
 fn columns(position: i32, cigar: &str) -> Vec<Column> {
     let (mut read, mut genome, mut columns) = (1, position, Vec::new());
-    for part in cigar.split_inclusive(|c: char| !c.is_ascii_digit()) {
-        let (count, operation) = part.split_at(part.len() - 1);
-        for _ in 0..count.parse::<u32>().unwrap() {
+    for (count, operation) in parts(cigar) {
+        for _ in 0..count {
             columns.push(match operation {
                 "M" | "=" | "X" => Column::Both(read, genome),
                 "I" => Column::Read(read),
@@ -264,6 +263,53 @@ impl Draw {
     }
 }
 
+/// The counts and operations of a text.
+fn parts(cigar: &str) -> impl DoubleEndedIterator<Item = (i32, &str)> {
+    let parts: Vec<_> = cigar.split_inclusive(|c: char| !c.is_ascii_digit()).collect();
+    parts.into_iter().map(|part| (part[..part.len() - 1].parse().unwrap(), &part[part.len() - 1..]))
+}
+
+/// The text of records of an alignment's text: an exon for each stretch between N.
+fn records_of(strand: i32, position: i32, cigar: &str) -> String {
+    let along = |text: &str, operations: &str| {
+        parts(text).filter(|(_, operation)| operations.contains(operation)).map(|(count, _)| count).sum::<i32>()
+    };
+    let ours = |(count, operation): (i32, &str)| {
+        let letter = if operation == "I" {
+            "D"
+        } else if operation == "D" {
+            "I"
+        } else {
+            operation
+        };
+        // A count of 1 is left out.
+        if count == 1 {
+            letter.to_string()
+        } else {
+            format!("{count}{letter}")
+        }
+    };
+    let (mut alt, mut tx, total) = (position - 1, 0, along(cigar, "MI=X"));
+    let stretches: Vec<_> = cigar.split_inclusive('N').collect();
+    let mut lines = format!("strand {strand}\n");
+    for (index, stretch) in stretches.iter().enumerate() {
+        let exon = match stretch.strip_suffix('N') {
+            Some(exon) => exon.trim_end_matches(|c: char| c.is_ascii_digit()),
+            None => stretch,
+        };
+        let (alt_end, tx_end) = (alt + along(exon, "MD=X"), tx + along(exon, "MI=X"));
+        lines += &match strand {
+            1 => format!("exon {alt} {alt_end} {tx} {tx_end} {index} {}\n", parts(exon).map(ours).collect::<String>()),
+            _ => {
+                let (from, to, ord) = (total - tx_end, total - tx, stretches.len() - 1 - index);
+                format!("exon {alt} {alt_end} {from} {to} {ord} {}\n", parts(exon).rev().map(ours).collect::<String>())
+            }
+        };
+        (alt, tx) = (alt_end + along(stretch, "N"), tx_end);
+    }
+    lines
+}
+
 #[test]
 fn random_alignments_lie_where_samtools_prints_them() {
     let folder = folder("random");
@@ -282,7 +328,9 @@ fn random_alignments_lie_where_samtools_prints_them() {
         let fields: Vec<_> = line.split('\t').collect();
         let card = fs::read(cards.join(format!("{}.card", fields[0]))).unwrap();
         let strand = if fields[1].parse::<u16>().unwrap() & 16 == 0 { 1 } else { -1 };
-        judge(&Transcript::from_card(&card).unwrap(), strand, fields[3].parse().unwrap(), fields[5]);
+        let (position, cigar) = (fields[3].parse().unwrap(), fields[5]);
+        assert_eq!(card, card_of(&records_of(strand, position, cigar)), "{line}");
+        judge(&Transcript::from_card(&card).unwrap(), strand, position, cigar);
     }
 }
 
