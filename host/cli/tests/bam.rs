@@ -6,6 +6,7 @@ use std::{
     io::Write,
     path::{Path, PathBuf},
     process::{Command, Output, Stdio},
+    sync::atomic::{AtomicUsize, Ordering},
 };
 
 use pulindraxi::{
@@ -338,7 +339,8 @@ fn random_alignments_lie_where_samtools_prints_them() {
 
 /// Runs `card --bam` where it must fail: exit status 1, what is said, and neither a new card nor a touched old one.
 fn refused(file: &Path, more: &[&str], said: &[&str]) {
-    let folder = folder(&format!("refused-{}", file.file_name().unwrap().to_str().unwrap()));
+    static CALLS: AtomicUsize = AtomicUsize::new(0);
+    let folder = folder(&format!("refused-{}", CALLS.fetch_add(1, Ordering::Relaxed)));
     let (new, old) = (folder.join("new.card"), folder.join("old.card"));
     fs::write(&old, "as it was").unwrap();
     for card in [&new, &old] {
@@ -354,6 +356,7 @@ fn refused(file: &Path, more: &[&str], said: &[&str]) {
     }
     assert_eq!(fs::read(&old).unwrap(), b"as it was");
     assert_eq!(names(&folder), ["old.card"]);
+    fs::remove_dir_all(folder).unwrap();
 }
 
 #[test]
