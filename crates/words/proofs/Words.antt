@@ -13,9 +13,11 @@ use Prim.Native.Nat.{ℕ, suc, _+_, _-_, _≤_, _<_, min}
 use native.Mathlib.Nat.{min-eq-left}
 use native.Mathlib.Numerals.{add-one}
 use native.Mathlib.Omega.{arith}
+use lib.Dec.{ltb}
 use lib.IntN.{ℤ, pos, natAbs}
 use lib.ListN.{length, getD, drop, drop-of-length-le}
 use lib.Seq.{drop-cons}
+use Rattle.whole.specs.laws.Whole.{by-test}
 use borrow.Author.Tests.{lt-ltb, le-ltb, eq-eqb, ne-eqb}
 use Rattle.refusals.specs.Numbers.{tooMuch, noRoom, noOperation, mostSegments}
 use Rattle.refusals.specs.Outcome.{answered, refused}
@@ -78,9 +80,10 @@ module _ (counts : List ℤ) (letters : List ℕ) (number i : ℕ) where
       rw none
 
 module _ (words : List ℕ) (c l : ℕ) where
+  -- whatever their number
   pub unknown-read : allKnown words ≡ false → readWords words c l ≡ refused noOperation
   unfolding readWords
-  unknown-read k = rw k
+  unknown-read k = by-test (ltb mostSegments (length words)) (λ m. rw (m, k)) (λ m. rw (m, k))
 
   pub many-read : allKnown words ≡ true → mostSegments < length words → readWords words c l ≡ refused tooMuch
   unfolding readWords

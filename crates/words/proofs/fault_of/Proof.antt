@@ -7,6 +7,7 @@ use Rattle.whole.specs.laws.Whole.{read}
 use Rattle.refusals.specs.Numbers.{mostWordCount}
 use Rattle.cigar.specs.Elements.{isLetter}
 use Rattle.words.specs.Words.{faultOf}
+use Rattle.words.specs.laws.RoundTrips.{fault-letter}
 use borrow.Author.Needs.{needs}
 use Rattle.words.proofs.fault_of.Statement.{statement}
 use Rattle.words.proofs.fault_of.Tie as tie
@@ -38,10 +39,9 @@ returns-3 c =
     rw (l, b, m)
 
 returns-4 : tie.Need-returns-4
-unfolding faultOf
 returns-4 c =
-    let l : isLetter (c .before .before .args .letter) ≡ false = sym (c .before .is-letter .ensures) ∙ c .if1 .left in
-    rw l
+    let a = c .before .before .args in
+    sym (fault-letter (a .count) (a .letter) (sym (c .before .is-letter .ensures) ∙ c .if1 .left))
 
 pub fault-of-spec : {M : Type 1} → statement M
 fault-of-spec = tie.close (tie.spec (λ c κs. search needs) returns returns-2 returns-3 returns-4)

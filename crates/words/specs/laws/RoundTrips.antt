@@ -145,6 +145,11 @@ elements-wordable (w ∷ ws) h f =
 
 -- ---- tables
 
+-- a letter that is not of the six is 7, whatever the count
+pub fault-letter : (z : ℤ) (letter : ℕ) → isLetter letter ≡ false → faultOf z letter ≡ noElement
+unfolding faultOf
+fault-letter z letter l = by-test (ltZ (pos mostWordCount) z) (λ m. rw (m, l)) (λ m. rw (m, l))
+
 -- an element of the tables that is not refused
 pub fault-none : (z : ℤ) (letter : ℕ) → faultOf z letter ≡ 0 → Held z letter
 unfolding faultOf
@@ -155,7 +160,7 @@ fault-none z letter h =
     (λ b.
     by-test (ltZ (pos mostWordCount) z) (λ s. let e : noWord ≡ 0 = rw (l, b, s) at h in absurd (omega arith))
     (λ s. record { whole = b; wordable = record { lettered = l; small = size-small z b s } })))
-    (λ l. let e : noElement ≡ 0 = rw l at h in absurd (omega arith))
+    (λ l. let e : noElement ≡ 0 = sym (fault-letter z letter l) ∙ h in absurd (omega arith))
 
 -- an element that a word can hold is not refused
 held-no-fault : (x : Element) → Wordable x → faultOf (pos (x .count)) (x .letter) ≡ 0
