@@ -265,14 +265,16 @@ pub fn elements<R: Rng>(rng: &mut R) -> (Vec<Element>, usize) {
     (elements, room)
 }
 
-/// A BAM word of the six operations, its length small, at a limit or any.
+/// A BAM word: mostly of the six operations, its length small, at a limit or any.
 fn word<R: Rng>(rng: &mut R) -> u32 {
+    let operation =
+        if rng.gen_ratio(1, 60) { rng.gen_range(0..16) } else { *[0, 1, 2, 3, 7, 8].choose(rng).expect("not empty") };
     let length = match rng.gen_range(0..8) {
         0 => *[0, 1, (1 << 27) - 1, 1 << 27, (1 << 28) - 1].choose(rng).expect("not empty"),
         1 => rng.gen_range(0..1 << 28),
         _ => rng.gen_range(0..40),
     };
-    length << 4 | *[0, 1, 2, 3, 7, 8].choose(rng).expect("not empty")
+    length << 4 | operation
 }
 
 /// How many elements or words there are: few, or around the most.
@@ -292,16 +294,17 @@ fn room<R: Rng>(rng: &mut R, number: usize) -> usize {
     }
 }
 
-/// BAM words to be read, and the lengths of the slices for their counts and letters. Some words get any operation: the last, which may
-/// stand past the most, or one anywhere.
+/// BAM words to be read, and the lengths of the slices for their counts and letters. A fault may stand anywhere, also past the most.
 pub fn words<R: Rng>(rng: &mut R) -> (Vec<u32>, [usize; 2]) {
     let number = much(rng);
-    let mut words: Vec<_> = (0..number).map(|_| word(rng)).collect();
-    for _ in 0..*[0, 0, 0, 1, 1, 2].choose(rng).expect("not empty") {
-        let at = if rng.gen() { number.saturating_sub(1) } else { rng.gen_range(0..=number) };
-        if let Some(word) = words.get_mut(at) {
-            *word = *word & !15 | rng.gen_range(0..16);
-        }
+    // Each word has its chance of a fault, so that most long lists would have one; half of them are given M in its place.
+    let whole = number > 20 && rng.gen();
+    let mended = |word: u32| if whole && paper::read_bam(&[word], 1).is_err() { word & !15 } else { word };
+    let mut words: Vec<_> = (0..number).map(|_| mended(word(rng))).collect();
+    if let Some(last) = words.last_mut().filter(|_| whole && rng.gen()) {
+        // Any operation, by the lowest bits of its length.
+        let word = self::word(rng);
+        *last = word ^ (word >> 4 & 15);
     }
     (words, [room(rng, number), room(rng, number)])
 }
