@@ -9,7 +9,7 @@ use lib.IntN.{ℤ, pos, negsuc, natAbs}
 use lib.ListN.{length, drop, getD}
 use lib.Signed.{ltZ}
 use borrow.Author.Tests.{eqb-true, ltb-true}
-use Rattle.refusals.specs.Numbers.{noRecords, noStrand, tooMuch, badBound, badOrd, notAdjacent, noElement, badCount, tooLong, noSegment, halfCds, badCds, noRoom, noCard, notTogether, badCode, mostLength, mostCount, mostSegments, mostText, mostRecords, mostBases, mostCard}
+use Rattle.refusals.specs.Numbers.{noRecords, noStrand, tooMuch, badBound, badOrd, notAdjacent, noElement, badCount, tooLong, noSegment, halfCds, badCds, noRoom, noCard, notTogether, noOperation, mostWordCount, mostCount, mostSegments, mostText, mostRecords, mostBases, mostCard}
 use Rattle.refusals.specs.Outcome.{Outcome, answered, refused, unless}
 use Rattle.refusals.specs.Refusing.{oneOf, Only}
 use Rattle.refusals.specs.laws.Refusing.{only-through, only-then}
@@ -122,7 +122,7 @@ module _ (ks : List ℕ) where
 read-words-only : (words : List ℕ) (countsRoom lettersRoom : ℕ) → Only readingWordsRefusals (readWords words countsRoom lettersRoom)
 unfolding readWords
 read-words-only words countsRoom lettersRoom =
-    only-unless readingWordsRefusals (not (allKnown words)) badCode _
+    only-unless readingWordsRefusals (not (allKnown words)) noOperation _
     (only-unless readingWordsRefusals (ltb mostSegments (length words)) tooMuch _
     (only-unless readingWordsRefusals (ltb countsRoom (length words)) noRoom _
     (only-unless readingWordsRefusals (ltb lettersRoom (length words)) noRoom _ (done _) (λ e. refl)) (λ e. refl)) (λ e. refl)) (λ e. refl)
@@ -132,7 +132,7 @@ unfolding faultOf
 fault-in count letter =
     if-fault writingWordsRefusals (not (isLetter letter)) (record { fault = refl })
     (if-fault writingWordsRefusals (ltZ count (pos 0)) (record { fault = refl })
-    (if-fault writingWordsRefusals (ltZ (pos mostLength) count) (record { fault = refl }) (record { fault = refl })))
+    (if-fault writingWordsRefusals (ltZ (pos mostWordCount) count) (record { fault = refl }) (record { fault = refl })))
 
 faults-from : (counts : List ℤ) (letters : List ℕ) (i m : ℕ) → FaultIn writingWordsRefusals (faultFrom counts letters i m)
 unfolding faultFrom

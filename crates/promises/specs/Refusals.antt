@@ -2,7 +2,7 @@
 use Prim.Native.Nat.{ℕ}
 use mathlib.Core.List.{List, [], _∷_}
 use lib.IntN.{ℤ}
-use Rattle.refusals.specs.Numbers.{noRecords, noStrand, tooMuch, badBound, badOrd, notAdjacent, noElement, badCount, tooLong, noSegment, halfCds, badCds, noRoom, noCard, badVersion, notTogether, badCode, badLength}
+use Rattle.refusals.specs.Numbers.{noRecords, noStrand, tooMuch, badBound, badOrd, notAdjacent, noElement, badCount, tooLong, noSegment, halfCds, badCds, noRoom, noCard, badVersion, notTogether, noOperation, noWord}
 use Rattle.refusals.specs.Refusing.{Only}
 use Rattle.cigar.specs.Read.{readText}
 use Rattle.cigar.specs.Write.{writing}
@@ -21,11 +21,11 @@ writingRefusals = tooMuch ∷ noElement ∷ badCount ∷ noRoom ∷ []
 
 -- txc_read_bam
 abbrev pub readingWordsRefusals : List ℕ
-readingWordsRefusals = badCode ∷ tooMuch ∷ noRoom ∷ []
+readingWordsRefusals = noOperation ∷ tooMuch ∷ noRoom ∷ []
 
 -- txc_write_bam
 abbrev pub writingWordsRefusals : List ℕ
-writingWordsRefusals = noElement ∷ badLength ∷ tooMuch ∷ noRoom ∷ []
+writingWordsRefusals = noElement ∷ noWord ∷ tooMuch ∷ noRoom ∷ []
 
 -- what building finds in the records once the strand is known
 abbrev pub recordsRefusals : List ℕ
