@@ -34,8 +34,12 @@ pub const TRIM_PREFIX: usize = 16;
 pub const TRIM_SUFFIX: usize = 17;
 
 pub const CHANGED: usize = 18;
+
+pub const READ_BAM: usize = 19;
+
+pub const WRITE_BAM: usize = 20;
 // One past the last of these numbers.
-pub const END: usize = CHANGED + 1;
+pub const END: usize = WRITE_BAM + 1;
 
 // Writes the name of a call.
 pub(crate) fn say(call: usize) {
@@ -58,6 +62,8 @@ pub(crate) fn say(call: usize) {
         TRIM_PREFIX => crate::say::text(b"trim_prefix"),
         TRIM_SUFFIX => crate::say::text(b"trim_suffix"),
         CHANGED => crate::say::text(b"changed"),
+        READ_BAM => crate::say::text(b"read_bam"),
+        WRITE_BAM => crate::say::text(b"write_bam"),
         _ => crate::say::text(b"no call"),
     }
 }

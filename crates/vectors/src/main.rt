@@ -1,5 +1,6 @@
 // Replays recorded answers: a file of calls of the host's boundary, with what each must answer, is read from standard input. Each call is
 // made over memory kept here, its answer compared, and the counts are told.
+mod bam;
 mod calls;
 mod questions;
 mod rows;
@@ -25,8 +26,10 @@ fn agrees(
         transcripts::agrees(row, head, genome, transcript, letters)
     } else if call < calls::READ_CIGAR {
         questions::agrees(row, head, genome, transcript, letters)
-    } else {
+    } else if call < calls::READ_BAM {
         texts::agrees(row)
+    } else {
+        bam::agrees(row)
     }
 }
 

@@ -4,7 +4,7 @@ use crate::rows;
 use crate::say;
 
 // The refusals' numbers, and 0 for none.
-const NUMBERS: usize = refusals::NOT_TOGETHER as usize + 1;
+const NUMBERS: usize = refusals::NO_WORD as usize + 1;
 // Where an expectation comes from, as rows have it: from the crate, or from document 01 where the crate does not count.
 const NOWHERE: usize = 0;
 
@@ -72,8 +72,11 @@ fn tell_rows(what: &[u8], rows: u64) {
     say::text(b" rows\n");
 }
 
-// Tells how many rows expect one refusal, or none.
+// Tells how many rows expect one refusal, or none. A number that no row expects is passed over: the refusals' numbers have gaps.
 fn tell_number(number: usize, rows: u64) {
+    if rows == 0 {
+        return;
+    }
     if number == 0 {
         tell_rows(b"no refusal", rows);
     } else {
@@ -161,7 +164,7 @@ impl Tally {
             self.origins[NARROWED],
         );
         tell_rows(
-            b"expected by document 01, the crate has no such call",
+            b"expected by the documents, the crate has no such call",
             self.origins[ADDED],
         );
     }

@@ -11,11 +11,11 @@ use refusals::MOST_SEGMENTS;
 // The most bytes that a row lends as a buffer.
 const MOST_ROOM: usize = 2 * refusals::MOST_CARD;
 // An element is laid out as a count of 32 bits and a letter.
-const ELEMENT: usize = 5;
+pub const ELEMENT: usize = 5;
 
-struct Element {
-    count: i32,
-    letter: u8,
+pub(crate) struct Element {
+    pub count: i32,
+    pub letter: u8,
 }
 
 // Room for a buffer.
@@ -26,7 +26,7 @@ fn room() -> [u8; MOST_ROOM]
 }
 
 // The element at an index of a layout, of letter 0 where there is none.
-fn element_at(elements: &[u8], i: usize) -> Element {
+pub(crate) fn element_at(elements: &[u8], i: usize) -> Element {
     if i < elements.len() / ELEMENT {
         let at = ELEMENT * i;
         let count = fields::i32_at(elements, at);
@@ -46,7 +46,7 @@ fn byte_at(s: &[u8], i: usize) -> u8 {
 }
 
 // Whether a length is answered as recorded.
-fn same_length(row: &[u8], a: Length) -> bool {
+pub(crate) fn same_length(row: &[u8], a: Length) -> bool {
     rows::expects_word(row, 0, a.number)
         & rows::expects(row, 1, a.length)
         & rows::expects_no_more(row, 2)
@@ -78,7 +78,7 @@ fn begin_with(
 }
 
 // Puts the elements laid out at the front of the tables.
-fn put_elements(elements: &[u8], counts: &mut [i32], letters: &mut [u8]) {
+pub(crate) fn put_elements(elements: &[u8], counts: &mut [i32], letters: &mut [u8]) {
     let mut i = 0;
     while i < elements.len() / ELEMENT {
         if counts.len() <= i {

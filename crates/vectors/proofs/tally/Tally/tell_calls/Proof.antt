@@ -8,7 +8,7 @@ abbrev Inv-loop : tie.InvT-loop
 Inv-loop self call₀ call = Unit {0}
 
 abbrev μ-loop : tie.MeasureT-loop
-μ-loop self call₀ call = 19 - call
+μ-loop self call₀ call = 21 - call
 
 loop-holds : tie.Need-loop-holds Inv-loop μ-loop
 loop-holds c = search needs

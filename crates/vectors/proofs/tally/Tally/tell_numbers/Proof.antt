@@ -8,7 +8,7 @@ abbrev Inv-loop : tie.InvT-loop
 Inv-loop self number₀ number = Unit {0}
 
 abbrev μ-loop : tie.MeasureT-loop
-μ-loop self number₀ number = 24 - number
+μ-loop self number₀ number = 32 - number
 
 loop-holds : tie.Need-loop-holds Inv-loop μ-loop
 loop-holds c = search needs
