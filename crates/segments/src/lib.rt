@@ -1,12 +1,12 @@
 // The tables of a transcript: the finder, and the mapping of a place, once for both directions.
 // Segment i begins at entry i of the two tables of starts and ends at entry i + 1. A place is a whole number and may lie outside the tables on either side.
 ghost use mathlib.Core.Path.{_≡_};
-ghost use mathlib.Core.Bool.{true};
+ghost use mathlib.Core.Bool.{true, _&&_};
 ghost use Prim.Native.Nat.{_≤_, _<_};
 ghost use lib.IntN.{pos};
 ghost use lib.Signed.{ltZ};
 ghost use Rattle.refusals.specs.Numbers.{mostSegments};
-ghost use Rattle.whole.specs.Whole.{Within};
+ghost use Rattle.whole.specs.Whole.{Within, eqZ};
 ghost use Rattle.cigar.specs.Elements.{kindOf};
 ghost use Rattle.segments.specs.Tables.{tables, segmentsHold, Rising};
 ghost use Rattle.segments.specs.Places.{indexOf, segmentAt, unsurely, beside, leftNearer, nearer, spotIn, spotOf, mapByTables};
@@ -199,6 +199,16 @@ fn map_at(
     )
 }
 
+// Whether an interval's ends are one place whose spot is sure: it is then the spot of both.
+fn is_one(p: i64, q: i64, start: Spot) -> bool
+    ensures { λ r. ⌜ r ≡ (eqZ p q && start .sure) ⌝ }
+{
+    if p == q {
+        return start.sure;
+    }
+    false
+}
+
 // The places p and q, which begin and end an interval, from one table to the other.
 fn map_ends(
     from: &[u32; MOST_STARTS],
@@ -219,8 +229,11 @@ fn map_ends(
     let y = p.0;
     let z = q.0;
     let i = find(from, count, y);
-    let j = find_beside(from, count, y, i, z);
     let start = map_at(from, to, letters, i, y, End::Start, forward);
+    if is_one(y, z, start) {
+        return Spots { start, stop: start };
+    }
+    let j = find_beside(from, count, y, i, z);
     let stop = map_at(from, to, letters, j, z, End::Stop, forward);
     Spots { start, stop }
 }
