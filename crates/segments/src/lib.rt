@@ -166,7 +166,7 @@ fn find_beside(starts: &[u32; MOST_STARTS], count: usize, p: i64, number: usize,
     ensures within { λ r. ⌜ r < count ⌝ }
     ensures found { λ r. ⌜ r ≡ indexOf (now (starts .entry)) count q ⌝ }
 {
-    if p == q {
+    if q == p {
         return number;
     }
     find(starts, count, q)

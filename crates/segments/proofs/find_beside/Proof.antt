@@ -13,7 +13,7 @@ returns : tie.Need-returns
 returns c =
     let s = c .before in
     let (within, found) = s .pre .1 .1 in
-    let one : s .args .p ≡ s .args .q = sym (read (s .fits .p)) ∙ ap (toZ w64) (c .if1 .taken) ∙ read (s .fits .q) in
+    let one : s .args .p ≡ s .args .q = sym (read (s .fits .p)) ∙ ap (toZ w64) (sym (c .if1 .taken)) ∙ read (s .fits .q) in
     (within, found ∙ ap (λ (z : ℤ). indexOf (s .args .starts .now) (s .args .count) z) one)
 
 returns-2 : tie.Need-returns-2
