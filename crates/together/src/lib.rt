@@ -233,9 +233,13 @@ fn all_common(letters: &[u8; MOST_SEGMENTS], count: usize) -> bool
         let back = common_in(letters, count - 8, count);
         return front & back;
     }
-    let front = common_in(letters, 0, count - count % 16);
-    let back = common_in(letters, count - 16, count);
-    front & back
+    // An alignment that has an I or a D mostly has one early, and its letters are then not all looked at twice.
+    if common_in(letters, 0, 16) {
+        let front = common_in(letters, 0, count - count % 16);
+        let back = common_in(letters, count - 16, count);
+        return front & back;
+    }
+    false
 }
 
 // What all segments show, whose letters are common: whole blocks of 8 and an overlapping last one.
