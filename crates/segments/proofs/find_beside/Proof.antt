@@ -1,8 +1,6 @@
 -- Two places with the same bits are one place, so that its segment is at hand. Assumes nothing.
 use lib.IntN.{ℤ}
-use mathlib.Core.Path.{_≡_, sym, ap, _∙_}
-use mir.Syntax.{w64}
-use mir.Val.{toZ}
+use mathlib.Core.Path.{_≡_, ap, _∙_}
 use Rattle.whole.specs.laws.Whole.{read}
 use Rattle.segments.specs.Places.{indexOf}
 use borrow.Author.Needs.{needs}
@@ -13,7 +11,10 @@ returns : tie.Need-returns
 returns c =
     let s = c .before in
     let (within, found) = s .pre .1 .1 in
-    let one : s .args .p ≡ s .args .q = sym (read (s .fits .p)) ∙ ap (toZ w64) (sym (c .if1 .taken)) ∙ read (s .fits .q) in
+    let p = read (s .fits .p) in
+    let q = read (s .fits .q) in
+    let bits = c .if1 .taken in
+    let one : s .args .p ≡ s .args .q = cc in
     (within, found ∙ ap (λ (z : ℤ). indexOf (s .args .starts .now) (s .args .count) z) one)
 
 returns-2 : tie.Need-returns-2
