@@ -3,7 +3,7 @@ use Prim.Native.Nat.{ℕ, _+_, _≤_, _<_}
 use native.Mathlib.Omega.{arith}
 use native.Mathlib.Nat.{le-antisymm}
 use native.Mathlib.Numerals.{add-one}
-use mathlib.Core.Bool.{Bool, true, false, _&&_, _||_, false≢true}
+use mathlib.Core.Bool.{Bool, true, false, _&&_, _||_}
 use mathlib.Core.Path.{_≡_, refl, sym, ap, ap₂, _∙_}
 use lib.Dec.{ltb}
 use borrow.Author.Tests.{lt-ltb, le-ltb, ltb-true, ltb-false}
@@ -60,10 +60,3 @@ stretched f mid first n meet within = equal-where _ _ joined split
 
     split : allBelow f n ≡ true → (allBelow (from 0 f) mid && allBelow (from first f) n) ≡ true
     split h = both-of (all-of (from 0 f) mid (λ i l. rw (all-at f n h i (omega arith)) (either (ltb i 0)))) (all-of (from first f) n (λ i l. rw (all-at f n h i l) (either (ltb i first))))
-
--- where the front fails, all does
-pub front-fails : (f : ℕ → Bool) (mid n : ℕ) → mid ≤ n → allBelow (from 0 f) mid ≡ false → allBelow f n ≡ false
-front-fails f mid n within fails =
-    by-test (allBelow f n)
-    (λ h. absurd (false≢true (sym fails ∙ all-of (from 0 f) mid (λ i l. rw (le-ltb i 0 (omega arith)) (all-at f n h i (omega arith))))))
-    (λ h. h)

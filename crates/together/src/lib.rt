@@ -219,19 +219,6 @@ fn both_seen(a: Seen, b: Seen) -> Seen
     Seen { same, bits }
 }
 
-// Whether all of 16 letters or more are common. An alignment that has an I or a D mostly has one early, and its letters are then not all looked at twice.
-fn many_common(letters: &[u8; MOST_SEGMENTS], count: usize) -> bool
-    requires { ⌜ (16 ≤ count) × (count ≤ mostSegments) ⌝ }
-    ensures { λ r. ⌜ r ≡ allBelow (commonAt (now (letters .entry))) count ⌝ }
-{
-    if common_in(letters, 0, 16) {
-        let front = common_in(letters, 0, count - count % 16);
-        let back = common_in(letters, count - 16, count);
-        return front & back;
-    }
-    false
-}
-
 // Whether there are 8 letters at least and all are common. The compiler makes straight code of whole blocks, so the last block overlaps the others; from 8 to 15
 // letters two blocks of 8 do.
 fn all_common(letters: &[u8; MOST_SEGMENTS], count: usize) -> bool
@@ -246,7 +233,9 @@ fn all_common(letters: &[u8; MOST_SEGMENTS], count: usize) -> bool
         let back = common_in(letters, count - 8, count);
         return front & back;
     }
-    many_common(letters, count)
+    let front = common_in(letters, 0, count - count % 16);
+    let back = common_in(letters, count - 16, count);
+    front & back
 }
 
 // What all segments show, whose letters are common: whole blocks of 8 and an overlapping last one.
