@@ -1,0 +1,3 @@
+-- What several proofs cite.
+pub mod Below
+pub mod Zeros
