@@ -3,7 +3,7 @@
 ghost use mathlib.Core.Path.{_≡_};
 ghost use Rattle.segments.specs.Tables.{tables};
 ghost use Rattle.vectors.specs.Tally.{counted};
-ghost use Rattle.vectors.specs.Replay.{agreed, headNext, tablesNext};
+ghost use Rattle.vectors.specs.Replay.{agreed, headNext, tablesNext, replayed};
 
 mod calls;
 mod questions;
@@ -56,7 +56,9 @@ fn count(tally: &mut [u64; COUNTS], row: &[u8], agrees: bool)
 }
 
 // The counts of rows that stand one after the other, up to one that is cut off.
-fn replay(file: &[u8]) -> [u64; COUNTS] {
+fn replay(file: &[u8]) -> [u64; COUNTS]
+    ensures { λ r. ⌜ r ≡ replayed (now (file .entry)) ⌝ }
+{
     let mut head = [0i32; 8];
     let mut genome = [0u32; MOST_STARTS];
     let mut transcript = [0u32; MOST_STARTS];
