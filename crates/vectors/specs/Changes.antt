@@ -1,11 +1,11 @@
 -- What a row that builds or damages the lent transcript leaves in lent memory, and the words that it would record. Assumes nothing.
 use Prim.Native.Nat.{ℕ, _%_}
 use mathlib.Core.List.{List}
-use lib.Dec.{leb, eqb}
+use lib.Dec.{ltb, leb, eqb}
 use lib.IntN.{ℤ, pos}
 use lib.ListN.{getD, set}
 use Rattle.whole.specs.Whole.{if_then_else_}
-use Rattle.refusals.specs.Numbers.{mostStarts}
+use Rattle.refusals.specs.Numbers.{mostSegments, mostStarts}
 use Rattle.refusals.specs.Outcome.{Outcome}
 use Rattle.transcript.specs.declared.Built.{Built}
 use Rattle.transcript.specs.declared.Numbers.{Numbers}
@@ -68,6 +68,14 @@ lettersDamaged row letters = if eqb (sizeOf row 0) 3 then set letters (sizeOf ro
 abbrev pub tablesDamaged : List ℕ → Tables → Tables
 tablesDamaged row t = tables (startsDamaged 1 row (t .genome)) (startsDamaged 2 row (t .transcript)) (lettersDamaged row (t .letters))
 
+-- how many places the memory of that number has
+unfoldable pub placesOf : ℕ → ℕ
+placesOf which = if eqb which 0 then 8 else if ltb which 3 then mostStarts else if eqb which 3 then mostSegments else 0
+
+-- nothing is answered; where there is no such place, a number that no such row expects
+unfoldable pub damageWords : List ℕ → List ℤ
+damageWords row = if ltb (sizeOf row 1) (placesOf (sizeOf row 0)) then twoWords 0 (pos 0) else twoWords 1 (pos 0)
+
 -- ---- by the call's number
 
 unfoldable pub headAfter : List ℕ → List ℤ → List ℤ
@@ -84,10 +92,10 @@ tablesThen row t =
     else if eqb (callOf row) 3 then t
     else tablesDamaged row t
 
--- with the head and the tables as they are afterwards; to damage nothing is answered
+-- with the head and the tables as they are afterwards
 unfoldable pub changeWords : List ℕ → List ℤ → Tables → List ℤ
 changeWords row head t =
     if eqb (callOf row) 1 then builtWords row (builtOf (cardMade row)) head t
     else if eqb (callOf row) 2 then builtWords row (builtOf (recordsMade row)) head t
     else if eqb (callOf row) 3 then lengthOnlyWords (builtNumber (lengthAnswer (lengthMade row))) head
-    else twoWords 0 (pos 0)
+    else damageWords row

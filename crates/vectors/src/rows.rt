@@ -3,7 +3,7 @@
 // refusal's number first. What a row lacks reads as 0.
 ghost use mathlib.Core.Path.{_≡_};
 ghost use Prim.Native.Nat.{_≤_, _<_};
-ghost use lib.ListN.{length};
+ghost use lib.ListN.{length, replicate};
 ghost use Rattle.vectors.specs.Sizes.{mostFile};
 ghost use Rattle.vectors.specs.Rows.{firstOf, wordAt, signedAt, callOf, flagsOf, originOf, sizeOf, numberOf, payloadOf, answerOf, isWord, expected, hasHead, rowSize};
 use crate::say;
@@ -23,7 +23,8 @@ pub const ANSWER: usize = 8;
 
 // Room for a file.
 pub(crate) fn space() -> [u8; MOST_FILE]
-    ensures { λ r. ⌜ mostFile ≡ length r ⌝ }
+    ensures { λ r. ⌜ r ≡ replicate mostFile 0 ⌝ }
+    ensures size { λ r. ⌜ mostFile ≡ length r ⌝ }
 {
     [0; MOST_FILE]
 }

@@ -4,13 +4,16 @@ ghost use lib.ListN.{set};
 ghost use Rattle.segments.specs.Tables.{tables};
 ghost use Rattle.building.specs.Afterwards.{answerOf as builtOf, lengthAnswer, tablesAfter};
 ghost use Rattle.entry.specs.Boundary.{builtNumber, builtHead};
-ghost use Rattle.vectors.specs.Changes.{cardMade, recordsMade, lengthMade, totalOf, recordsWords, lengthOnlyWords, builtWords, headDamaged, tablesDamaged, headAfter, tablesThen, changeWords};
+ghost use Rattle.vectors.specs.Changes.{cardMade, recordsMade, lengthMade, totalOf, recordsWords, lengthOnlyWords, builtWords, headDamaged, tablesDamaged, placesOf, damageWords, headAfter, tablesThen, changeWords};
 use crate::calls;
 use crate::rows;
 use crate::rows::ANSWER;
 use crate::words;
 use refusals::MOST_SEGMENTS;
 use refusals::MOST_STARTS;
+
+// What damage answers where there is no such place.
+const NO_PLACE: u32 = 1;
 
 // The start of a table at the segment count that a row expects: the total. 0 where the table has no such place.
 fn total(row: &[u8], starts: &[u32; MOST_STARTS]) -> u32
@@ -123,6 +126,32 @@ fn damage(
     }
 }
 
+// How many places the head (0), a table of starts (1, 2) and the letters (3) have.
+fn places(table: usize) -> usize
+    ensures { λ r. ⌜ r ≡ placesOf table ⌝ }
+{
+    if table == 0 {
+        return 8;
+    }
+    if table < 3 {
+        return MOST_STARTS;
+    }
+    if table == 3 {
+        return MOST_SEGMENTS;
+    }
+    0
+}
+
+// What is recorded of damage: nothing. Where there is no such place, a number that no such row expects.
+fn of_damage(row: &[u8]) -> [i64; ANSWER]
+    ensures { λ r. ⌜ r ≡ damageWords (now (row .entry)) ⌝ }
+{
+    if rows::size(row, 1) < places(rows::size(row, 0)) {
+        return words::of_refusal(0);
+    }
+    words::of_refusal(NO_PLACE)
+}
+
 // What `txc_build_card` answers.
 fn build_card(
     row: &[u8],
@@ -182,7 +211,7 @@ fn build_length(row: &[u8], head: &mut [i32; 8]) -> [i64; ANSWER]
     of_length_only(number, head)
 }
 
-// What is answered to a row that changes the lent transcript. To damage nothing is answered.
+// What is answered to a row that changes the lent transcript.
 pub(crate) fn answered(
     row: &[u8],
     head: &mut [i32; 8],
@@ -205,5 +234,5 @@ pub(crate) fn answered(
         return build_length(row, head);
     }
     damage(row, head, genome, transcript, letters);
-    words::of_refusal(0)
+    of_damage(row)
 }

@@ -20,7 +20,7 @@ returns-3 c = let e = sym (c .before .before .before .before .before .call .ensu
 
 returns-4 : tie.Need-returns-4
 unfolding changeWords headAfter tablesThen
-returns-4 c = rw (← c .before .before .before .before .before .before .before .before .before .call .ensures, ne-eqb _ _ (c .before .before .before .before .before .before .before .before .if1 .left), ne-eqb _ _ (c .before .before .before .before .before .before .before .if2 .left), ne-eqb _ _ (c .before .before .before .before .before .before .if3 .left)) (c .of-refusal .ensures, (c .before .damage .ensures .0, c .before .damage .ensures .1))
+returns-4 c = rw (← c .before .before .before .before .before .before .before .before .before .call .ensures, ne-eqb _ _ (c .before .before .before .before .before .before .before .before .if1 .left), ne-eqb _ _ (c .before .before .before .before .before .before .before .if2 .left), ne-eqb _ _ (c .before .before .before .before .before .before .if3 .left)) (c .of-damage .ensures, (c .before .damage .ensures .0, c .before .damage .ensures .1))
 
 pub answered-spec : {M : Type 1} → statement M
 answered-spec =
