@@ -12,13 +12,17 @@ returns : tie.Need-returns
 unfolding fromG
 returns c =
     let l = c .before .before in
-    rw (eq-eqb _ _ (sym (l .call .ensures) ∙ c .before .if1 .taken)) (simp (l .before .is-strict .ensures, l .before .before .missing .ensures, told w32 (l .before .before .before .number2 .result) (l .before .before .before .number2 .ok) ∙ l .before .before .before .number2 .ensures, told w32 (l .before .before .before .before .number .result) (l .before .before .before .before .number .ok) ∙ l .before .before .before .before .number .ensures) at (c .txc-g-to-c .ensures))
+    let end = told w32 (l .before .before .before .number2 .result) (l .before .before .before .number2 .ok) ∙ l .before .before .before .number2 .ensures in
+    let start = told w32 (l .before .before .before .before .number .result) (l .before .before .before .before .number .ok) ∙ l .before .before .before .before .number .ensures in
+    rw (eq-eqb _ _ (sym (l .call .ensures) ∙ c .before .if1 .taken)) (simp (l .before .is-strict .ensures, l .before .before .missing .ensures, end, start) at (c .txc-g-to-c .ensures))
 
 returns-2 : tie.Need-returns-2
 unfolding fromG
 returns-2 c =
     let l = c .before .before in
-    rw (ne-eqb _ _ (λ e. c .before .if1 .left (l .call .ensures ∙ e))) (simp (l .before .is-strict .ensures, l .before .before .missing .ensures, told w32 (l .before .before .before .number2 .result) (l .before .before .before .number2 .ok) ∙ l .before .before .before .number2 .ensures, told w32 (l .before .before .before .before .number .result) (l .before .before .before .before .number .ok) ∙ l .before .before .before .before .number .ensures) at (c .txc-g-to-n .ensures))
+    let end = told w32 (l .before .before .before .number2 .result) (l .before .before .before .number2 .ok) ∙ l .before .before .before .number2 .ensures in
+    let start = told w32 (l .before .before .before .before .number .result) (l .before .before .before .before .number .ok) ∙ l .before .before .before .before .number .ensures in
+    rw (ne-eqb _ _ (λ e. c .before .if1 .left (l .call .ensures ∙ e))) (simp (l .before .is-strict .ensures, l .before .before .missing .ensures, end, start) at (c .txc-g-to-n .ensures))
 
 pub from-g-spec : {M : Type 1} → statement M
 from-g-spec =

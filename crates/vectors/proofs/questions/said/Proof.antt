@@ -12,7 +12,9 @@ returns : tie.Need-returns
 unfolding saidTo
 returns c =
     let l = c .before .before in
-    rw (eq-eqb _ _ (sym (l .call .ensures) ∙ c .before .if1 .taken)) (simp (l .before .missing .ensures, told w32 (l .before .before .number2 .result) (l .before .before .number2 .ok) ∙ l .before .before .number2 .ensures, told w32 (l .before .before .before .number .result) (l .before .before .before .number .ok) ∙ l .before .before .before .number .ensures) at (c .txc-in-bounds .ensures))
+    let end = told w32 (l .before .before .number2 .result) (l .before .before .number2 .ok) ∙ l .before .before .number2 .ensures in
+    let start = told w32 (l .before .before .before .number .result) (l .before .before .before .number .ok) ∙ l .before .before .before .number .ensures in
+    rw (eq-eqb _ _ (sym (l .call .ensures) ∙ c .before .if1 .taken)) (simp (l .before .missing .ensures, end, start) at (c .txc-in-bounds .ensures))
 
 returns-2 : tie.Need-returns-2
 unfolding saidTo

@@ -28,7 +28,10 @@ written : (c : tie.After-txc-write-card) →
     (c .txc-write-card .result ≡ writtenLaid (answerOf w)) × (c .txc-write-card .last .1 .1 .1 .1 .1 .1 .0 ≡ bufferAfter (a .buffer .now) w)
 written c =
     let n = c .before .before .before in
-    simp (c .before .before .size .ensures, told w32 (n .number3 .result) (n .number3 .ok) ∙ n .number3 .ensures, told w32 (n .before .number2 .result) (n .before .number2 .ok) ∙ n .before .number2 .ensures, n .before .before .flags .ensures, told w32 (n .before .before .before .number .result) (n .before .before .before .number .ok) ∙ n .before .before .before .number .ensures)
+    let end = told w32 (n .number3 .result) (n .number3 .ok) ∙ n .number3 .ensures in
+    let start = told w32 (n .before .number2 .result) (n .before .number2 .ok) ∙ n .before .number2 .ensures in
+    let strand = told w32 (n .before .before .before .number .result) (n .before .before .before .number .ok) ∙ n .before .before .before .number .ensures in
+    simp (c .before .before .size .ensures, end, start, n .before .before .flags .ensures, strand)
     at (c .txc-write-card .ensures)
 
 returns : tie.Need-returns

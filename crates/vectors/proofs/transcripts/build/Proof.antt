@@ -11,8 +11,11 @@ returns c =
     let b = c .before .before .before .before in
     let p = b .before .before .before .before .before in
     let n = p .before .before in
+    let end = told w32 (n .number3 .result) (n .number3 .ok) ∙ n .number3 .ensures in
+    let start = told w32 (n .before .number2 .result) (n .before .number2 .ok) ∙ n .before .number2 .ensures in
+    let strand = told w32 (n .before .before .before .number .result) (n .before .before .before .number .ok) ∙ n .before .before .before .number .ensures in
     let e =
-    simp (p .payload .ensures, p .before .size .ensures, told w32 (n .number3 .result) (n .number3 .ok) ∙ n .number3 .ensures, told w32 (n .before .number2 .result) (n .before .number2 .ok) ∙ n .before .number2 .ensures, n .before .before .flags .ensures, told w32 (n .before .before .before .number .result) (n .before .before .before .number .ok) ∙ n .before .before .before .number .ensures)
+    simp (p .payload .ensures, p .before .size .ensures, end, start, n .before .before .flags .ensures, strand)
     at (b .txc-build .ensures) in
     (rw (e .0) at (c .of-records .ensures), (e .1 .0, e .1 .1))
 
