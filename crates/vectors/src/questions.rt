@@ -130,26 +130,19 @@ fn from_c(
 ) -> Answer
     ensures { λ r. ⌜ r ≡ fromC (now (row .entry)) (lentAt (now (head .entry)) (now (genome .entry)) (now (transcript .entry)) (now (letters .entry))) ⌝ }
 {
-    let start = rows::number(row, 0);
-    let past_start = rows::number(row, 1);
-    let end = rows::number(row, 2);
-    let past_end = rows::number(row, 3);
-    let a = has_start_star(row);
-    let b = has_end_star(row);
-    let strict = is_strict(row);
     if rows::call(row) == calls::C_TO_N {
         return ask::txc_c_to_n(
             head,
             genome,
             transcript,
             letters,
-            start,
-            past_start,
-            a,
-            end,
-            past_end,
-            b,
-            strict,
+            rows::number(row, 0),
+            rows::number(row, 1),
+            has_start_star(row),
+            rows::number(row, 2),
+            rows::number(row, 3),
+            has_end_star(row),
+            is_strict(row),
         );
     }
     ask::txc_c_to_g(
@@ -157,13 +150,13 @@ fn from_c(
         genome,
         transcript,
         letters,
-        start,
-        past_start,
-        a,
-        end,
-        past_end,
-        b,
-        strict,
+        rows::number(row, 0),
+        rows::number(row, 1),
+        has_start_star(row),
+        rows::number(row, 2),
+        rows::number(row, 3),
+        has_end_star(row),
+        is_strict(row),
     )
 }
 
