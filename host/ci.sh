@@ -7,7 +7,8 @@ set -eu
 cd "$(dirname "$0")"
 command -v cargo >/dev/null || PATH="$HOME/.cargo/bin:$PATH"
 log=$(mktemp)
-trap 'rm -f "$log"' EXIT
+cards=$(mktemp -d)
+trap 'rm -rf "$log" "$cards"' EXIT
 
 say() { echo "host: $*"; }
 
@@ -53,6 +54,12 @@ last_line target/release/fuzz --seed 1 --count 1000000
 last_line valgrind --quiet --error-exitcode=1 target/release/fuzz --seed 2 --count 20000
 say "the deepest stack of each entry"
 last_line target/release/stack --count 500
+
+say "transcript A, as an alignment"
+samtools view -b -o "$cards/a.bam" demo/a.sam
+target/release/pulindraxi card demo/a.txt --output "$cards/a.card"
+valgrind --quiet --leak-check=full --error-exitcode=1 target/release/pulindraxi card --bam "$cards/a.bam" --cds 3 15 --output "$cards/b.card"
+cmp "$cards/a.card" "$cards/b.card"
 
 source=${HGVS_SRC:-../../shared/docs/src/src}
 if [ ! -f "$source/mapper/alignment.rs" ]; then

@@ -1,10 +1,10 @@
 #!/bin/sh
-# Installs what the host is built and tried with, where it is missing: Debian's sources of crates, a linker, valgrind.
+# Installs what the host is built and tried with, where it is missing: Debian's sources of crates, htslib, a linker, valgrind, an aligner.
 set -eu
 
-packages="librust-bit-set-dev librust-chrono-dev librust-clap-derive-dev librust-clap-dev librust-criterion-dev librust-indexmap-dev
+packages="libhts-dev librust-bit-set-dev librust-chrono-dev librust-clap-derive-dev librust-clap-dev librust-criterion-dev librust-indexmap-dev
     librust-nom-dev librust-proptest-dev librust-quick-error-dev librust-rand-dev librust-rand-xorshift-dev librust-rusty-fork-dev
-    librust-serde-derive-dev librust-serde-dev librust-thiserror-dev librust-tracing-dev valgrind"
+    librust-serde-derive-dev librust-serde-dev librust-thiserror-dev librust-tracing-dev minimap2 samtools valgrind"
 command -v cc >/dev/null || packages="$packages gcc libc6-dev"
 
 missing=

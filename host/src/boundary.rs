@@ -232,7 +232,7 @@ pub struct Said {
 pub struct Length {
     /// The refusal's number, 0 for none.
     pub number: u32,
-    /// Elements read, or bytes written.
+    /// Elements read, or bytes or words written.
     pub length: usize,
 }
 
@@ -342,7 +342,7 @@ questions! {
     txc_is_coding();
 }
 
-// SAFETY: as above. Those with a pointer and a length read, or write, just that many bytes.
+// SAFETY: as above. Those with a pointer and a length read, or write, just that many bytes, or numbers.
 unsafe extern "C" {
     fn txc_build(
         strand: i32,
@@ -381,6 +381,16 @@ unsafe extern "C" {
         buffer: *mut u8,
         buffer_len: usize,
     ) -> Length;
+
+    fn txc_read_bam(
+        words: *const u32,
+        words_len: usize,
+        counts: *mut i32,
+        counts_len: usize,
+        letters: *mut u8,
+        letters_len: usize,
+    ) -> Length;
+    fn txc_write_bam(number: usize, counts: &Counts, letters: &Letters, words: *mut u32, words_len: usize) -> Length;
 
     fn txc_trim_prefix(
         reference: *const u8,
@@ -466,6 +476,29 @@ pub fn write_card(from: Laid<'_>, buffer: &mut [u8]) -> Length {
             buffer.len(),
         )
     }
+}
+
+/// Reads BAM words into elements.
+#[inline]
+pub fn read_bam(words: &[u32], counts: &mut [i32], letters: &mut [u8]) -> Length {
+    // SAFETY: pointers and lengths are the slices'.
+    unsafe {
+        txc_read_bam(
+            words.as_ptr(),
+            words.len(),
+            counts.as_mut_ptr(),
+            counts.len(),
+            letters.as_mut_ptr(),
+            letters.len(),
+        )
+    }
+}
+
+/// Writes the first `number` elements as BAM words.
+#[inline]
+pub fn write_bam(number: usize, counts: &Counts, letters: &Letters, words: &mut [u32]) -> Length {
+    // SAFETY: pointer and length are the slice's.
+    unsafe { txc_write_bam(number, counts, letters, words.as_mut_ptr(), words.len()) }
 }
 
 /// The length of the longest common prefix.

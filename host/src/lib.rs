@@ -2,7 +2,8 @@
 //!
 //! A [`Transcript`] is built from exon records, from a card or from a length alone, and is then asked. Positions are read
 //! and written as HGVS names; those that are [`asked`] and those that are [`answered`] are types of their own, and an answer
-//! becomes a question by `into`. What cannot be answered is a [`Refusal`] with the number and the words of document 01.
+//! becomes a question by `into`. What cannot be answered is a [`Refusal`] with the number and the words of the documents. A
+//! record's CIGAR is text; [`cigar`] makes it from BAM's words too.
 //!
 //! ```
 //! use pulindraxi::{Bounds, Exon, Input, Transcript};

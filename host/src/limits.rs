@@ -1,4 +1,4 @@
-//! The limits of document 01, each named once.
+//! The limits of documents 01 and 02, each named once.
 
 /// The most exon records of a transcript.
 pub const MOST_RECORDS: usize = 512;
@@ -12,3 +12,5 @@ pub const MOST_TEXT: usize = 4096;
 pub const MOST_CARD: usize = 65_536;
 /// The largest transcript length, and the largest genome end.
 pub const MOST_BASES: u32 = 2_000_000_000;
+/// The largest count that a BAM word has bits for.
+pub const MOST_WORD_COUNT: i32 = (1 << 28) - 1;

@@ -1,10 +1,10 @@
-//! The refusals of document 01, by name, number and words.
+//! The refusals of documents 01 and 02, by name, number and words.
 
 use std::{error::Error, fmt};
 
 macro_rules! refusals {
     ($($number:literal $name:ident $words:literal)*) => {
-        /// Why a question or a building was refused. The number and the words are document 01's.
+        /// Why a question or a building was refused. The number and the words are documents 01's and 02's.
         ///
         /// Every number but 0 is a refusal: one that has no name here is kept as it came.
         ///
@@ -36,7 +36,7 @@ macro_rules! refusals {
                 }
             }
 
-            /// Document 01's words: it is given exactly when these hold.
+            /// The documents' words: it is given exactly when these hold.
             pub const fn words(self) -> &'static str {
                 match self {
                     $(Refusal::$name => $words,)*
@@ -63,7 +63,7 @@ pub struct Unnamed(u32);
 refusals! {
     1 NoRecords "no exon records"
     2 NoStrand "strand is neither 1 nor -1"
-    3 TooMuch "over 512 records, a CIGAR over 4,096 bytes, a segment past 2,048, a card over 65,536 bytes"
+    3 TooMuch "over 512 records, a CIGAR over 4,096 bytes, a segment past 2,048, a card over 65,536 bytes, over 2,048 BAM words"
     4 BadBound "a record's bound or a given length negative, a record's end below its start, a genome start below the previous end"
     5 BadOrd "`ord` not strictly rising (strand 1) or falling (strand -1)"
     6 NotAdjacent "consecutive exons in `ord` order: `tx_end_i` differs from the next `tx_start_i`"
@@ -80,10 +80,12 @@ refusals! {
     17 TooWide "a result number doesn't fit 32 signed bits"
     18 NoGenome "g. asked of a length-only transcript"
     19 MissingEnd "g. start or end missing"
-    20 NoRoom "text longer than the lent buffer"
+    20 NoRoom "text or words longer than the lent buffer"
     21 NoCard "bytes that are no card"
     22 BadVersion "card version not 1"
     23 NotTogether "a transcript that doesn't hold together"
+    30 NoOperation "a BAM word whose operation is none of M, I, D, N, = and X"
+    31 NoWord "in writing BAM words, a count below 0 or above 268,435,455"
 }
 
 impl Refusal {
@@ -109,9 +111,9 @@ mod tests {
     use super::*;
 
     #[test]
-    fn document_01_has_1_to_23() {
+    fn document_01_has_1_to_23_and_ask_1_has_30_and_31() {
         let numbers: Vec<_> = Refusal::NAMED.iter().map(|refusal| refusal.number()).collect();
-        assert!(numbers.is_sorted() && numbers.starts_with(&(1..=23).collect::<Vec<_>>()));
+        assert!(numbers.is_sorted() && numbers.starts_with(&(1..=23).chain([30, 31]).collect::<Vec<_>>()));
     }
 
     #[test]

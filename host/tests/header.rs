@@ -26,7 +26,7 @@ fn entries(text: &str) -> BTreeSet<&str> {
 fn the_entries_are_the_headers() {
     let header = header();
     let declared = entries(&header);
-    assert_eq!(declared.len(), 17);
+    assert_eq!(declared.len(), 19);
     assert_eq!(entries(include_str!("../src/boundary.rs")), declared);
 }
 

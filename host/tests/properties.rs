@@ -74,6 +74,50 @@ proptest! {
     }
 
     #[test]
+    fn elements_come_back_from_words(elements in vec((0..1 << 28, select(&b"=DIMNX"[..])), 0..60)) {
+        let elements: Vec<_> = elements.into_iter().map(|(count, letter)| Element::new(count, letter)).collect();
+        prop_assert_eq!(cigar::from_bam_words(&cigar::to_bam_words(&elements).unwrap()).unwrap(), elements);
+    }
+
+    #[test]
+    fn words_come_back_from_elements(words in vec((0..1u32 << 28, select(&[0, 1, 2, 3, 7, 8][..])), 0..60)) {
+        let words: Vec<u32> = words.into_iter().map(|(length, operation)| length << 4 | operation).collect();
+        prop_assert_eq!(cigar::to_bam_words(&cigar::from_bam_words(&words).unwrap()).unwrap(), words);
+    }
+
+    /// The text of what is read from words is the aligner's own with I and D exchanged.
+    #[test]
+    fn words_and_text_meet(words in vec((0..9_999u32, select(&[0, 1, 2, 3, 7, 8][..])), 0..60)) {
+        let aligners: String = words.iter().map(|&(length, code)| format!("{length}{}", &"MIDNSHP=X"[code..=code])).collect();
+        let exchanged: String = aligners.chars().map(|c| match c { 'I' => 'D', 'D' => 'I', other => other }).collect();
+        let words: Vec<u32> = words.into_iter().map(|(length, code)| length << 4 | code as u32).collect();
+        prop_assert_eq!(cigar::from_bam_words(&words), cigar::read(exchanged.as_bytes()));
+    }
+
+    #[test]
+    fn any_words_are_read_or_refused(words in vec(any::<u32>(), 0..6), faulty in any::<bool>()) {
+        let words: Vec<u32> = words.into_iter().map(|word| if faulty { word } else { word & !15 | 7 }).collect();
+        let known = words.iter().all(|word| [0, 1, 2, 3, 7, 8].contains(&(word & 15)));
+        prop_assert_eq!(cigar::from_bam_words(&words).err(), (!known).then_some(Refusal::NoOperation));
+    }
+
+    #[test]
+    fn a_short_slice_of_words_stays(elements in elements(20), room in 0..20usize) {
+        let mut words = vec![7; room];
+        match cigar::to_bam_words_into(&elements, &mut words) {
+            Ok(length) => {
+                prop_assert_eq!(length, elements.len());
+                prop_assert_eq!(&words[..length], &cigar::to_bam_words(&elements).unwrap()[..]);
+                prop_assert!(words[length..].iter().all(|&word| word == 7));
+            }
+            Err(refusal) => {
+                prop_assert_eq!(refusal, Refusal::NoRoom);
+                prop_assert!(room < elements.len() && words.iter().all(|&word| word == 7));
+            }
+        }
+    }
+
+    #[test]
     fn a_card_builds_what_it_was_written_from((strand, first, parts, coding) in transcripts()) {
         with_input(strand, first, &parts, coding, |input| {
             match (input.card(), Transcript::build(input)) {

@@ -1,13 +1,11 @@
--- Elements are stored in two tables one by one, and then the tables are those that are promised. Assumes nothing.
-use mathlib.Core.Path.{_≡_, refl, sym, _∙_}
-use mathlib.Core.List.{List, [], _∷_}
-use Prim.Native.Nat.{ℕ, _+_, _≤_, _<_}
-use native.Mathlib.Numerals.{add-one}
+-- What becomes of two tables into which a text is read. Assumes nothing.
+use mathlib.Core.Path.{_≡_, refl, _∙_}
+use mathlib.Core.List.{List}
+use Prim.Native.Nat.{ℕ, _≤_, _<_}
 use native.Mathlib.Omega.{arith}
 use borrow.Author.Tests.{lt-ltb, le-ltb}
 use lib.IntN.{ℤ, pos}
 use lib.ListN.{length, set, length-set, length-map}
-use lib.Seq.{sets}
 use Rattle.refusals.specs.Numbers.{tooMuch, mostText, mostSegments}
 use Rattle.refusals.specs.Outcome.{answered, refused, Answered}
 use Rattle.cigar.specs.Elements.{Element}
@@ -23,16 +21,6 @@ tables-set {counts} {letters} i z letter h = record {
   counts-long = length-set counts i z ∙ h .counts-long;
   letters-long = length-set letters i letter ∙ h .letters-long;
 }
-
--- the first of the elements that are left
-pub fill-one : {c : List ℤ} {l : List ℕ} {c₁ : List ℤ} {l₁ : List ℕ} {n : ℕ} {x : Element} {es : List Element} → Filled c l c₁ l₁ n (x ∷ es)
-    → Filled (set c n (pos (x .count))) (set l n (x .letter)) c₁ l₁ (n + 1) es
-fill-one {n = n} f = record { counts-is = rw (add-one n) (f .counts-is); letters-is = rw (add-one n) (f .letters-is) }
-
--- nothing is left: the tables are what they were to become
-pub fill-none : {c₀ : List ℤ} {l₀ : List ℕ} {c : List ℤ} {l : List ℕ} {n m : ℕ} {es : List Element}
-    → Filled c l (sets c₀ n (countsOf es)) (sets l₀ n (lettersOf es)) m [] → Filled c₀ l₀ c l n es
-fill-none f = record { counts-is = sym (f .counts-is); letters-is = sym (f .letters-is) }
 
 -- a text alone, by its size
 pub read-large : (text : List ℕ) → mostText < length text → readText text ≡ refused tooMuch

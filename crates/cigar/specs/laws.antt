@@ -1,6 +1,7 @@
 -- What is shown of the definitions.
 pub mod BothWays
 pub mod Decimal
+pub mod Filling
 pub mod Letters
 pub mod RoundTrip
 pub mod Sound

@@ -45,7 +45,7 @@ fn is_digit(b: u8) -> bool
 }
 
 // Whether a byte is one of the six letters.
-fn is_letter(b: u8) -> bool
+pub fn is_letter(b: u8) -> bool
     ensures { λ r. ⌜ r ≡ isLetter b ⌝ }
 {
     match b {
@@ -129,7 +129,7 @@ pub fn count_elements(text: &[u8]) -> Counted
 }
 
 // A count as the signed number of a table.
-fn signed(count: u32) -> i32
+pub fn signed(count: u32) -> i32
     requires { ⌜ count ≤ mostCount ⌝ }
     ensures { λ r. ⌜ r ≡ pos count ⌝ }
 {

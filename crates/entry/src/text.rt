@@ -19,6 +19,22 @@ pub struct Part {
     pub to: usize,
 }
 
+// A number of elements or words, as a length.
+pub fn counted_laid(counted: Counted) -> Length
+    ensures { λ r. ⌜ r ≡ countedLaid counted ⌝ }
+{
+    match counted {
+        Counted::Count(n) => Length {
+            number: 0,
+            length: n,
+        },
+        Counted::Refused(k) => Length {
+            number: k as u32,
+            length: 0,
+        },
+    }
+}
+
 // How many elements a text has, which then stand at the front of the two tables.
 #[no_mangle]
 pub extern "C" fn txc_read_cigar(
@@ -30,16 +46,7 @@ pub extern "C" fn txc_read_cigar(
     ensures { λ _. ⌜ now (counts .exit) ≡ countsAfter (now (counts .entry)) (readText (now (text .entry))) ⌝ }
     ensures { λ _. ⌜ now (letters .exit) ≡ lettersAfter (now (letters .entry)) (readText (now (text .entry))) ⌝ }
 {
-    match cigar::read_cigar(text, counts, letters) {
-        Counted::Count(n) => Length {
-            number: 0,
-            length: n,
-        },
-        Counted::Refused(k) => Length {
-            number: k as u32,
-            length: 0,
-        },
-    }
+    counted_laid(cigar::read_cigar(text, counts, letters))
 }
 
 // How many bytes the first elements of the two tables are written with, at the front of the buffer.

@@ -9,6 +9,7 @@ use Rattle.cigar.specs.Elements.{isLetter, letterD, letterM}
 use Rattle.cigar.specs.Text.{readFrom}
 use Rattle.cigar.specs.Read.{readText}
 use Rattle.cigar.specs.Write.{writing, givenFrom, elementsText, elementText}
+use Rattle.words.specs.Words.{letterOf, allKnown, readWords, faultOf, faultFrom, writeWords}
 use Rattle.records.specs.Records.{Record, laid}
 use Rattle.judging.specs.Input.{inputOf, numbersOf}
 use Rattle.judging.specs.Judging.{judge, judgeLength, lengthFault, rangeFault}
@@ -17,7 +18,7 @@ use Rattle.transcript.specs.declared.Numbers.{Numbers}
 use Rattle.card.specs.Layout.{mark}
 use Rattle.card.specs.Card.{cardText, headerText, recordsText, readCard, isMarked, isCard, arePlain, numbersIn}
 use Rattle.card.specs.Writing.{judgeCard, cardWriting}
-use Rattle.promises.specs.Refusals.{readingRefusals, writingRefusals, buildingRefusals, cardRefusals, lengthRefusals, cardWritingRefusals}
+use Rattle.promises.specs.Refusals.{readingRefusals, writingRefusals, readingWordsRefusals, writingWordsRefusals, buildingRefusals, cardRefusals, lengthRefusals, cardWritingRefusals}
 
 -- a CIGAR of one segment too many
 abbrev many : List ℕ
@@ -37,6 +38,21 @@ pub write-cigar-occurs :
     ∷ [] ≡ map refused writingRefusals
 unfolding writing givenFrom isLetter elementsText elementText
 write-cigar-occurs = refl
+
+-- a clipped base; too many words; no room for one
+pub read-bam-occurs : readWords (4 ∷ []) 9 9 ∷ readWords (replicate 2049 0) 9 9 ∷ readWords (0 ∷ []) 9 0 ∷ [] ≡ map refused readingWordsRefusals
+unfolding readWords allKnown letterOf isLetter
+read-bam-occurs = refl
+
+-- `S`; a count below 0; too many elements; no room for one
+pub write-bam-occurs :
+    writeWords 1 (pos 1 ∷ []) (letterS ∷ []) 9
+    ∷ writeWords 1 (negsuc 0 ∷ []) (letterM ∷ []) 9
+    ∷ writeWords 2049 [] (replicate 2048 letterM) 9
+    ∷ writeWords 1 (pos 1 ∷ []) (letterM ∷ []) 0
+    ∷ [] ≡ map refused writingWordsRefusals
+unfolding writeWords faultFrom faultOf isLetter
+write-bam-occurs = refl
 
 -- ---- building
 

@@ -1,5 +1,5 @@
 -- The table of refusals holds: each judgment is a chain of tests, and a test gives one number of its row or lets the rest decide. Assumes nothing.
-use Prim.Native.Nat.{ℕ, zero, suc, _+_, _-_, _*_}
+use Prim.Native.Nat.{ℕ, zero, suc, _+_, _-_, _*_, min}
 use native.Mathlib.Omega.{arith}
 use mathlib.Core.Bool.{Bool, true, false, not, _&&_}
 use mathlib.Core.List.{List, [], _∷_}
@@ -9,7 +9,7 @@ use lib.IntN.{ℤ, pos, negsuc, natAbs}
 use lib.ListN.{length, drop, getD}
 use lib.Signed.{ltZ}
 use borrow.Author.Tests.{eqb-true, ltb-true}
-use Rattle.refusals.specs.Numbers.{noRecords, noStrand, tooMuch, badBound, badOrd, notAdjacent, noElement, badCount, tooLong, noSegment, halfCds, badCds, noRoom, noCard, notTogether, mostCount, mostSegments, mostText, mostRecords, mostBases, mostCard}
+use Rattle.refusals.specs.Numbers.{noRecords, noStrand, tooMuch, badBound, badOrd, notAdjacent, noElement, badCount, tooLong, noSegment, halfCds, badCds, noRoom, noCard, notTogether, noOperation, mostWordCount, mostCount, mostSegments, mostText, mostRecords, mostBases, mostCard}
 use Rattle.refusals.specs.Outcome.{Outcome, answered, refused, unless}
 use Rattle.refusals.specs.Refusing.{oneOf, Only}
 use Rattle.refusals.specs.laws.Refusing.{only-through, only-then}
@@ -20,6 +20,7 @@ use Rattle.cigar.specs.Elements.{isLetter}
 use Rattle.cigar.specs.Text.{Reading, isDigit, countOf, readFrom}
 use Rattle.cigar.specs.Read.{readText}
 use Rattle.cigar.specs.Write.{elementsText, givenFrom, given, fitted, textOf, writing}
+use Rattle.words.specs.Words.{allKnown, readWords, faultOf, faultFrom, writeWords}
 use Rattle.records.specs.Records.{Record, exactly}
 use Rattle.records.specs.Faults.{_orElse_, spanFault, startFault, riseFault, joinFault, ownFault, followFault, pairFault, faultsAfter, faults}
 use Rattle.transcript.specs.Heads.{bothBits, startOf, endOf, strandOf}
@@ -38,7 +39,7 @@ use Rattle.card.specs.Writing as cards
 use Rattle.card.specs.laws.RoundTrips.{IsCard, read-means}
 use Rattle.card.specs.declared.ReadCard.{ReadCard}
 use Rattle.card.specs.declared.ReadCard.the-variants as read
-use Rattle.promises.specs.Refusals.{Refusals, readingRefusals, writingRefusals, recordsRefusals, buildingRefusals, cardRefusals, lengthRefusals, cardWritingRefusals}
+use Rattle.promises.specs.Refusals.{Refusals, readingRefusals, writingRefusals, readingWordsRefusals, writingWordsRefusals, recordsRefusals, buildingRefusals, cardRefusals, lengthRefusals, cardWritingRefusals}
 
 -- ---- rows
 
@@ -115,6 +116,36 @@ module _ (ks : List ℕ) where
 
   fault-first : {A : Type 0} (k : ℕ) (o : Outcome A) → FaultIn ks k → Only ks o → Only ks (unless k o)
   fault-first k o h n = by-test (eqb k 0) (λ t. rw t n) (λ t. rw t (record { only = rw t at (h .fault) }))
+
+-- ---- BAM's words
+
+read-words-only : (words : List ℕ) (countsRoom lettersRoom : ℕ) → Only readingWordsRefusals (readWords words countsRoom lettersRoom)
+unfolding readWords
+read-words-only words countsRoom lettersRoom =
+    only-unless readingWordsRefusals (not (allKnown words)) noOperation _
+    (only-unless readingWordsRefusals (ltb mostSegments (length words)) tooMuch _
+    (only-unless readingWordsRefusals (ltb countsRoom (length words)) noRoom _
+    (only-unless readingWordsRefusals (ltb lettersRoom (length words)) noRoom _ (done _) (λ e. refl)) (λ e. refl)) (λ e. refl)) (λ e. refl)
+
+fault-in : (count : ℤ) (letter : ℕ) → FaultIn writingWordsRefusals (faultOf count letter)
+unfolding faultOf
+fault-in count letter =
+    if-fault writingWordsRefusals (not (isLetter letter)) (record { fault = refl })
+    (if-fault writingWordsRefusals (ltZ count (pos 0)) (record { fault = refl })
+    (if-fault writingWordsRefusals (ltZ (pos mostWordCount) count) (record { fault = refl }) (record { fault = refl })))
+
+faults-from : (counts : List ℤ) (letters : List ℕ) (i m : ℕ) → FaultIn writingWordsRefusals (faultFrom counts letters i m)
+unfolding faultFrom
+faults-from counts letters i zero = record { fault = refl }
+faults-from counts letters i (suc m) =
+    if-fault writingWordsRefusals (eqb (faultOf (getD counts i (pos 0)) (getD letters i 0)) 0) (faults-from counts letters (i + 1) m) (fault-in (getD counts i (pos 0)) (getD letters i 0))
+
+write-words-only : (number : ℕ) (counts : List ℤ) (letters : List ℕ) (room : ℕ) → Only writingWordsRefusals (writeWords number counts letters room)
+unfolding writeWords
+write-words-only number counts letters room =
+    fault-first writingWordsRefusals (faultFrom counts letters 0 (min number mostSegments)) _ (faults-from counts letters 0 (min number mostSegments))
+    (only-unless writingWordsRefusals (ltb mostSegments number) tooMuch _
+    (only-unless writingWordsRefusals (ltb room number) noRoom _ (done _) (λ e. refl)) (λ e. refl))
 
 -- ---- building
 
@@ -297,6 +328,8 @@ pub refusals : Refusals
 refusals = record {
   read-cigar = text-only;
   write-cigar = writing-only;
+  read-bam = read-words-only;
+  write-bam = write-words-only;
   build = judge-only;
   build-card = card-only;
   build-length = length-only;

@@ -1,11 +1,12 @@
--- The table of refusals, of what is not a question: which numbers building, CIGAR text and a card can give. That of the questions stands in `mapper`. Assumes nothing.
+-- The table of refusals, of what is not a question: which numbers building, CIGAR text, BAM's words and a card can give. That of the questions stands in `mapper`. Assumes nothing.
 use Prim.Native.Nat.{ℕ}
 use mathlib.Core.List.{List, [], _∷_}
 use lib.IntN.{ℤ}
-use Rattle.refusals.specs.Numbers.{noRecords, noStrand, tooMuch, badBound, badOrd, notAdjacent, noElement, badCount, tooLong, noSegment, halfCds, badCds, noRoom, noCard, badVersion, notTogether}
+use Rattle.refusals.specs.Numbers.{noRecords, noStrand, tooMuch, badBound, badOrd, notAdjacent, noElement, badCount, tooLong, noSegment, halfCds, badCds, noRoom, noCard, badVersion, notTogether, noOperation, noWord}
 use Rattle.refusals.specs.Refusing.{Only}
 use Rattle.cigar.specs.Read.{readText}
 use Rattle.cigar.specs.Write.{writing}
+use Rattle.words.specs.Words.{readWords, writeWords}
 use Rattle.transcript.specs.declared.Numbers.{Numbers}
 use Rattle.judging.specs.Judging.{judge, judgeLength}
 use Rattle.card.specs.Writing.{judgeCard, cardWriting}
@@ -17,6 +18,14 @@ readingRefusals = tooMuch ∷ noElement ∷ badCount ∷ []
 -- txc_write_cigar
 abbrev pub writingRefusals : List ℕ
 writingRefusals = tooMuch ∷ noElement ∷ badCount ∷ noRoom ∷ []
+
+-- txc_read_bam
+abbrev pub readingWordsRefusals : List ℕ
+readingWordsRefusals = noOperation ∷ tooMuch ∷ noRoom ∷ []
+
+-- txc_write_bam
+abbrev pub writingWordsRefusals : List ℕ
+writingWordsRefusals = noElement ∷ noWord ∷ tooMuch ∷ noRoom ∷ []
 
 -- what building finds in the records once the strand is known
 abbrev pub recordsRefusals : List ℕ
@@ -41,6 +50,8 @@ cardWritingRefusals = noRoom ∷ buildingRefusals
 pub record Refusals : Type 0 where
   pub read-cigar : (text : List ℕ) → Only readingRefusals (readText text)
   pub write-cigar : (number : ℕ) (counts : List ℤ) (letters : List ℕ) (room : ℕ) → Only writingRefusals (writing number counts letters room)
+  pub read-bam : (words : List ℕ) (countsRoom lettersRoom : ℕ) → Only readingWordsRefusals (readWords words countsRoom lettersRoom)
+  pub write-bam : (number : ℕ) (counts : List ℤ) (letters : List ℕ) (room : ℕ) → Only writingWordsRefusals (writeWords number counts letters room)
   pub build : (n : Numbers) (bytes : List ℕ) → Only buildingRefusals (judge n bytes)
   pub build-card : (bytes : List ℕ) → Only cardRefusals (judgeCard bytes)
   pub build-length : (len : ℤ) (bits : ℕ) (start end : ℤ) → Only lengthRefusals (judgeLength len bits start end)

@@ -1,4 +1,4 @@
--- The paper's numbers, each named once: the refusals of document 01 in their order, and the limits. The code's names for them are those of src/lib.rt.
+-- The paper's numbers, each named once: the refusals of document 01 in their order, those of the requests after it, and the limits. The code's names for them are those of src/lib.rt.
 use Prim.Native.Nat.{ℕ}
 
 -- no exon records
@@ -9,7 +9,7 @@ noRecords = 1
 abbrev pub noStrand : ℕ
 noStrand = 2
 
--- over a limit: records, a CIGAR's bytes, segments, a card's bytes
+-- over a limit: records, a CIGAR's bytes or words, segments, a card's bytes
 abbrev pub tooMuch : ℕ
 tooMuch = 3
 
@@ -77,7 +77,7 @@ noGenome = 18
 abbrev pub missingEnd : ℕ
 missingEnd = 19
 
--- a text is longer than the lent buffer
+-- what is written is longer than the lent memory
 abbrev pub noRoom : ℕ
 noRoom = 20
 
@@ -92,6 +92,14 @@ badVersion = 22
 -- a transcript does not hold together
 abbrev pub notTogether : ℕ
 notTogether = 23
+
+-- a BAM word's code is none of those of the six letters
+abbrev pub noOperation : ℕ
+noOperation = 30
+
+-- a count that no BAM word can hold: below 0, or above the largest
+abbrev pub noWord : ℕ
+noWord = 31
 
 -- the most exon records of a transcript
 abbrev pub mostRecords : ℕ
@@ -120,3 +128,7 @@ mostBases = 2000000000
 -- the largest count of an element
 abbrev pub mostCount : ℕ
 mostCount = 2147483647
+
+-- the largest count that a BAM word has bits for: 28 of them
+abbrev pub mostWordCount : ℕ
+mostWordCount = 268435455

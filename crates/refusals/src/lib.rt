@@ -1,10 +1,10 @@
-// The paper's numbers, each named once: the refusals of document 01 in their order, and the limits.
+// The paper's numbers, each named once: the refusals of document 01 in their order, those of the requests after it, and the limits.
 
 // No exon records.
 pub const NO_RECORDS: u8 = 1;
 // The strand is neither 1 nor -1.
 pub const NO_STRAND: u8 = 2;
-// Over a limit: records, a CIGAR's bytes, segments, a card's bytes.
+// Over a limit: records, a CIGAR's bytes or words, segments, a card's bytes.
 pub const TOO_MUCH: u8 = 3;
 // A bound or a given length is negative, an end is below its start, a genome start is below the previous end.
 pub const BAD_BOUND: u8 = 4;
@@ -38,7 +38,7 @@ pub const TOO_WIDE: u8 = 17;
 pub const NO_GENOME: u8 = 18;
 // The g. start or end is missing.
 pub const MISSING_END: u8 = 19;
-// A text is longer than the lent buffer.
+// What is written is longer than the lent memory.
 pub const NO_ROOM: u8 = 20;
 // Bytes that are no card.
 pub const NO_CARD: u8 = 21;
@@ -46,6 +46,10 @@ pub const NO_CARD: u8 = 21;
 pub const BAD_VERSION: u8 = 22;
 // A transcript does not hold together.
 pub const NOT_TOGETHER: u8 = 23;
+// A BAM word's code is none of those of the six letters.
+pub const NO_OPERATION: u8 = 30;
+// A count that no BAM word can hold: below 0, or above the largest.
+pub const NO_WORD: u8 = 31;
 
 // The most exon records of a transcript.
 pub const MOST_RECORDS: usize = 512;
@@ -61,3 +65,5 @@ pub const MOST_CARD: usize = 65_536;
 pub const MOST_BASES: u32 = 2_000_000_000;
 // The largest count of an element.
 pub const MOST_COUNT: u32 = 2_147_483_647;
+// The largest count that a BAM word has bits for: 28 of them.
+pub const MOST_WORD_COUNT: i32 = 268_435_455;

@@ -5,6 +5,7 @@
 --     Questions    rows that put a question to a lent transcript
 --     Changes      rows that build or damage it
 --     Texts        rows about CIGAR text, cards and alleles
+--     Bam          rows about CIGAR words
 --     Tally        the counts
 --     Replay       one row after the other
 pub mod Sizes
@@ -13,5 +14,6 @@ pub mod Words
 pub mod Questions
 pub mod Changes
 pub mod Texts
+pub mod Bam
 pub mod Tally
 pub mod Replay

@@ -13,6 +13,7 @@ use Rattle.vectors.specs.Rows.{firstOf, callOf, expected, rowSize}
 use Rattle.vectors.specs.Questions.{questionWords}
 use Rattle.vectors.specs.Changes.{headAfter, tablesThen, changeWords}
 use Rattle.vectors.specs.Texts.{textRowAgrees}
+use Rattle.vectors.specs.Bam.{bamRowAgrees}
 use Rattle.vectors.specs.Tally.{counts, counted}
 
 -- ---- one row: 1 to 4 change the lent transcript, 5 to 12 ask it, and the others lend none
@@ -22,7 +23,8 @@ agreed row head t =
     if ltb (callOf row) 1 then false
     else if ltb (callOf row) 5 then expected row (changeWords row (headAfter row head) (tablesThen row t))
     else if ltb (callOf row) 13 then expected row (questionWords row (lentAt head (t .genome) (t .transcript) (t .letters)))
-    else textRowAgrees row
+    else if ltb (callOf row) 19 then textRowAgrees row
+    else bamRowAgrees row
 
 unfoldable pub headNext : List ℕ → List ℤ → List ℤ
 headNext row head = if ltb (callOf row) 1 then head else if ltb (callOf row) 5 then headAfter row head else head

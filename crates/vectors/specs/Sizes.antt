@@ -8,3 +8,7 @@ mostFile = 1048576
 -- the most bytes that are lent as a buffer
 abbrev pub mostRoom : ℕ
 mostRoom = 131072
+
+-- the most words of a row, and the most places of a slice that it lends
+abbrev pub mostWords : ℕ
+mostWords = 4096

@@ -49,10 +49,28 @@ unfoldable pub lettersPut : List ℕ → List ℕ → ℕ → List ℕ
 lettersPut s letters zero = letters
 lettersPut s letters (suc i) = set (lettersPut s letters i) i (letterAt s i)
 
+-- those of a layout in tables that held zeros
+abbrev pub countsTable : List ℕ → List ℤ
+countsTable s = countsPut s (replicate mostSegments (pos 0)) (laidOut s)
+
+abbrev pub lettersTable : List ℕ → List ℕ
+lettersTable s = lettersPut s (replicate mostSegments 0) (laidOut s)
+
+-- the elements that a row gives stand before what is to be written of them
+abbrev pub rowElements : List ℕ → List ℕ
+rowElements row = firstOf (payloadOf row) (5 * sizeOf row 1)
+
+abbrev pub behindElements : List ℕ → List ℕ
+behindElements row = behind (payloadOf row) (5 * sizeOf row 1)
+
 -- ---- a buffer that holds a text and after it only zeros
 
+-- a slice holds what stands at each place, 0 past the last of so many, and has room for them
+abbrev pub holdsEach : (ℕ → ℕ) → ℕ → List ℕ → Bool
+holdsEach at number slice = allBelow (λ (i : ℕ). eqb (getD slice i 0) (at i)) (length slice) && leb number (length slice)
+
 unfoldable pub holdsText : List ℕ → List ℕ → Bool
-holdsText buffer text = allBelow (λ (i : ℕ). eqb (getD buffer i 0) (getD text i 0)) (length buffer) && leb (length text) (length buffer)
+holdsText buffer text = holdsEach (λ (i : ℕ). getD text i 0) (length text) buffer
 
 -- the words of what was written are those that the row expects, and the buffer then holds the text
 unfoldable pub textAgrees : List ℕ → Writing → List ℕ → List ℕ → Bool
@@ -97,16 +115,16 @@ readAgrees row =
     if ltb mostSegments (laidOut (behind (payloadOf row) (sizeOf row 0))) then false
     else readAs row (behind (payloadOf row) (sizeOf row 0)) (readText (firstOf (payloadOf row) (sizeOf row 0)))
 
--- what is written of elements in tables that held zeros
-abbrev pub writtenOf : List ℕ → List ℕ → Writing
-writtenOf row elements = writing (sizeOf row 0) (countsPut elements (replicate mostSegments (pos 0)) (laidOut elements)) (lettersPut elements (replicate mostSegments 0) (laidOut elements)) (sizeOf row 2)
+-- the text of a row's elements
+abbrev pub writtenOf : List ℕ → Writing
+writtenOf row = writing (sizeOf row 0) (countsTable (rowElements row)) (lettersTable (rowElements row)) (sizeOf row 2)
 
--- the elements stand before the text in the row's bytes; the row says how many bytes are lent
+-- the row says how many bytes are lent
 unfoldable pub writeAgrees : List ℕ → Bool
 writeAgrees row =
-    if ltb mostSegments (laidOut (firstOf (payloadOf row) (5 * sizeOf row 1))) then false
+    if ltb mostSegments (laidOut (rowElements row)) then false
     else if ltb mostRoom (sizeOf row 2) then false
-    else textAgrees row (writtenOf row (firstOf (payloadOf row) (5 * sizeOf row 1))) (replicate (sizeOf row 2) 0) (behind (payloadOf row) (5 * sizeOf row 1))
+    else textAgrees row (writtenOf row) (replicate (sizeOf row 2) 0) (behindElements row)
 
 unfoldable pub writeCardAgrees : List ℕ → Bool
 writeCardAgrees row =
@@ -118,5 +136,4 @@ textRowAgrees row =
     if eqb (callOf row) 13 then readAgrees row
     else if eqb (callOf row) 14 then writeAgrees row
     else if eqb (callOf row) 15 then writeCardAgrees row
-    else if ltb (callOf row) 19 then allelesAgree row
-    else false
+    else allelesAgree row

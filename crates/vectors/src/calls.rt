@@ -36,13 +36,17 @@ pub const TRIM_PREFIX: usize = 16;
 pub const TRIM_SUFFIX: usize = 17;
 
 pub const CHANGED: usize = 18;
+
+pub const READ_BAM: usize = 19;
+
+pub const WRITE_BAM: usize = 20;
 // One past the last of these numbers.
-pub const END: usize = CHANGED + 1;
+pub const END: usize = WRITE_BAM + 1;
 
 // Writes the name of a call.
 pub(crate) fn say(call: usize) {
     let names =
-        b"no call\nbuild_card\nbuild\nbuild_length\ndamage\ng_to_n\ng_to_c\nn_to_g\nn_to_c\nc_to_n\nc_to_g\nin_bounds\nis_coding\nread_cigar\nwrite_cigar\nwrite_card\ntrim_prefix\ntrim_suffix\nchanged";
+        b"no call\nbuild_card\nbuild\nbuild_length\ndamage\ng_to_n\ng_to_c\nn_to_g\nn_to_c\nc_to_n\nc_to_g\nin_bounds\nis_coding\nread_cigar\nwrite_cigar\nwrite_card\ntrim_prefix\ntrim_suffix\nchanged\nread_bam\nwrite_bam";
     if call < END {
         say::line(names, call);
     } else {

@@ -5,6 +5,8 @@ ghost use Rattle.segments.specs.Tables.{tables};
 ghost use Rattle.vectors.specs.Tally.{counted};
 ghost use Rattle.vectors.specs.Replay.{agreed, headNext, tablesNext, replayed};
 
+mod answers;
+mod bam;
 mod calls;
 mod questions;
 mod rows;
@@ -12,7 +14,6 @@ mod say;
 mod tally;
 mod texts;
 mod transcripts;
-mod words;
 
 use refusals::MOST_SEGMENTS;
 use refusals::MOST_STARTS;
@@ -42,7 +43,10 @@ fn agrees(
         let words = questions::answered(row, head, genome, transcript, letters);
         return rows::expects(row, words);
     }
-    texts::agrees(row)
+    if call < calls::READ_BAM {
+        return texts::agrees(row);
+    }
+    bam::agrees(row)
 }
 
 // Counts a row; one that differs is told.

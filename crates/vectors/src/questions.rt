@@ -3,10 +3,10 @@
 ghost use mathlib.Core.Path.{_≡_};
 ghost use Rattle.layout.specs.Layout.{lentAt};
 ghost use Rattle.vectors.specs.Questions.{isStrict, startStar, endStar, missingOf, fromG, fromN, fromC, saidTo, questionWords};
+use crate::answers;
 use crate::calls;
 use crate::rows;
 use crate::rows::ANSWER;
-use crate::words;
 use entry::ask;
 use layout::lay::Answer;
 use layout::lay::Said;
@@ -191,13 +191,13 @@ pub(crate) fn answered(
 {
     let call = rows::call(row);
     if call < calls::N_TO_G {
-        return words::of_answer(from_g(row, head, genome, transcript, letters));
+        return answers::of_answer(from_g(row, head, genome, transcript, letters));
     }
     if call < calls::C_TO_N {
-        return words::of_answer(from_n(row, head, genome, transcript, letters));
+        return answers::of_answer(from_n(row, head, genome, transcript, letters));
     }
     if call < calls::IN_BOUNDS {
-        return words::of_answer(from_c(row, head, genome, transcript, letters));
+        return answers::of_answer(from_c(row, head, genome, transcript, letters));
     }
-    words::of_said(said(row, head, genome, transcript, letters))
+    answers::of_said(said(row, head, genome, transcript, letters))
 }

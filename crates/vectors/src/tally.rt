@@ -9,8 +9,8 @@ use crate::rows;
 use crate::say;
 
 // The refusals' numbers, and 0 for none.
-const NUMBERS: usize = refusals::NOT_TOGETHER as usize + 1;
-// Where an expectation comes from: nowhere, the crate's answer, its error, or document 01 where the crate panics, is narrowed or has no such call.
+const NUMBERS: usize = refusals::NO_WORD as usize + 1;
+// Where an expectation comes from: nowhere, the crate's answer, its error, or the documents where the crate panics, is narrowed or has no such call.
 const ORIGINS: usize = 6;
 // Where the counts stand.
 const ROWS: usize = 0;
@@ -100,8 +100,11 @@ fn tell_rows(rows: u64) {
     say::text(b" rows\n");
 }
 
-// Tells how many rows expect one refusal, or none.
+// Tells how many rows expect one refusal, or none. A number that no row expects is passed over: the refusals' numbers have gaps.
 fn tell_number(number: usize, rows: u64) {
+    if rows == 0 {
+        return;
+    }
     if number == 0 {
         say::text(b"no refusal");
     } else {
@@ -114,7 +117,7 @@ fn tell_number(number: usize, rows: u64) {
 // Tells how many expectations come from one origin.
 fn tell_origin(origin: usize, rows: u64) {
     say::line(
-        b"nothing expected\nexpected by the crate's answer\nexpected by the crate's error\nexpected by document 01, the crate panics\nexpected by document 01, which narrows the crate\nexpected by document 01, the crate has no such call",
+        b"nothing expected\nexpected by the crate's answer\nexpected by the crate's error\nexpected by document 01, the crate panics\nexpected by document 01, which narrows the crate\nexpected by the documents, the crate has no such call",
         origin,
     );
     tell_rows(rows);

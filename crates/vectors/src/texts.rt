@@ -9,10 +9,10 @@ ghost use Rattle.vectors.specs.Sizes.{mostRoom};
 ghost use Rattle.vectors.specs.Rows.{sizeOf};
 ghost use Rattle.vectors.specs.Changes.{numbersIn};
 ghost use Rattle.vectors.specs.Texts.{laidOut, countAt, letterAt, isElement, beginWith, countsPut, lettersPut, holdsText, textAgrees, cardAgrees, partWords, commonWords, allelesWords, allelesAgree, readAgrees, writeAgrees, writeCardAgrees, textRowAgrees};
+use crate::answers;
 use crate::calls;
 use crate::rows;
 use crate::rows::ANSWER;
-use crate::words;
 use card::RECORDS_AT;
 use entry::text::Part;
 use refusals::MOST_SEGMENTS;
@@ -20,7 +20,7 @@ use refusals::MOST_SEGMENTS;
 // The most bytes that a row lends as a buffer.
 const MOST_ROOM: usize = 2 * refusals::MOST_CARD;
 // An element is laid out as a count of 32 bits and a letter.
-const ELEMENT: usize = 5;
+pub const ELEMENT: usize = 5;
 
 // Room for a buffer.
 fn room() -> [u8; MOST_ROOM]
@@ -31,7 +31,7 @@ fn room() -> [u8; MOST_ROOM]
 }
 
 // The count of the element at an index of a layout.
-fn count_at(elements: &[u8], i: usize) -> i32
+pub(crate) fn count_at(elements: &[u8], i: usize) -> i32
     requires { ⌜ i < laidOut (now elements) ⌝ }
     ensures { λ r. ⌜ r ≡ countAt (now (elements .entry)) i ⌝ }
 {
@@ -39,7 +39,7 @@ fn count_at(elements: &[u8], i: usize) -> i32
 }
 
 // Its letter.
-fn letter_at(elements: &[u8], i: usize) -> u8
+pub(crate) fn letter_at(elements: &[u8], i: usize) -> u8
     requires { ⌜ i < laidOut (now elements) ⌝ }
     ensures { λ r. ⌜ r ≡ letterAt (now (elements .entry)) i ⌝ }
 {
@@ -81,7 +81,7 @@ fn begin_with(elements: &[u8], counts: &[i32; MOST_SEGMENTS], letters: &[u8; MOS
 }
 
 // Puts the elements laid out at the front of the tables.
-fn put_elements(elements: &[u8], counts: &mut [i32], letters: &mut [u8])
+pub(crate) fn put_elements(elements: &[u8], counts: &mut [i32], letters: &mut [u8])
     requires { ⌜ (laidOut (now elements) ≤ length (now counts)) × (laidOut (now elements) ≤ length (now letters)) ⌝ }
     ensures { λ _. ⌜ now (counts .exit) ≡ countsPut (now (elements .entry)) (now (counts .entry)) (laidOut (now (elements .entry))) ⌝ }
     ensures { λ _. ⌜ now (letters .exit) ≡ lettersPut (now (elements .entry)) (now (letters .entry)) (laidOut (now (elements .entry))) ⌝ }
@@ -123,7 +123,7 @@ fn read_cigar(row: &[u8]) -> bool
     if MOST_SEGMENTS < number {
         return false;
     }
-    rows::expects(row, words::of_length(answer))
+    rows::expects(row, answers::of_length(answer))
         & (answer.length == number)
         & begin_with(elements, &counts, &letters)
 }
@@ -140,7 +140,7 @@ fn writes_cigar(
     ensures { λ _. ⌜ now (buffer .exit) ≡ bufferAfter (now (buffer .entry)) (writing (sizeOf (now (row .entry)) 0) (now (counts .entry)) (now (letters .entry)) (length (now (buffer .entry)))) ⌝ }
 {
     let answer = entry::text::txc_write_cigar(rows::size(row, 0), counts, letters, buffer);
-    rows::expects(row, words::of_length(answer)) & holds(buffer, text)
+    rows::expects(row, answers::of_length(answer)) & holds(buffer, text)
 }
 
 // Whether `txc_write_cigar` answers as recorded.
@@ -185,7 +185,7 @@ fn writes_card(row: &[u8], records: &[u8], buffer: &mut [u8]) -> bool
         records,
         buffer,
     );
-    let same = rows::expects(row, words::of_length(answer));
+    let same = rows::expects(row, answers::of_length(answer));
     if answer.number == 0 {
         return same & holds(sequences::rest(buffer, RECORDS_AT), records);
     }
@@ -209,11 +209,11 @@ fn write_card(row: &[u8]) -> bool
 fn of_part(part: Part) -> [i64; ANSWER]
     ensures { λ r. ⌜ r ≡ partWords part ⌝ }
 {
-    words::of_numbers(
+    answers::of_numbers(
         0,
         part.alternative as i64,
-        words::of_size(part.from),
-        words::of_size(part.to),
+        answers::of_size(part.from),
+        answers::of_size(part.to),
         0,
         0,
     )
@@ -223,7 +223,7 @@ fn of_part(part: Part) -> [i64; ANSWER]
 fn of_common(length: usize) -> [i64; ANSWER]
     ensures { λ r. ⌜ r ≡ commonWords length ⌝ }
 {
-    words::of_numbers(0, words::of_size(length), 0, 0, 0, 0)
+    answers::of_numbers(0, answers::of_size(length), 0, 0, 0, 0)
 }
 
 // What is answered to a row about two alleles.
@@ -250,7 +250,7 @@ fn alleles_agree(row: &[u8]) -> bool
     rows::expects(row, of_alleles(rows::call(row), reference, alternative))
 }
 
-// Whether a row that lends no transcript is answered as recorded.
+// Whether a row about texts, cards or alleles is answered as recorded.
 pub(crate) fn agrees(row: &[u8]) -> bool
     ensures { λ r. ⌜ r ≡ textRowAgrees (now (row .entry)) ⌝ }
 {
@@ -264,8 +264,5 @@ pub(crate) fn agrees(row: &[u8]) -> bool
     if call == calls::WRITE_CARD {
         return write_card(row);
     }
-    if call < calls::END {
-        return alleles_agree(row);
-    }
-    false
+    alleles_agree(row)
 }

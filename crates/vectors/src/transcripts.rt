@@ -5,10 +5,10 @@ ghost use Rattle.segments.specs.Tables.{tables};
 ghost use Rattle.building.specs.Afterwards.{answerOf as builtOf, lengthAnswer, tablesAfter};
 ghost use Rattle.entry.specs.Boundary.{builtNumber, builtHead};
 ghost use Rattle.vectors.specs.Changes.{cardMade, recordsMade, lengthMade, totalOf, recordsWords, lengthOnlyWords, builtWords, headDamaged, tablesDamaged, placesOf, damageWords, headAfter, tablesThen, changeWords};
+use crate::answers;
 use crate::calls;
 use crate::rows;
 use crate::rows::ANSWER;
-use crate::words;
 use refusals::MOST_SEGMENTS;
 use refusals::MOST_STARTS;
 
@@ -42,7 +42,7 @@ fn of_records(
         let count = head[3];
         let along_genome = total(row, genome);
         let along_transcript = total(row, transcript);
-        return words::of_numbers(
+        return answers::of_numbers(
             0,
             strand as i64,
             first as i64,
@@ -51,7 +51,7 @@ fn of_records(
             along_transcript as i64,
         );
     }
-    words::of_refusal(number)
+    answers::of_refusal(number)
 }
 
 // What is recorded of a length-only transcript: its length, with zeros in the place of what it lacks; or of its refusal.
@@ -60,9 +60,9 @@ fn of_length_only(number: u32, head: &[i32; 8]) -> [i64; ANSWER]
 {
     if number == 0 {
         let length = head[7];
-        return words::of_numbers(0, 0, 0, 0, 0, length as i64);
+        return answers::of_numbers(0, 0, 0, 0, 0, length as i64);
     }
-    words::of_refusal(number)
+    answers::of_refusal(number)
 }
 
 // Puts a number into a head, where it has that place.
@@ -147,9 +147,9 @@ fn of_damage(row: &[u8]) -> [i64; ANSWER]
     ensures { λ r. ⌜ r ≡ damageWords (now (row .entry)) ⌝ }
 {
     if rows::size(row, 1) < places(rows::size(row, 0)) {
-        return words::of_refusal(0);
+        return answers::of_refusal(0);
     }
-    words::of_refusal(NO_PLACE)
+    answers::of_refusal(NO_PLACE)
 }
 
 // What `txc_build_card` answers.

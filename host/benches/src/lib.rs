@@ -5,7 +5,11 @@ use hgvs::{
     mapper::alignment::Mapper,
     parser::{CdsInterval, GenomeInterval},
 };
-use pulindraxi::boundary::Asked;
+use pulindraxi::{
+    boundary::Asked,
+    limits::{MOST_SEGMENTS, MOST_WORD_COUNT},
+    Refusal,
+};
 use trials::{
     draw::{Case, Record},
     paper::{self, Source},
@@ -122,4 +126,53 @@ impl Bench {
         let crate_c = c_to_g.iter().map(original::c_interval).collect();
         Bench { asking, mapper, g_to_n, g_to_c, c_to_g, crate_g, crate_c }
     }
+}
+
+/// Words as an aligner writes them: exons of three words with introns between them, and now and then an insertion or a deletion.
+pub fn words(count: usize) -> Vec<u32> {
+    let of = |length: u32, code: u32| length << 4 | code;
+    let exon = [of(120, 0), of(2, 1), of(60, 7), of(900, 3), of(80, 7), of(1, 8), of(3, 2), of(40, 0), of(15_000, 3)];
+    exon.into_iter().cycle().take(count).collect()
+}
+
+/// Reads words into elements as one would in plain Rust: by document 02's rules, judged first, then written. Gives the refusal's number.
+pub fn read_plainly(words: &[u32], counts: &mut [i32], letters: &mut [u8]) -> u32 {
+    const LETTERS: [u8; 16] = *b"MDIN\0\0\0=X\0\0\0\0\0\0\0";
+    let letter = |word: u32| LETTERS[(word & 15) as usize];
+    if words.iter().any(|&word| letter(word) == 0) {
+        return Refusal::NoOperation.number();
+    }
+    if words.len() > MOST_SEGMENTS {
+        return Refusal::TooMuch.number();
+    }
+    if words.len() > counts.len() || words.len() > letters.len() {
+        return Refusal::NoRoom.number();
+    }
+    for ((&word, count), place) in words.iter().zip(counts).zip(letters) {
+        (*count, *place) = ((word >> 4) as i32, letter(word));
+    }
+    0
+}
+
+/// Writes elements as words as one would in plain Rust, in the same way.
+pub fn write_plainly(counts: &[i32], letters: &[u8], words: &mut [u32]) -> u32 {
+    let code = |letter: u8| b"MDIN\0\0\0=X".iter().position(|&own| own == letter && own != 0);
+    for (&count, &letter) in counts.iter().zip(letters) {
+        if code(letter).is_none() {
+            return Refusal::NoElement.number();
+        }
+        if !(0..=MOST_WORD_COUNT).contains(&count) {
+            return Refusal::NoWord.number();
+        }
+    }
+    if counts.len() > MOST_SEGMENTS {
+        return Refusal::TooMuch.number();
+    }
+    if counts.len() > words.len() {
+        return Refusal::NoRoom.number();
+    }
+    for ((&count, &letter), word) in counts.iter().zip(letters).zip(words) {
+        *word = (count as u32) << 4 | code(letter).unwrap_or(0) as u32;
+    }
+    0
 }

@@ -1,15 +1,15 @@
 //! `card`: a text of records, and the card that is written from it.
 
 use std::{
-    fs,
     io::Write,
+    num::ParseIntError,
     path::Path,
     str::{FromStr, SplitWhitespace},
 };
 
 use pulindraxi::{Exon, Input};
 
-use crate::{about, Outcome};
+use crate::{store, Outcome};
 
 /// What the lines gave so far.
 #[derive(Default)]
@@ -25,12 +25,18 @@ fn number<T: FromStr>(words: &mut SplitWhitespace<'_>, what: &str) -> Result<T, 
 }
 
 /// A CDS bound, or `-` for none.
-fn bound(words: &mut SplitWhitespace<'_>, what: &str) -> Result<Option<i32>, String> {
-    if words.clone().next() == Some("-") {
-        words.next();
-        return Ok(None);
+#[derive(Clone, Copy)]
+pub struct Bound(pub Option<i32>);
+
+impl FromStr for Bound {
+    type Err = ParseIntError;
+
+    fn from_str(word: &str) -> Result<Bound, ParseIntError> {
+        match word {
+            "-" => Ok(Bound(None)),
+            number => number.parse().map(|bound| Bound(Some(bound))),
+        }
     }
-    number(words, what).map(Some)
 }
 
 fn exon<'a>(words: &mut SplitWhitespace<'a>) -> Result<Exon<'a>, String> {
@@ -53,7 +59,9 @@ impl<'a> Records<'a> {
         match words.next() {
             Some("strand") if self.strand.is_none() => self.strand = Some(number(&mut words, "the strand")?),
             Some("cds") if self.cds.is_none() => {
-                self.cds = Some([bound(&mut words, "the CDS start")?, bound(&mut words, "the CDS end")?]);
+                let (Bound(start), Bound(end)) =
+                    (number(&mut words, "the CDS start")?, number(&mut words, "the CDS end")?);
+                self.cds = Some([start, end]);
             }
             Some("exon") => self.exons.push(exon(&mut words)?),
             Some(twice @ ("strand" | "cds")) => return Err(format!("`{twice}` stands twice")),
@@ -67,7 +75,7 @@ impl<'a> Records<'a> {
 }
 
 /// Writes the card of a text of records. Lines that are none go to `complaints` with their numbers, and then there is no card.
-pub fn run(text: &[u8], path: Option<&Path>, mut output: impl Write, mut complaints: impl Write) -> Outcome {
+pub fn run(text: &[u8], path: Option<&Path>, output: impl Write, mut complaints: impl Write) -> Outcome {
     let text = String::from_utf8_lossy(text);
     let mut records = Records::default();
     let mut bad = 0u64;
@@ -86,10 +94,7 @@ pub fn run(text: &[u8], path: Option<&Path>, mut output: impl Write, mut complai
     let [cds_start, cds_end] = records.cds.unwrap_or_default();
     let strand = records.strand.ok_or("the text has no line `strand 1` or `strand -1`")?;
     let card = Input { strand, cds_start, cds_end, exons: &records.exons }.card()?;
-    match path {
-        Some(path) => fs::write(path, card).map_err(about(path))?,
-        None => output.write_all(&card)?,
-    }
+    store::put_or_write(path, &card, output)?;
     Ok(true)
 }
 

@@ -1,18 +1,23 @@
-//! `pulindraxi`: maps positions between g., n. and c. by a transcript's card, lists cards and writes them.
+//! `pulindraxi`: maps positions between g., n. and c. by a transcript's card, lists cards and writes them, from records or alignments.
 
+mod bam;
 mod card;
+mod hts;
 mod list;
 mod map;
+mod store;
 
 use std::{
     error::Error,
+    ffi::OsString,
     fs,
     io::{self, Read},
     path::{Path, PathBuf},
     process::ExitCode,
 };
 
-use clap::{Parser, Subcommand};
+use card::Bound;
+use clap::{Args, Parser, Subcommand};
 use pulindraxi::{Bounds, Transcript};
 
 /// Maps positions between genome (g.), transcript (n.) and coding (c.) numbers.
@@ -42,18 +47,40 @@ enum Command {
         /// The transcript's card
         card: PathBuf,
     },
-    /// Write a card from a text of records
+    /// Write a card from a text of records, or from an alignment
     ///
     /// The text has lines `strand 1`, `cds START END` (`-` for a bound that is not given; no such line: no CDS) and, in
     /// genomic order, `exon ALT_START ALT_END TX_START TX_END ORD CIGAR` (`.` for an empty CIGAR). Starts are zero-based,
     /// the CIGAR is in transcript direction. Empty lines and lines that begin with # are skipped.
-    Card {
-        /// The text; standard input if left out
-        records: Option<PathBuf>,
-        /// Where the card goes; standard output if left out
-        #[arg(short, long)]
-        output: Option<PathBuf>,
-    },
+    ///
+    /// Of a file of alignments, the primary one that is named is taken, or the only one: its stretches between N are the
+    /// exons. An alignment that is unmapped, clipped or secondary, a name that is not there or stands twice, and a file that
+    /// is cut off are said, and there is no card.
+    Card(Card),
+}
+
+#[derive(Args)]
+struct Card {
+    /// The text; standard input if left out
+    #[arg(conflicts_with = "bam")]
+    records: Option<PathBuf>,
+    /// A file of alignments in place of the text: BAM, SAM or CRAM
+    #[arg(long, value_name = "FILE")]
+    bam: Option<PathBuf>,
+    /// The read whose alignment is taken; the only one if left out
+    #[arg(long, requires = "bam", allow_hyphen_values = true)]
+    name: Option<OsString>,
+    /// Where the CDS begins and ends on the transcript, as in a text of records
+    #[arg(long, requires = "bam", num_args = 2, value_names = ["START", "END"], allow_hyphen_values = true)]
+    cds: Option<Vec<Bound>>,
+    /// Write a card for each primary alignment into a folder, under the read's name
+    ///
+    /// A read that has no card is reported, the run goes on, and the exit status is then 1.
+    #[arg(long, value_name = "FOLDER", requires = "bam", conflicts_with_all = ["name", "cds", "output"])]
+    all: Option<PathBuf>,
+    /// Where the card goes; standard output if left out
+    #[arg(short, long)]
+    output: Option<PathBuf>,
 }
 
 /// Whether all of the input was read.
@@ -79,6 +106,20 @@ fn input(path: Option<&Path>) -> Result<Vec<u8>, Box<dyn Error>> {
     Ok(fs::read(path).map_err(about(path))?)
 }
 
+fn write_card(options: Card) -> Outcome {
+    let Card { records, bam, name, cds, all, output } = options;
+    let (out, complaints) = (io::stdout().lock(), io::stderr().lock());
+    let cds = match cds.as_deref() {
+        Some(&[Bound(start), Bound(end)]) => [start, end],
+        _ => [None; 2],
+    };
+    match (bam, all) {
+        (Some(bam), Some(folder)) => bam::run_all(&bam, &folder, out, complaints),
+        (Some(bam), None) => bam::run(&bam, name.as_deref(), cds, output.as_deref(), out),
+        (None, _) => card::run(&input(records.as_deref())?, output.as_deref(), out, complaints),
+    }
+}
+
 fn run(command: Command) -> Outcome {
     match command {
         Command::Map { card, lenient } => {
@@ -86,10 +127,7 @@ fn run(command: Command) -> Outcome {
             map::run(&transcript(&card)?, bounds, io::stdin().lock(), io::stdout().lock(), io::stderr().lock())
         }
         Command::List { card } => list::run(&transcript(&card)?, io::stdout().lock()),
-        Command::Card { records, output } => {
-            let text = input(records.as_deref())?;
-            card::run(&text, output.as_deref(), io::stdout().lock(), io::stderr().lock())
-        }
+        Command::Card(options) => write_card(options),
     }
 }
 

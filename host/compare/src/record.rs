@@ -29,7 +29,7 @@ const ALIKE: u32 = 6;
 const ALIKE_OTHERS: u32 = 8;
 
 /// The refusals that each call can give, 0 for an answer. A sample that lacks one is no sample.
-const WANTED: [(Call, &[u32]); 17] = [
+const WANTED: [(Call, &[u32]); 19] = [
     (Call::BuildCard, &[0, 1, 3, 4, 5, 6, 7, 8, 9, 10, 11, 12, 21, 22]),
     (Call::Build, &[0, 1, 2, 3, 4, 5, 6, 7, 8, 9, 10, 11, 12, 21]),
     (Call::BuildLength, &[0, 4, 9, 11, 12]),
@@ -47,6 +47,8 @@ const WANTED: [(Call, &[u32]); 17] = [
     (Call::TrimPrefix, &[0]),
     (Call::TrimSuffix, &[0]),
     (Call::Changed, &[0]),
+    (Call::ReadBam, &[0, 3, 20, 30]),
+    (Call::WriteBam, &[0, 3, 7, 20, 31]),
 ];
 
 /// A number for what rows of one kind have in common.
@@ -115,6 +117,11 @@ fn case_of(from: Laid<'_>) -> Option<Case> {
 /// Elements of five bytes each.
 fn five_bytes(elements: &[Element]) -> Vec<u8> {
     elements.iter().flat_map(|element| element.count.to_le_bytes().into_iter().chain([element.letter])).collect()
+}
+
+/// Words of four bytes each.
+fn four_bytes(words: &[u32]) -> Vec<u8> {
+    words.iter().flat_map(|word| word.to_le_bytes()).collect()
 }
 
 /// The row of a call that takes building's input.
@@ -326,6 +333,32 @@ impl Recorder {
         Ok(())
     }
 
+    fn read_bam(&mut self, words: &[u32], [counts_room, letters_room]: [usize; 2]) {
+        let expected = paper::read_bam(words, counts_room.min(letters_room));
+        if !self.has_room((Call::ReadBam, [number(&expected) as i32, 0, 0, 0, 0]), 2 * ALIKE_OTHERS) {
+            return;
+        }
+        let elements: Vec<_> =
+            expected.iter().flatten().map(|&(count, letter)| Element::new(count as i32, letter)).collect();
+        let answer = [number(&expected) as i32, elements.len() as i32, 0, 0, 0, 0, 0, 0];
+        let numbers = [words.len() as i32, counts_room as i32, letters_room as i32, 0, 0, 0];
+        let payload = [four_bytes(words), five_bytes(&elements)].concat();
+        self.push(Row { numbers, payload, ..Row::new(Call::ReadBam) }, answer, Origin::Added);
+    }
+
+    fn write_bam(&mut self, elements: &[Element], number_given: usize, room: usize) {
+        let (counts, letters): (Vec<i32>, Vec<u8>) = elements.iter().map(|e| (e.count, e.letter)).unzip();
+        let expected = paper::write_bam(number_given, &counts, &letters, room);
+        if !self.has_room((Call::WriteBam, [number(&expected) as i32, 0, 0, 0, 0]), 2 * ALIKE_OTHERS) {
+            return;
+        }
+        let written = expected.as_deref().unwrap_or(&[]);
+        let answer = [number(&expected) as i32, written.len() as i32, 0, 0, 0, 0, 0, 0];
+        let numbers = [number_given as i32, elements.len() as i32, room as i32, 0, 0, 0];
+        let payload = [five_bytes(elements), four_bytes(written)].concat();
+        self.push(Row { numbers, payload, ..Row::new(Call::WriteBam) }, answer, Origin::Added);
+    }
+
     fn write_card(&mut self, from: Laid<'_>, room: usize) {
         let expected = paper::write_card(from, room);
         if !self.has_room((Call::WriteCard, [number(&expected) as i32, from.strand, 0, 0, 0]), ALIKE_OTHERS / 2) {
@@ -480,6 +513,29 @@ fn draw_long(recorder: &mut Recorder) -> Result<(), String> {
     Ok(())
 }
 
+/// BAM words, few but for those at the limit.
+fn draw_words(recorder: &mut Recorder) {
+    let mut many = vec![16; MOST_SEGMENTS + 1];
+    recorder.read_bam(&many, [MOST_SEGMENTS; 2]);
+    many[MOST_SEGMENTS] = 20;
+    recorder.read_bam(&many, [0; 2]);
+    recorder.read_bam(&many[..MOST_SEGMENTS], [MOST_SEGMENTS; 2]);
+    let full = vec![Element::new(1, b'M'); MOST_SEGMENTS];
+    for number in [MOST_SEGMENTS, MOST_SEGMENTS + 1] {
+        recorder.write_bam(&full, number, MOST_SEGMENTS);
+    }
+    for _ in 0..DRAWN {
+        let (words, rooms) = draw::words(&mut recorder.rng);
+        if words.len() < 20 {
+            recorder.read_bam(&words, rooms);
+        }
+        let (elements, room) = draw::worded(&mut recorder.rng);
+        if elements.len() < 20 {
+            recorder.write_bam(&elements, elements.len(), room);
+        }
+    }
+}
+
 /// The file: a head row, then the sample.
 pub fn run() -> Result<Vec<u8>, String> {
     let mut recorder = Recorder {
@@ -490,6 +546,7 @@ pub fn run() -> Result<Vec<u8>, String> {
     };
     draw_long(&mut recorder)?;
     draw_all(&mut recorder)?;
+    draw_words(&mut recorder);
     let mut counts: BTreeMap<(Call, u32), u32> = BTreeMap::new();
     for row in &recorder.rows {
         *counts.entry((row.call, row.answer[0] as u32)).or_default() += 1;

@@ -2,7 +2,7 @@
 
 use pulindraxi::{
     boundary::{Asked, Cds, Head, Laid},
-    limits::{MOST_SEGMENTS, MOST_TEXT},
+    limits::{MOST_SEGMENTS, MOST_TEXT, MOST_WORD_COUNT},
     Element,
 };
 use rand::{seq::SliceRandom, Rng};
@@ -263,6 +263,68 @@ pub fn elements<R: Rng>(rng: &mut R) -> (Vec<Element>, usize) {
     }
     let room = if rng.gen_ratio(1, 3) { rng.gen_range(0..60) } else { MOST_TEXT + 4 };
     (elements, room)
+}
+
+/// A BAM word: mostly of the six operations, its length small, at a limit or any.
+fn word<R: Rng>(rng: &mut R) -> u32 {
+    let operation =
+        if rng.gen_ratio(1, 60) { rng.gen_range(0..16) } else { *[0, 1, 2, 3, 7, 8].choose(rng).expect("not empty") };
+    let length = match rng.gen_range(0..8) {
+        0 => *[0, 1, (1 << 27) - 1, 1 << 27, (1 << 28) - 1].choose(rng).expect("not empty"),
+        1 => rng.gen_range(0..1 << 28),
+        _ => rng.gen_range(0..40),
+    };
+    length << 4 | operation
+}
+
+/// How many elements or words there are: few, or around the most.
+fn much<R: Rng>(rng: &mut R) -> usize {
+    match rng.gen_range(0..16) {
+        0 => rng.gen_range(MOST_SEGMENTS - 4..MOST_SEGMENTS + 6),
+        _ => rng.gen_range(0..20),
+    }
+}
+
+/// Room for so many: enough, just that, or too little.
+fn room<R: Rng>(rng: &mut R, number: usize) -> usize {
+    match rng.gen_range(0..6) {
+        0 => rng.gen_range(0..=number),
+        1 => number,
+        _ => number + rng.gen_range(0..5),
+    }
+}
+
+/// BAM words to be read, and the lengths of the slices for their counts and letters. A fault may stand anywhere, also past the most.
+pub fn words<R: Rng>(rng: &mut R) -> (Vec<u32>, [usize; 2]) {
+    let number = much(rng);
+    // Each word has its chance of a fault, so that most long lists would have one; half of them are given M in its place.
+    let whole = number > 20 && rng.gen();
+    let mended = |word: u32| if whole && paper::read_bam(&[word], 1).is_err() { word & !15 } else { word };
+    let mut words: Vec<_> = (0..number).map(|_| mended(word(rng))).collect();
+    if let Some(last) = words.last_mut().filter(|_| whole && rng.gen()) {
+        // Any operation, by the lowest bits of its length.
+        let word = self::word(rng);
+        *last = word ^ (word >> 4 & 15);
+    }
+    (words, [room(rng, number), room(rng, number)])
+}
+
+/// Elements to be written as BAM words, and the room for them: some have a fault, or a count around the largest.
+pub fn worded<R: Rng>(rng: &mut R) -> (Vec<Element>, usize) {
+    let number = much(rng);
+    let element = |rng: &mut R| Element::new(rng.gen_range(0..40), *b"=DIMNX".choose(rng).expect("not empty"));
+    let mut elements: Vec<_> = (0..number).map(|_| element(rng)).collect();
+    for _ in 0..rng.gen_range(0..3) {
+        let Some(element) = elements.choose_mut(rng) else { break };
+        match rng.gen_range(0..6) {
+            0 => element.count = MOST_WORD_COUNT - rng.gen_range(-2..3),
+            1 => element.count = self::number(rng),
+            2 => element.letter = rng.gen(),
+            3 => *element = Element::new(self::number(rng), *b"SHP*m\0".choose(rng).expect("not empty")),
+            _ => (),
+        }
+    }
+    (elements, room(rng, number))
 }
 
 /// Changes one number or letter of lent memory, or a start on both sides.

@@ -1,6 +1,6 @@
-//! Random and damaged input for the boundary, and what document 01 says of it.
+//! Random and damaged input for the boundary, and what documents 01 and 02 say of it.
 //!
-//! [`paper`] is document 01 in plain Rust. [`draw`] makes input: whole transcripts, faulty ones, damaged memory, questions.
+//! [`paper`] is the documents in plain Rust. [`draw`] makes input: whole transcripts, faulty ones, damaged memory, questions.
 //! [`Question`] is one question to a transcript, which both can be asked. [`recorded`] is a file of answers, and its replay.
 //! The program `fuzz` joins the first two.
 

@@ -1,5 +1,5 @@
 //! Calls every entry with random, damaged and extreme input, a given number of times from a given seed. Each answer must be
-//! document 01's, and a refusal must leave lent memory as it was.
+//! the documents', and a refusal must leave lent memory as it was.
 
 use std::collections::BTreeMap;
 
@@ -203,7 +203,42 @@ impl Trial {
         let expected = paper::write_cigar(number, &counts[..], &letters[..], room);
         let mut buffer = vec![b'.'; room];
         let written = boundary::write_cigar(number, &counts, &letters, &mut buffer);
-        self.judge_written("txc_write_cigar", written, expected, &buffer);
+        self.judge_front("txc_write_cigar", written, expected, &buffer, b'.');
+        self.count("txc_write_cigar", written.number);
+    }
+
+    fn read_bam(&mut self) {
+        let (words, [counts_room, letters_room]) = draw::words(&mut self.rng);
+        let (mut counts, mut letters) = (vec![-7; counts_room], vec![7; letters_room]);
+        let read = boundary::read_bam(&words, &mut counts, &mut letters);
+        let expected = paper::read_bam(&words, counts_room.min(letters_room));
+        let (of_counts, of_letters) = match expected {
+            Ok(elements) => {
+                let (of_counts, of_letters) =
+                    elements.into_iter().map(|(count, letter)| (count as i32, letter)).unzip();
+                (Ok(of_counts), Ok(of_letters))
+            }
+            Err(refusal) => (Err(refusal), Err(refusal)),
+        };
+        self.judge_front("txc_read_bam", read, of_counts, &counts, -7);
+        self.judge_front("txc_read_bam", read, of_letters, &letters, 7);
+        self.count("txc_read_bam", read.number);
+    }
+
+    fn write_bam(&mut self) {
+        let (elements, room) = draw::worded(&mut self.rng);
+        let number = elements.len();
+        // What stands past the elements would be refused.
+        let mut counts = Box::new([-7; MOST_SEGMENTS]);
+        let mut letters = Box::new([b'?'; MOST_SEGMENTS]);
+        for (place, element) in elements.iter().take(MOST_SEGMENTS).enumerate() {
+            (counts[place], letters[place]) = (element.count, element.letter);
+        }
+        let expected = paper::write_bam(number, &counts[..], &letters[..], room);
+        let mut words = vec![0xa5a5_a5a5; room];
+        let written = boundary::write_bam(number, &counts, &letters, &mut words);
+        self.judge_front("txc_write_bam", written, expected, &words, 0xa5a5_a5a5);
+        self.count("txc_write_bam", written.number);
     }
 
     fn write_card(&mut self) {
@@ -214,23 +249,28 @@ impl Trial {
         let expected = paper::write_card(from, room);
         let mut buffer = vec![b'.'; room];
         let written = boundary::write_card(from, &mut buffer);
-        self.judge_written("txc_write_card", written, expected, &buffer);
+        self.judge_front("txc_write_card", written, expected, &buffer, b'.');
+        self.count("txc_write_card", written.number);
     }
 
-    /// A text that fits fills the front of the buffer and the rest stays.
-    fn judge_written(
-        &mut self,
-        entry: &'static str,
+    /// What fits fills the front of the buffer and the rest stays as it was.
+    fn judge_front<T: PartialEq>(
+        &self,
+        entry: &str,
         written: Length,
-        expected: Result<Vec<u8>, Refusal>,
-        buffer: &[u8],
+        expected: Result<Vec<T>, Refusal>,
+        buffer: &[T],
+        was: T,
     ) {
         let number = number_of(&expected);
         let text = expected.unwrap_or_default();
         assert_eq!(written, Length { number, length: text.len() }, "{entry}, call {}", self.calls);
         let (front, rest) = buffer.split_at(text.len());
-        assert!(front == text && rest.iter().all(|&b| b == b'.'), "{entry} wrote otherwise, call {}", self.calls);
-        self.count(entry, number);
+        assert!(
+            front == text && rest.iter().all(|place| *place == was),
+            "{entry} wrote otherwise, call {}",
+            self.calls
+        );
     }
 
     fn trim(&mut self) {
@@ -261,9 +301,11 @@ impl Trial {
             25..=27 => self.build_length(),
             28..=52 => self.ask(),
             53..=79 => self.ask_damaged(),
-            80..=86 => self.read_cigar(),
-            87..=90 => self.write_cigar(),
-            91..=94 => self.write_card(),
+            80..=84 => self.read_cigar(),
+            85..=87 => self.write_cigar(),
+            88..=90 => self.read_bam(),
+            91..=93 => self.write_bam(),
+            94..=96 => self.write_card(),
             _ => self.trim(),
         }
     }
@@ -282,5 +324,5 @@ fn main() {
     for (entry, numbers) in entries {
         println!("{entry:<17} {}", numbers.join(", "));
     }
-    println!("{} calls from seed {}, each as document 01 says", trial.calls, options.seed);
+    println!("{} calls from seed {}, each as the documents say", trial.calls, options.seed);
 }

@@ -1,11 +1,11 @@
-//! Document 01 in plain Rust on 64-bit numbers: what to expect of every entry on any input.
+//! Document 01, and what has landed of document 02, in plain Rust on 64-bit numbers: what to expect of every entry on any input.
 //!
 //! The crate hgvs says what to expect only where it neither panics nor overflows and is not narrowed. This module, written
 //! from the document's text, says the rest, and the comparison holds it to the crate wherever the crate answers.
 
 use pulindraxi::{
     boundary::{Answer, Asked, AskedG, Cds, Head, Laid, Part, Position, Reading, Said, Starts},
-    limits::{MOST_BASES, MOST_CARD, MOST_RECORDS, MOST_SEGMENTS, MOST_TEXT},
+    limits::{MOST_BASES, MOST_CARD, MOST_RECORDS, MOST_SEGMENTS, MOST_TEXT, MOST_WORD_COUNT},
     Exon, Refusal,
 };
 
@@ -121,6 +121,63 @@ pub fn write_cigar(number: usize, counts: &[i32], letters: &[u8], room: usize) -
         return Err(Refusal::NoRoom);
     }
     Ok(text)
+}
+
+// ---- BAM's words: document 02, Ask 1
+
+/// The operations of the SAM specification, each at its number.
+const OPERATIONS: &[u8] = b"MIDNSHP=X";
+
+/// BAM's I becomes our D and its D our I; the others carry over. The same leads back.
+fn exchanged(letter: u8) -> u8 {
+    match letter {
+        b'I' => b'D',
+        b'D' => b'I',
+        other => other,
+    }
+}
+
+/// The element of a word: its length above the lowest 4 bits, and the letter of its operation; 30 for any other.
+fn element(word: u32) -> Result<Counted, Refusal> {
+    let operation = OPERATIONS.get((word % 16) as usize);
+    let letter = operation.map(|&letter| exchanged(letter)).filter(|&letter| is_letter(letter));
+    Ok((i64::from(word / 16), letter.ok_or(Refusal::NoOperation)?))
+}
+
+/// The word of an element: 7 for a letter that is not one of the six, then 31 for a count that 28 bits do not hold.
+fn word(count: i32, letter: u8) -> Result<u32, Refusal> {
+    if !is_letter(letter) {
+        return Err(Refusal::NoElement);
+    }
+    if !(0..=MOST_WORD_COUNT).contains(&count) {
+        return Err(Refusal::NoWord);
+    }
+    let operation = OPERATIONS.iter().position(|&operation| operation == exchanged(letter)).expect("one of the six");
+    Ok(count as u32 * 16 + operation as u32)
+}
+
+/// What was judged, where it is not too much (3) and finds room (20).
+fn fitting<T>(judged: Vec<T>, number: usize, room: usize) -> Result<Vec<T>, Refusal> {
+    if number > MOST_SEGMENTS {
+        return Err(Refusal::TooMuch);
+    }
+    if number > room {
+        return Err(Refusal::NoRoom);
+    }
+    Ok(judged)
+}
+
+/// The elements of words: every word's 30 first, also of those past the most, then 3, then 20. The room is the shorter slice's.
+pub fn read_bam(words: &[u32], room: usize) -> Result<Vec<Counted>, Refusal> {
+    let elements = words.iter().map(|&word| element(word)).collect::<Result<Vec<_>, _>>()?;
+    fitting(elements, words.len(), room)
+}
+
+/// The words of elements: each 7, 31 of those that the tables hold, then 3 for their number, then 20.
+pub fn write_bam(number: usize, counts: &[i32], letters: &[u8], room: usize) -> Result<Vec<u32>, Refusal> {
+    let given = counts.iter().zip(letters).take(number);
+    let words = given.map(|(&count, &letter)| word(count, letter)).collect::<Result<Vec<_>, _>>()?;
+    fitting(words, number, room)
 }
 
 // ---- Building
@@ -615,4 +672,37 @@ pub fn changed(reference: &[u8], alternative: &[u8]) -> Part {
     let is_alternative = alternative.len() > reference.len();
     let longer = reference.len().max(alternative.len());
     Part { alternative: u32::from(is_alternative), from, to: longer - cut }
+}
+
+#[cfg(test)]
+mod tests {
+    use super::*;
+
+    /// `10M2I3D500N8=1X` as the SAM specification lays it out, 2 the length of its I.
+    #[test]
+    fn words_are_read_and_written_as_document_02_says() {
+        let words = [160, 33, 50, 8_003, 135, 24];
+        let elements = [(10, b'M'), (2, b'D'), (3, b'I'), (500, b'N'), (8, b'='), (1, b'X')];
+        assert_eq!(read_bam(&words, 6).unwrap(), elements);
+        let (counts, letters): (Vec<_>, Vec<_>) =
+            elements.iter().map(|&(count, letter)| (count as i32, letter)).unzip();
+        assert_eq!(write_bam(6, &counts, &letters, 6).unwrap(), words);
+    }
+
+    #[test]
+    fn refusals_of_words_have_their_order() {
+        for code in [4, 5, 6, 9, 10, 11, 12, 13, 14, 15] {
+            let mut many = vec![16; 2_049];
+            many[2_048] = 16 + code;
+            assert_eq!(read_bam(&many, 0), Err(Refusal::NoOperation));
+        }
+        assert_eq!(read_bam(&[16; 2_049], 0), Err(Refusal::TooMuch));
+        assert_eq!(read_bam(&[16; 2_048], 2_047), Err(Refusal::NoRoom));
+        let write = |number, count, letter, room| write_bam(number, &[1, count], &[b'M', letter], room);
+        assert_eq!(write(2, -1, b'S', 0), Err(Refusal::NoElement));
+        assert_eq!(write(2, 268_435_456, b'X', 0), Err(Refusal::NoWord));
+        assert_eq!(write(2_049, 268_435_455, b'X', 0), Err(Refusal::TooMuch));
+        assert_eq!(write(2, 268_435_455, b'X', 1), Err(Refusal::NoRoom));
+        assert_eq!(write(1, -1, b'S', 1).unwrap(), [16]);
+    }
 }

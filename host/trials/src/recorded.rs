@@ -3,7 +3,7 @@
 //! `host/compare/README.md` describes the layout, for readers in other languages too.
 
 use pulindraxi::{
-    boundary::{self, Answer, Asked, Cds, Head, Laid, Length, Part},
+    boundary::{self, Answer, Asked, Cds, Counts, Head, Laid, Length, Letters, Part},
     limits::MOST_SEGMENTS,
 };
 
@@ -54,11 +54,15 @@ pub enum Call {
     TrimSuffix = 17,
     /// `txc_changed`.
     Changed = 18,
+    /// `txc_read_bam`.
+    ReadBam = 19,
+    /// `txc_write_bam`.
+    WriteBam = 20,
 }
 
 impl Call {
     /// Every call, in the order of the numbers.
-    pub const ALL: [Call; 19] = [
+    pub const ALL: [Call; 21] = [
         Call::Head,
         Call::BuildCard,
         Call::Build,
@@ -78,6 +82,8 @@ impl Call {
         Call::TrimPrefix,
         Call::TrimSuffix,
         Call::Changed,
+        Call::ReadBam,
+        Call::WriteBam,
     ];
 
     /// The question of a call, if it is one.
@@ -187,6 +193,11 @@ fn elements(bytes: &[u8]) -> impl Iterator<Item = (i32, u8)> + '_ {
     bytes.chunks_exact(5).map(|five| (word(five, 0), five[4]))
 }
 
+/// BAM words of four bytes each.
+fn bam_words(bytes: &[u8]) -> Vec<u32> {
+    bytes.chunks_exact(4).map(|four| word(four, 0) as u32).collect()
+}
+
 /// What building's row expects of the memory: strand, first start, segment count, both lengths.
 pub fn built(number: u32, lent: &Lent) -> [i32; 8] {
     let Head { kind, strand, first_start, segment_count, length, .. } = *lent.head;
@@ -233,25 +244,56 @@ fn read_cigar(row: &Row) -> Result<[i32; 8], String> {
     }
 }
 
-/// Whether a buffer that was 0 throughout has a text at its front and nothing else.
-fn is_front(buffer: &[u8], text: &[u8]) -> bool {
-    buffer.starts_with(text) && buffer[text.len()..].iter().all(|&byte| byte == 0)
+/// Whether memory that was 0 throughout has these at its front and nothing else.
+fn is_front<T: Default + PartialEq>(lent: &[T], front: &[T]) -> bool {
+    lent.starts_with(front) && lent[front.len()..].iter().all(|one| *one == T::default())
+}
+
+/// Elements at the fronts of two tables.
+fn tables(given: &[u8]) -> (Box<Counts>, Box<Letters>) {
+    let (mut counts, mut letters) = (Box::new([0; MOST_SEGMENTS]), Box::new([0; MOST_SEGMENTS]));
+    for (place, (count, letter)) in elements(given).enumerate() {
+        (counts[place], letters[place]) = (count, letter);
+    }
+    (counts, letters)
 }
 
 fn write_cigar(row: &Row) -> Result<[i32; 8], String> {
     let [number, lent, room, ..] = row.numbers.map(|number| number as usize);
     let (given, expected) = row.payload.split_at(5 * lent);
-    let mut counts = Box::new([0; MOST_SEGMENTS]);
-    let mut letters = Box::new([0; MOST_SEGMENTS]);
-    for (place, (count, letter)) in elements(given).enumerate() {
-        (counts[place], letters[place]) = (count, letter);
-    }
+    let (counts, letters) = tables(given);
     let mut buffer = vec![0; room];
     let written = boundary::write_cigar(number, &counts, &letters, &mut buffer);
     if is_front(&buffer, expected) {
         Ok(counted(written))
     } else {
         Err("another text".into())
+    }
+}
+
+fn read_bam(row: &Row) -> Result<[i32; 8], String> {
+    let [number, counts_room, letters_room, ..] = row.numbers.map(|number| number as usize);
+    let (given, expected) = row.payload.split_at(4 * number);
+    let (mut counts, mut letters) = (vec![0; counts_room], vec![0; letters_room]);
+    let read = boundary::read_bam(&bam_words(given), &mut counts, &mut letters);
+    let (expected_counts, expected_letters): (Vec<i32>, Vec<u8>) = elements(expected).unzip();
+    if is_front(&counts, &expected_counts) && is_front(&letters, &expected_letters) {
+        Ok(counted(read))
+    } else {
+        Err("other elements".into())
+    }
+}
+
+fn write_bam(row: &Row) -> Result<[i32; 8], String> {
+    let [number, lent, room, ..] = row.numbers.map(|number| number as usize);
+    let (given, expected) = row.payload.split_at(5 * lent);
+    let (counts, letters) = tables(given);
+    let mut words = vec![0; room];
+    let written = boundary::write_bam(number, &counts, &letters, &mut words);
+    if is_front(&words, &bam_words(expected)) {
+        Ok(counted(written))
+    } else {
+        Err("other words".into())
     }
 }
 
@@ -292,6 +334,8 @@ fn call(row: &Row, lent: &mut Lent) -> Result<[i32; 8], String> {
         Call::ReadCigar => read_cigar(row),
         Call::WriteCigar => write_cigar(row),
         Call::WriteCard => write_card(row),
+        Call::ReadBam => read_bam(row),
+        Call::WriteBam => write_bam(row),
         Call::TrimPrefix => trimmed(boundary::trim_prefix(reference, alternative)),
         Call::TrimSuffix => trimmed(boundary::trim_suffix(reference, alternative)),
         Call::Changed => {

@@ -16,7 +16,8 @@ use Rattle.cigar.specs.Text.{stepAt, readAll, elementsIn}
 use Rattle.cigar.specs.laws.Steps.{Moves, moves, Takes, takes, none-refused, all-taken}
 use Rattle.cigar.specs.laws.Sound.{step-sound}
 use Rattle.cigar.specs.Read.{countsOf, lettersOf, FullLength, Filled}
-use Rattle.cigar.proofs.Filling.{tables-set, fill-one, fill-none}
+use Rattle.cigar.specs.laws.Filling.{fill-one, fill-none}
+use Rattle.cigar.proofs.Filling.{tables-set}
 use borrow.Author.Needs.{needs}
 use Rattle.cigar.proofs.fill_elements.Statement.{statement}
 use Rattle.cigar.proofs.fill_elements.Tie as tie

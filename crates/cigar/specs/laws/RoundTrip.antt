@@ -1,4 +1,5 @@
 -- Reading what was written gives the same elements, and a text that was read can be written again.
+--     read-count, read-letter    a count in decimal, and a letter, in front of what follows
 --     read-back       any sound elements, written and read
 --     read-again      the elements of a text that was read, written and read again
 --     shorter         written again, a text is no longer than it was
@@ -8,6 +9,7 @@ use mathlib.Core.Path.{_≡_, refl, ap, subst, _∙_}
 use mathlib.Core.Bool.{Bool, true, false, true≢false}
 use mathlib.Core.List.{List, [], _∷_, _++_}
 use Prim.Native.Nat.{ℕ, zero, suc, _+_, _*_, _-_, _/_, _%_, _≤_, _<_}
+use Prim.Native.Char.{code}
 use native.Mathlib.Nat.{div-add-mod'}
 use native.Mathlib.Decide.{decLt, ℕ-discrete}
 use native.Mathlib.Omega.{arith}
@@ -19,6 +21,7 @@ use Rattle.whole.specs.Whole.{if_then_else_}
 use Rattle.whole.specs.laws.Whole.{by-test}
 use Rattle.refusals.specs.Numbers.{mostCount}
 use Rattle.refusals.specs.Outcome.{answered, refused}
+use Rattle.cigar.specs.Bytes.{bytes}
 use Rattle.cigar.specs.Elements.{Element, isLetter}
 use Rattle.cigar.specs.laws.Letters.{digit-bounds, digit-yes, letter-no-digit}
 use Rattle.cigar.specs.Text.{isDigit, countOf, Reading, before, element, taken, readFrom, readAll}
@@ -34,7 +37,7 @@ read-digit room given m d s h =
     rw (digit-yes d h) (ap (λ (k : ℕ). readFrom room true k s) {x = m * 10 + (48 + d - 48)} {y = m * 10 + d} (omega arith))
 
 -- a count in front, whatever is behind it
-read-count : (room k n : ℕ) → n < k → (given : Bool) (s : List ℕ) → readFrom room given 0 (decimal n ++ s) ≡ readFrom room true n s
+pub read-count : (room k n : ℕ) → n < k → (given : Bool) (s : List ℕ) → readFrom room given 0 (decimal n ++ s) ≡ readFrom room true n s
 read-count room zero n h given s = absurd (omega arith)
 read-count room (suc k) n h given s =
     elim (decLt n 10) [
@@ -50,7 +53,7 @@ read-count room (suc k) n h given s =
     ]
 
 -- a letter in front
-read-letter : (room : ℕ) (given : Bool) (n letter : ℕ) (s : List ℕ) → 0 < room → countOf given n ≤ mostCount → isLetter letter ≡ true
+pub read-letter : (room : ℕ) (given : Bool) (n letter : ℕ) (s : List ℕ) → 0 < room → countOf given n ≤ mostCount → isLetter letter ≡ true
     → readFrom room given n (letter ∷ s) ≡ before (element (countOf given n) letter) (readAll (room - 1) s)
 unfolding readFrom
 read-letter room given n letter s r h l =
@@ -156,8 +159,7 @@ pub shorter : (room : ℕ) (text : List ℕ) {es : List Element} → readAll roo
 unfolding soFar
 shorter room text e = omega (arith, subst (Short (length text + 0)) e (short-read text room false 0 (λ _. refl)))
 
--- M 77, 0 48, X 88, 3 51, = 61
-pub p14 : (let text : List ℕ = 77 ∷ 48 ∷ 88 ∷ 51 ∷ 61 ∷ [] in let es : List Element = element 1 77 ∷ element 0 88 ∷ element 3 61 ∷ [] in
+pub p14 : (let text : List ℕ = bytes "M0X3=" in let es : List Element = element 1 (code "M") ∷ element 0 (code "X") ∷ element 3 (code "=") ∷ [] in
     (readText text ≡ answered es) × (elementsText es ≡ text))
 unfolding isLetter readText readFrom digitsBy decimal elementText elementsText
 p14 = (refl, refl)

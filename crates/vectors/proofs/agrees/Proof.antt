@@ -29,7 +29,11 @@ returns-3 c =
 
 returns-4 : tie.Need-returns-4
 unfolding agreed headNext tablesNext
-returns-4 c = rw (← c .before .before .before .before .call .ensures, le-ltb _ _ (c .before .before .before .if1 .left), le-ltb _ _ (c .before .before .if2 .left), le-ltb _ _ (c .before .if3 .left)) (c .agrees .ensures, (refl, refl))
+returns-4 c = rw (← c .before .before .before .before .before .call .ensures, le-ltb _ _ (c .before .before .before .before .if1 .left), le-ltb _ _ (c .before .before .before .if2 .left), le-ltb _ _ (c .before .before .if3 .left), lt-ltb _ _ (c .before .if4 .taken)) (c .agrees .ensures, (refl, refl))
+
+returns-5 : tie.Need-returns-5
+unfolding agreed headNext tablesNext
+returns-5 c = rw (← c .before .before .before .before .before .call .ensures, le-ltb _ _ (c .before .before .before .before .if1 .left), le-ltb _ _ (c .before .before .before .if2 .left), le-ltb _ _ (c .before .before .if3 .left), le-ltb _ _ (c .before .if4 .left)) (c .agrees2 .ensures, (refl, refl))
 
 pub agrees-spec : {M : Type 1} → statement M
 agrees-spec =
@@ -44,4 +48,6 @@ agrees-spec =
     (λ c κs. search needs)
     returns-3
     (λ c κs. search needs)
-    returns-4)
+    returns-4
+    (λ c κs. search needs)
+    returns-5)

@@ -1,4 +1,4 @@
-//! Times the port beside the crate in one run. The sides take turns, the best round of each counts, and the ratio of the two is
+//! Times the port beside the crate, or beside plain Rust, in one run. The sides take turns, the best round of each counts, and the ratio of the two is
 //! what matters: what else the machine does meets both.
 
 use std::{
@@ -13,6 +13,7 @@ use clap::Parser;
 use compare::original::{self, Outcome};
 use pulindraxi::{
     boundary::{self, Asked, AskedG},
+    limits::MOST_SEGMENTS,
     Room,
 };
 use trials::{Lent, Question};
@@ -107,6 +108,46 @@ fn buildings(rounds: usize) {
     }
 }
 
+/// BAM's words to elements and back. The crate has no such thing: plain Rust stands beside the port.
+fn words(rounds: usize) {
+    const TIMES: usize = 1_000;
+    println!("\n| words | reading in plain Rust, ns | by the port, ns | port / plain | writing in plain Rust, ns | by the port, ns | port / plain |");
+    println!("|---|---|---|---|---|---|---|");
+    for count in SIZES {
+        let given = benches::words(count);
+        let tables = RefCell::new((Box::new([0; MOST_SEGMENTS]), Box::new([0; MOST_SEGMENTS])));
+        let room = RefCell::new(vec![0; MOST_SEGMENTS]);
+        let often = |call: &dyn Fn() -> u32| (0..TIMES).for_each(|_| assert_eq!(black_box(call()), 0));
+        let read = || {
+            let (counts, letters) = &mut *tables.borrow_mut();
+            boundary::read_bam(black_box(&given), &mut counts[..], &mut letters[..]).number
+        };
+        let read_plain = || {
+            let (counts, letters) = &mut *tables.borrow_mut();
+            benches::read_plainly(black_box(&given), &mut counts[..], &mut letters[..])
+        };
+        let write = || {
+            let (counts, letters) = &*tables.borrow();
+            boundary::write_bam(count, black_box(counts), letters, &mut room.borrow_mut()).number
+        };
+        let write_plain = || {
+            let (counts, letters) = &*tables.borrow();
+            benches::write_plainly(black_box(&counts[..count]), &letters[..count], &mut room.borrow_mut())
+        };
+        read();
+        write();
+        assert_eq!(room.borrow()[..count], given);
+        let sides: [&dyn Fn(); 4] =
+            [&|| often(&read), &|| often(&read_plain), &|| often(&write), &|| often(&write_plain)];
+        let [read, read_plain, write, write_plain] = best(rounds, TIMES, sides);
+        println!(
+            "| {count} | {read_plain:.1} | {read:.1} | {:.2} | {write_plain:.1} | {write:.1} | {:.2} |",
+            read / read_plain,
+            write / write_plain
+        );
+    }
+}
+
 /// Whether the crate is built as for use, where an overflow wraps.
 fn crate_wraps() -> bool {
     let mut bench = Bench::new(SIZES[0], 1);
@@ -124,5 +165,6 @@ fn main() -> ExitCode {
     }
     questions(options.rounds);
     buildings(options.rounds);
+    words(options.rounds);
     ExitCode::SUCCESS
 }

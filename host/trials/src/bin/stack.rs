@@ -118,6 +118,7 @@ fn measure(count: usize) -> BTreeMap<&'static str, usize> {
     let mut counts = Box::new([0; MOST_SEGMENTS]);
     let mut letters = Box::new([0; MOST_SEGMENTS]);
     let mut buffer = vec![0; 70_000];
+    let mut worded = vec![0; MOST_SEGMENTS];
     for _ in 0..count {
         let case = input(&mut rng);
         let bytes = case.lay();
@@ -130,6 +131,9 @@ fn measure(count: usize) -> BTreeMap<&'static str, usize> {
         measure!(deepest, stack, "txc_read_cigar", boundary::read_cigar(text, &mut counts, &mut letters));
         let number = rng.gen_range(0..20);
         measure!(deepest, stack, "txc_write_cigar", boundary::write_cigar(number, &counts, &letters, &mut buffer));
+        let words = draw::words(&mut rng).0;
+        measure!(deepest, stack, "txc_read_bam", boundary::read_bam(&words, &mut counts[..], &mut letters[..]));
+        measure!(deepest, stack, "txc_write_bam", boundary::write_bam(number, &counts, &letters, &mut worded));
         if rng.gen_ratio(1, 8) {
             let length = rng.gen_range(0..30);
             let cds = Cds::new(Some(2), Some(5));

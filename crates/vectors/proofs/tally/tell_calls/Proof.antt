@@ -8,7 +8,7 @@ abbrev Inv-loop : tie.InvT-loop
 Inv-loop tally call₀ call = Unit {0}
 
 abbrev μ-loop : tie.MeasureT-loop
-μ-loop tally call₀ call = 19 - call
+μ-loop tally call₀ call = 21 - call
 
 pub tell-calls-spec : {M : Type 1} → statement M
 tell-calls-spec =

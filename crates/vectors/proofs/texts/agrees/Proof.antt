@@ -1,6 +1,6 @@
 -- The tests on the way to each call are those of the definition.
 use mathlib.Core.Path.{sym, _∙_}
-use borrow.Author.Tests.{lt-ltb, le-ltb, ne-eqb}
+use borrow.Author.Tests.{ne-eqb}
 use Rattle.vectors.specs.Texts.{textRowAgrees}
 use borrow.Author.Needs.{needs}
 use Rattle.vectors.proofs.texts.agrees.Statement.{statement}
@@ -20,11 +20,10 @@ returns-3 c = let e = sym (c .before .before .before .before .call .ensures) ∙
 
 returns-4 : tie.Need-returns-4
 unfolding textRowAgrees
-returns-4 c = rw (ne-eqb _ _ (λ e. c .before .before .before .before .if1 .left (c .before .before .before .before .before .call .ensures ∙ e)), ne-eqb _ _ (λ e. c .before .before .before .if2 .left (c .before .before .before .before .before .call .ensures ∙ e)), ne-eqb _ _ (λ e. c .before .before .if3 .left (c .before .before .before .before .before .call .ensures ∙ e)), lt-ltb _ _ (rw (c .before .before .before .before .before .call .ensures) at (c .before .if4 .taken))) (c .alleles-agree .ensures)
-
-returns-5 : tie.Need-returns-5
-unfolding textRowAgrees
-returns-5 c = rw (← c .before .before .before .before .call .ensures, ne-eqb _ _ (c .before .before .before .if1 .left), ne-eqb _ _ (c .before .before .if2 .left), ne-eqb _ _ (c .before .if3 .left), le-ltb _ _ (c .if4 .left))
+returns-4 c =
+    let call = c .before .before .before .before .call in
+    rw (ne-eqb _ _ (λ e. c .before .before .before .if1 .left (call .ensures ∙ e)), ne-eqb _ _ (λ e. c .before .before .if2 .left (call .ensures ∙ e)), ne-eqb _ _ (λ e. c .before .if3 .left (call .ensures ∙ e)))
+    (c .alleles-agree .ensures)
 
 pub agrees-spec : {M : Type 1} → statement M
 agrees-spec =
@@ -38,5 +37,4 @@ agrees-spec =
     (λ c κs. search needs)
     returns-3
     (λ c κs. search needs)
-    returns-4
-    returns-5)
+    returns-4)

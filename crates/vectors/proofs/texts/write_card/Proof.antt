@@ -19,7 +19,7 @@ unfolding writeCardAgrees
 returns-2 c =
     let s = c .before .before .before .before .before .before in
     let r = c .before .before .before .before .room in
-    let buffer = zeros-end mostRoom (s .size .result) (r .result) (c .before .before .before .before .before .if1 .left) (r .ensures .0) in
+    let buffer = zeros-end 0 mostRoom (s .size .result) (r .result) (c .before .before .before .before .before .if1 .left) (r .ensures .0) in
     rw (← s .size .ensures, le-ltb _ _ (c .before .before .before .before .before .if1 .left))
     (simp (buffer, length-replicate, c .before .before .before .payload .ensures) at (c .before .writes-card .ensures .0))
 

@@ -1,5 +1,5 @@
 -- The buffer is the end of a larger one.
-use mathlib.Core.Path.{ap, _∙_}
+use mathlib.Core.Path.{ap}
 use lib.ListN.{length-replicate}
 use borrow.Author.Tests.{lt-ltb, le-ltb}
 use Rattle.vectors.proofs.Zeros.{zeros-end}
@@ -28,7 +28,7 @@ returns-3 c =
     let lent = f .before .before .size in
     let text = simp (f .before .payload .ensures, f .before .before .before .bits .ensures) at (ap (λ (s : Slice). s .bytes) (c .before .before .before .rest .ensures)) in
     let r = c .before .before .before .before .before .before .room in
-    let buffer = zeros-end mostRoom (lent .result) (r .result) (c .before .before .before .before .before .before .before .before .before .before .before .before .if2 .left) (r .ensures .0) in
+    let buffer = zeros-end 0 mostRoom (lent .result) (r .result) (c .before .before .before .before .before .before .before .before .before .before .before .before .if2 .left) (r .ensures .0) in
     let put = simp elements at (c .before .before .before .before .before .before .before .before .before .put-elements .ensures) in
     rw (le-ltb _ _ (rw elements at (c .before .before .before .before .before .before .before .before .before .before .before .before .before .if1 .left)), ← lent .ensures, le-ltb _ _ (c .before .before .before .before .before .before .before .before .before .before .before .before .if2 .left))
     (simp (buffer, length-replicate, put .0, put .1, text) at (c .before .writes-cigar .ensures .0))
