@@ -30,16 +30,19 @@ tests() {
     awk '/^test result: ok/ { passed += $4 } END { print passed " passed" }' "$log"
 }
 
-# The archive links into x86-64 programs alone.
-if [ "$(uname -m)" != x86_64 ]; then
-    say "the archive is for x86-64, and this machine is $(uname -m): the host cannot be tried here"
-    exit 1
-fi
 ./install.sh
+# valgrind runs programs of its own processor alone.
+memcheck="valgrind --quiet --error-exitcode=1"
+if [ "$(uname -m)" != x86_64 ]; then
+    say "x86-64 is emulated on this $(uname -m), and nothing is run under valgrind"
+    . ./elsewhere.sh
+    memcheck=
+fi
+programs=target/${CARGO_BUILD_TARGET:+$CARGO_BUILD_TARGET/}release
 [ -n "${TXC_ARCHIVE:-}" ] || (cd .. && rt staticlib entry)
 # The archive exports just the header's entries.
 grep -o 'txc_[a-z_]*(' ../include/txc.h | tr -d '(' | sort -u >"$log"
-nm -g --defined-only "${TXC_ARCHIVE:-../target/staticlib}/libentry.a" | awk '$2 == "T" { print $3 }' | sort | diff "$log" -
+${NM:-nm} -g --defined-only "${TXC_ARCHIVE:-../target/staticlib}/libentry.a" | awk '$2 == "T" { print $3 }' | sort | diff "$log" -
 # Debian's packages fix the versions.
 rm -f Cargo.lock
 
@@ -50,15 +53,15 @@ say "tests"
 tests
 
 say "bad input"
-last_line target/release/fuzz --seed 1 --count 1000000
-last_line valgrind --quiet --error-exitcode=1 target/release/fuzz --seed 2 --count 20000
+last_line $programs/fuzz --seed 1 --count 1000000
+last_line $memcheck $programs/fuzz --seed 2 --count 20000
 say "the deepest stack of each entry"
-last_line target/release/stack --count 500
+last_line $programs/stack --count 500
 
 say "transcript A, as an alignment"
 samtools view -b -o "$cards/a.bam" demo/a.sam
-target/release/pulindraxi card demo/a.txt --output "$cards/a.card"
-valgrind --quiet --leak-check=full --error-exitcode=1 target/release/pulindraxi card --bam "$cards/a.bam" --cds 3 15 --output "$cards/b.card"
+$programs/pulindraxi card demo/a.txt --output "$cards/a.card"
+$memcheck ${memcheck:+--leak-check=full} $programs/pulindraxi card --bam "$cards/a.bam" --cds 3 15 --output "$cards/b.card"
 cmp "$cards/a.card" "$cards/b.card"
 
 source=${HGVS_SRC:-../../shared/docs/src/src}
@@ -71,9 +74,9 @@ export HGVS_SRC
 say "comparison with crate hgvs"
 cargo build --release --quiet --package compare
 tests --package compare
-last_line target/release/compare random --seed 1 --count 1200000
-last_line target/release/compare small --elements 1
-last_line target/release/compare differences --check ../docs/DIFFERENCES.md
-target/release/compare record "$log" 2>/dev/null
+last_line $programs/compare random --seed 1 --count 1200000
+last_line $programs/compare small --elements 1
+last_line $programs/compare differences --check ../docs/DIFFERENCES.md
+$programs/compare record "$log" 2>/dev/null
 cmp "$log" ../crates/vectors/stdin
 say "the recorded answers are the crate's"

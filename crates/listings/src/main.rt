@@ -1,8 +1,11 @@
 // Reads cards from standard input, one after the other, each with its size before it, and writes the listing or the line of the
 // refusal of each.
+ghost use mathlib.Core.Path.{_≡_};
 ghost use Prim.Native.Nat.{_≤_};
 ghost use lib.ListN.{length};
+ghost use Rattle.segments.specs.Tables.{tables};
 ghost use Rattle.lines.specs.Lengths.{mostListing};
+ghost use Rattle.listings.specs.Cards.{cardsIn, tablesAll, textAll};
 use libc::STDIN_FILENO;
 use libc::STDOUT_FILENO;
 use lines::MOST_LISTING;
@@ -15,7 +18,7 @@ const MOST_INPUT: usize = 262_144;
 // A card's size is a number of 32 bits.
 const SIZE: usize = 4;
 
-// Writes what each card is listed as, up to the end or to a size that leads past it.
+// Writes what each card is listed as, up to the end or to a size that leads past it. The tables and the buffer are left as the last card leaves them.
 fn list_all(
     cards: &[u8],
     genome: &mut [u32; MOST_STARTS],
@@ -24,6 +27,8 @@ fn list_all(
     text: &mut [u8],
 )
     requires { ⌜ mostListing ≤ length (now text) ⌝ }
+    ensures { λ _. ⌜ tables (now (genome .exit)) (now (transcript .exit)) (now (letters .exit)) ≡ tablesAll (cardsIn (now (cards .entry))) (tables (now (genome .entry)) (now (transcript .entry)) (now (letters .entry))) ⌝ }
+    ensures { λ _. ⌜ now (text .exit) ≡ textAll (cardsIn (now (cards .entry))) (now (text .entry)) ⌝ }
 {
     let mut at = 0;
     while SIZE <= cards.len() - at {

@@ -5,10 +5,6 @@ use Prim.Native.Nat.{ℕ}
 abbrev pub mostFile : ℕ
 mostFile = 1048576
 
--- the largest number of 32 bits
-abbrev pub mostWord : ℕ
-mostWord = 4294967295
-
 -- the most bytes that are lent as a buffer
 abbrev pub mostRoom : ℕ
 mostRoom = 131072

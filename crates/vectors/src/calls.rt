@@ -1,4 +1,6 @@
 // The calls that rows name, by the numbers that they are recorded with.
+use crate::say;
+
 pub const BUILD_CARD: usize = 1;
 
 pub const BUILD: usize = 2;
@@ -43,27 +45,11 @@ pub const END: usize = WRITE_BAM + 1;
 
 // Writes the name of a call.
 pub(crate) fn say(call: usize) {
-    match call {
-        BUILD_CARD => crate::say::text(b"build_card"),
-        BUILD => crate::say::text(b"build"),
-        BUILD_LENGTH => crate::say::text(b"build_length"),
-        DAMAGE => crate::say::text(b"damage"),
-        G_TO_N => crate::say::text(b"g_to_n"),
-        G_TO_C => crate::say::text(b"g_to_c"),
-        N_TO_G => crate::say::text(b"n_to_g"),
-        N_TO_C => crate::say::text(b"n_to_c"),
-        C_TO_N => crate::say::text(b"c_to_n"),
-        C_TO_G => crate::say::text(b"c_to_g"),
-        IN_BOUNDS => crate::say::text(b"in_bounds"),
-        IS_CODING => crate::say::text(b"is_coding"),
-        READ_CIGAR => crate::say::text(b"read_cigar"),
-        WRITE_CIGAR => crate::say::text(b"write_cigar"),
-        WRITE_CARD => crate::say::text(b"write_card"),
-        TRIM_PREFIX => crate::say::text(b"trim_prefix"),
-        TRIM_SUFFIX => crate::say::text(b"trim_suffix"),
-        CHANGED => crate::say::text(b"changed"),
-        READ_BAM => crate::say::text(b"read_bam"),
-        WRITE_BAM => crate::say::text(b"write_bam"),
-        _ => crate::say::text(b"no call"),
+    let names =
+        b"no call\nbuild_card\nbuild\nbuild_length\ndamage\ng_to_n\ng_to_c\nn_to_g\nn_to_c\nc_to_n\nc_to_g\nin_bounds\nis_coding\nread_cigar\nwrite_cigar\nwrite_card\ntrim_prefix\ntrim_suffix\nchanged\nread_bam\nwrite_bam";
+    if call < END {
+        say::line(names, call);
+    } else {
+        say::line(names, 0);
     }
 }

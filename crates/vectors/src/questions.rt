@@ -1,87 +1,70 @@
-// Rows that put a question to a lent transcript: a row is decoded into its question, the boundary is asked, and its answer is held to the recorded one.
-ghost use Prim.Native.Nat.{_≤_};
+// Rows that put a question to a lent transcript. Bit 0 of a row's flags says that bounds are strict, bits 1 and 2 that start and end have a star, and
+// bits 3 and 4 which ends are missing, as the boundary has it.
+ghost use mathlib.Core.Path.{_≡_};
+ghost use Rattle.layout.specs.Layout.{lentAt};
+ghost use Rattle.vectors.specs.Questions.{isStrict, startStar, endStar, missingOf, fromG, fromN, fromC, saidTo, questionWords};
+use crate::answers;
 use crate::calls;
 use crate::rows;
+use crate::rows::ANSWER;
 use entry::ask;
 use layout::lay::Answer;
-use layout::lay::Position;
 use layout::lay::Said;
 use refusals::MOST_SEGMENTS;
 use refusals::MOST_STARTS;
 
-// A row's question. What its call does not take is not looked at.
-struct Question {
-    call: usize,
-    start: i32,
-    start_offset: i32,
-    start_star: bool,
-    end: i32,
-    end_offset: i32,
-    end_star: bool,
-    missing: u32,
-    strict: bool,
-}
-
-// The question of a row. Bit 0 of its flags says that bounds are strict, bits 1 and 2 that start and end have a star, and bits 3 and 4 which ends are missing,
-// as the boundary has it.
-fn question_of(row: &[u8]) -> Question {
-    let flags = rows::flags(row);
-    Question {
-        call: rows::call(row),
-        start: rows::number(row, 0),
-        start_offset: rows::number(row, 1),
-        start_star: flags / 2 % 2 == 1,
-        end: rows::number(row, 2),
-        end_offset: rows::number(row, 3),
-        end_star: flags / 4 % 2 == 1,
-        missing: flags / 8 % 4,
-        strict: flags % 2 == 1,
-    }
-}
-
-// Whether three words of the answer, from one on, are this position.
-fn same_position(row: &[u8], from: usize, p: Position) -> bool
-    requires { ⌜ from ≤ 5 ⌝ }
+// Whether bounds are strict.
+fn is_strict(row: &[u8]) -> bool
+    ensures { λ r. ⌜ r ≡ isStrict (now (row .entry)) ⌝ }
 {
-    rows::expects_signed(row, from, p.base)
-        & rows::expects_signed(row, from + 1, p.offset)
-        & rows::expects_word(row, from + 2, p.star)
+    rows::flags(row) % 2 == 1
 }
 
-// Whether an answer is the recorded one.
-fn same_answer(row: &[u8], a: Answer) -> bool {
-    rows::expects_word(row, 0, a.number)
-        & rows::expects_word(row, 1, a.mark)
-        & same_position(row, 2, a.start)
-        & same_position(row, 5, a.end)
+// Whether the start has a star.
+fn has_start_star(row: &[u8]) -> bool
+    ensures { λ r. ⌜ r ≡ startStar (now (row .entry)) ⌝ }
+{
+    rows::flags(row) / 2 % 2 == 1
 }
 
-// Whether a yes or no is the recorded one.
-fn same_said(row: &[u8], a: Said) -> bool {
-    rows::expects_word(row, 0, a.number)
-        & rows::expects_word(row, 1, a.yes)
-        & rows::expects_no_more(row, 2)
+// Whether the end has a star.
+fn has_end_star(row: &[u8]) -> bool
+    ensures { λ r. ⌜ r ≡ endStar (now (row .entry)) ⌝ }
+{
+    rows::flags(row) / 4 % 2 == 1
+}
+
+// Which ends are missing.
+fn missing(row: &[u8]) -> u32
+    ensures { λ r. ⌜ r ≡ missingOf (now (row .entry)) ⌝ }
+{
+    rows::flags(row) / 8 % 4
 }
 
 // What is answered to a g. interval, in c. or in n.
 fn from_g(
-    q: Question,
+    row: &[u8],
     head: &[i32; 8],
     genome: &[u32; MOST_STARTS],
     transcript: &[u32; MOST_STARTS],
     letters: &[u8; MOST_SEGMENTS],
-) -> Answer {
-    let call = q.call;
-    if call == calls::G_TO_C {
+) -> Answer
+    ensures { λ r. ⌜ r ≡ fromG (now (row .entry)) (lentAt (now (head .entry)) (now (genome .entry)) (now (transcript .entry)) (now (letters .entry))) ⌝ }
+{
+    let start = rows::number(row, 0);
+    let end = rows::number(row, 2);
+    let missing = missing(row);
+    let strict = is_strict(row);
+    if rows::call(row) == calls::G_TO_C {
         return ask::txc_g_to_c(
             head,
             genome,
             transcript,
             letters,
-            q.start,
-            q.end,
-            q.missing,
-            q.strict,
+            start,
+            end,
+            missing,
+            strict,
         );
     }
     ask::txc_g_to_n(
@@ -89,33 +72,39 @@ fn from_g(
         genome,
         transcript,
         letters,
-        q.start,
-        q.end,
-        q.missing,
-        q.strict,
+        start,
+        end,
+        missing,
+        strict,
     )
 }
 
 // What is answered to an n. interval, in c. or in g.
 fn from_n(
-    q: Question,
+    row: &[u8],
     head: &[i32; 8],
     genome: &[u32; MOST_STARTS],
     transcript: &[u32; MOST_STARTS],
     letters: &[u8; MOST_SEGMENTS],
-) -> Answer {
-    let call = q.call;
-    if call == calls::N_TO_C {
+) -> Answer
+    ensures { λ r. ⌜ r ≡ fromN (now (row .entry)) (lentAt (now (head .entry)) (now (genome .entry)) (now (transcript .entry)) (now (letters .entry))) ⌝ }
+{
+    let start = rows::number(row, 0);
+    let past_start = rows::number(row, 1);
+    let end = rows::number(row, 2);
+    let past_end = rows::number(row, 3);
+    let strict = is_strict(row);
+    if rows::call(row) == calls::N_TO_C {
         return ask::txc_n_to_c(
             head,
             genome,
             transcript,
             letters,
-            q.start,
-            q.start_offset,
-            q.end,
-            q.end_offset,
-            q.strict,
+            start,
+            past_start,
+            end,
+            past_end,
+            strict,
         );
     }
     ask::txc_n_to_g(
@@ -123,36 +112,37 @@ fn from_n(
         genome,
         transcript,
         letters,
-        q.start,
-        q.start_offset,
-        q.end,
-        q.end_offset,
-        q.strict,
+        start,
+        past_start,
+        end,
+        past_end,
+        strict,
     )
 }
 
 // What is answered to a c. interval, in n. or in g.
 fn from_c(
-    q: Question,
+    row: &[u8],
     head: &[i32; 8],
     genome: &[u32; MOST_STARTS],
     transcript: &[u32; MOST_STARTS],
     letters: &[u8; MOST_SEGMENTS],
-) -> Answer {
-    let call = q.call;
-    if call == calls::C_TO_N {
+) -> Answer
+    ensures { λ r. ⌜ r ≡ fromC (now (row .entry)) (lentAt (now (head .entry)) (now (genome .entry)) (now (transcript .entry)) (now (letters .entry))) ⌝ }
+{
+    if rows::call(row) == calls::C_TO_N {
         return ask::txc_c_to_n(
             head,
             genome,
             transcript,
             letters,
-            q.start,
-            q.start_offset,
-            q.start_star,
-            q.end,
-            q.end_offset,
-            q.end_star,
-            q.strict,
+            rows::number(row, 0),
+            rows::number(row, 1),
+            has_start_star(row),
+            rows::number(row, 2),
+            rows::number(row, 3),
+            has_end_star(row),
+            is_strict(row),
         );
     }
     ask::txc_c_to_g(
@@ -160,45 +150,54 @@ fn from_c(
         genome,
         transcript,
         letters,
-        q.start,
-        q.start_offset,
-        q.start_star,
-        q.end,
-        q.end_offset,
-        q.end_star,
-        q.strict,
+        rows::number(row, 0),
+        rows::number(row, 1),
+        has_start_star(row),
+        rows::number(row, 2),
+        rows::number(row, 3),
+        has_end_star(row),
+        is_strict(row),
     )
 }
 
-// Whether a question is answered as recorded.
-pub(crate) fn agrees(
+// What is answered to a yes or no question.
+fn said(
     row: &[u8],
     head: &[i32; 8],
     genome: &[u32; MOST_STARTS],
     transcript: &[u32; MOST_STARTS],
     letters: &[u8; MOST_SEGMENTS],
-) -> bool {
-    let q = question_of(row);
-    match rows::call(row) {
-        calls::G_TO_N => same_answer(row, from_g(q, head, genome, transcript, letters)),
-        calls::G_TO_C => same_answer(row, from_g(q, head, genome, transcript, letters)),
-        calls::N_TO_G => same_answer(row, from_n(q, head, genome, transcript, letters)),
-        calls::N_TO_C => same_answer(row, from_n(q, head, genome, transcript, letters)),
-        calls::C_TO_N => same_answer(row, from_c(q, head, genome, transcript, letters)),
-        calls::C_TO_G => same_answer(row, from_c(q, head, genome, transcript, letters)),
-        calls::IN_BOUNDS => {
-            let said = ask::txc_in_bounds(
-                head,
-                genome,
-                transcript,
-                letters,
-                q.start,
-                q.end,
-                q.missing,
-            );
-            same_said(row, said)
-        }
-        calls::IS_CODING => same_said(row, ask::txc_is_coding(head, genome, transcript, letters)),
-        _ => false,
+) -> Said
+    ensures { λ r. ⌜ r ≡ saidTo (now (row .entry)) (lentAt (now (head .entry)) (now (genome .entry)) (now (transcript .entry)) (now (letters .entry))) ⌝ }
+{
+    let start = rows::number(row, 0);
+    let end = rows::number(row, 2);
+    let missing = missing(row);
+    if rows::call(row) == calls::IN_BOUNDS {
+        return ask::txc_in_bounds(head, genome, transcript, letters, start, end, missing);
     }
+    ask::txc_is_coding(head, genome, transcript, letters)
+}
+
+// What is answered to a question.
+pub(crate) fn answered(
+    row: &[u8],
+    head: &[i32; 8],
+    genome: &[u32; MOST_STARTS],
+    transcript: &[u32; MOST_STARTS],
+    letters: &[u8; MOST_SEGMENTS],
+) -> [i64; ANSWER]
+    ensures { λ r. ⌜ r ≡ questionWords (now (row .entry)) (lentAt (now (head .entry)) (now (genome .entry)) (now (transcript .entry)) (now (letters .entry))) ⌝ }
+{
+    let call = rows::call(row);
+    if call < calls::N_TO_G {
+        return answers::of_answer(from_g(row, head, genome, transcript, letters));
+    }
+    if call < calls::C_TO_N {
+        return answers::of_answer(from_n(row, head, genome, transcript, letters));
+    }
+    if call < calls::IN_BOUNDS {
+        return answers::of_answer(from_c(row, head, genome, transcript, letters));
+    }
+    answers::of_said(said(row, head, genome, transcript, letters))
 }

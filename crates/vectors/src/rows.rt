@@ -2,9 +2,10 @@
 // sixteen words of 32 bits: call, flags and origin in one, how many bytes follow, six numbers of the call, and eight words to expect, the
 // refusal's number first. What a row lacks reads as 0.
 ghost use mathlib.Core.Path.{_≡_};
-ghost use Prim.Native.Nat.{_+_, _≤_};
-ghost use lib.ListN.{length};
-ghost use Rattle.vectors.specs.Sizes.{mostFile, mostWord};
+ghost use Prim.Native.Nat.{_≤_, _<_};
+ghost use lib.ListN.{length, replicate};
+ghost use Rattle.vectors.specs.Sizes.{mostFile};
+ghost use Rattle.vectors.specs.Rows.{firstOf, wordAt, signedAt, callOf, flagsOf, originOf, sizeOf, numberOf, payloadOf, answerOf, isWord, expected, hasHead, rowSize};
 use crate::say;
 
 // The bytes of a block.
@@ -12,164 +13,144 @@ pub const BLOCK: usize = 64;
 // The most bytes of a file.
 const MOST_FILE: usize = 16_384 * BLOCK;
 // The layout's version.
-const VERSION: i32 = 1;
-// How many words a block has.
-const WORDS: usize = 16;
-// How many of them are the call's, and where they begin.
-const NUMBERS: usize = 6;
-
+const VERSION: usize = 1;
+// Where the call's six numbers begin, and the answer's eight words.
 const FIRST_NUMBER: usize = 2;
-// How many of them are the answer's, and where they begin.
-const ANSWER: usize = 8;
 
 const FIRST_ANSWER: usize = 8;
+// How many words an answer has.
+pub const ANSWER: usize = 8;
 
 // Room for a file.
 pub(crate) fn space() -> [u8; MOST_FILE]
-    ensures { λ r. ⌜ mostFile ≡ length r ⌝ }
+    ensures { λ r. ⌜ r ≡ replicate mostFile 0 ⌝ }
+    ensures size { λ r. ⌜ mostFile ≡ length r ⌝ }
 {
     [0; MOST_FILE]
 }
 
-// The bytes from a place on, none where there is no such place.
-pub(crate) fn rest(s: &[u8], from: usize) -> &[u8] {
-    if s.len() < from {
+// So many bytes from the front, none where there are fewer.
+pub(crate) fn first(s: &[u8], size: usize) -> &[u8]
+    ensures { λ r. ⌜ now r ≡ firstOf (now (s .entry)) size ⌝ }
+{
+    if s.len() < size {
         return &s[..0];
     }
-    &s[from..]
-}
-
-// So many bytes from a place on, none where the end comes sooner.
-pub(crate) fn part(s: &[u8], from: usize, size: usize) -> &[u8] {
-    if s.len() < from {
-        return &s[..0];
-    }
-    let left = s.len() - from;
-    if left < size {
-        return &s[..0];
-    }
-    let end = from + size;
-    &s[from..end]
+    &s[..size]
 }
 
 // A word of a row.
-fn word(row: &[u8], i: usize) -> u32 {
+fn word(row: &[u8], i: usize) -> u32
+    requires { ⌜ i < 16 ⌝ }
+    ensures { λ r. ⌜ r ≡ wordAt (now (row .entry)) i ⌝ }
+{
     if row.len() < BLOCK {
         return 0;
     }
-    if i < WORDS {
-        fields::u32_at(row, 4 * i)
-    } else {
-        0
-    }
+    fields::u32_at(row, 4 * i)
 }
 
 // A word of a row as a signed number.
-fn signed_word(row: &[u8], i: usize) -> i32 {
+fn signed_word(row: &[u8], i: usize) -> i32
+    requires { ⌜ i < 16 ⌝ }
+    ensures { λ r. ⌜ r ≡ signedAt (now (row .entry)) i ⌝ }
+{
     if row.len() < BLOCK {
         return 0;
     }
-    if i < WORDS {
-        fields::i32_at(row, 4 * i)
-    } else {
-        0
-    }
-}
-
-// A word of a row as a size.
-fn size_word(row: &[u8], i: usize) -> usize
-    ensures { λ r. ⌜ r ≤ mostWord ⌝ }
-{
-    word(row, i) as usize
+    fields::i32_at(row, 4 * i)
 }
 
 // What a row calls.
-pub(crate) fn call(row: &[u8]) -> usize {
-    size_word(row, 0) % 256
+pub(crate) fn call(row: &[u8]) -> usize
+    ensures { λ r. ⌜ r ≡ callOf (now (row .entry)) ⌝ }
+{
+    (word(row, 0) % 256) as usize
 }
 
 // A row's flags.
-pub(crate) fn flags(row: &[u8]) -> u32 {
+pub(crate) fn flags(row: &[u8]) -> u32
+    ensures { λ r. ⌜ r ≡ flagsOf (now (row .entry)) ⌝ }
+{
     word(row, 0) / 256 % 256
 }
 
 // Where a row's expectation comes from.
-pub(crate) fn origin(row: &[u8]) -> usize {
-    size_word(row, 0) / 65_536 % 256
+pub(crate) fn origin(row: &[u8]) -> usize
+    ensures { λ r. ⌜ r ≡ originOf (now (row .entry)) ⌝ }
+{
+    (word(row, 0) / 65_536 % 256) as usize
 }
 
 // A number of the call.
-pub(crate) fn number(row: &[u8], i: usize) -> i32 {
-    if i < NUMBERS {
-        signed_word(row, FIRST_NUMBER + i)
-    } else {
-        0
-    }
+pub(crate) fn number(row: &[u8], i: usize) -> i32
+    requires { ⌜ i < 6 ⌝ }
+    ensures { λ r. ⌜ r ≡ numberOf (now (row .entry)) i ⌝ }
+{
+    signed_word(row, FIRST_NUMBER + i)
 }
 
 // A number of the call as 32 bits.
-pub(crate) fn bits(row: &[u8], i: usize) -> u32 {
-    if i < NUMBERS {
-        word(row, FIRST_NUMBER + i)
-    } else {
-        0
-    }
+pub(crate) fn bits(row: &[u8], i: usize) -> u32
+    requires { ⌜ i < 6 ⌝ }
+    ensures { λ r. ⌜ r ≡ sizeOf (now (row .entry)) i ⌝ }
+{
+    word(row, FIRST_NUMBER + i)
 }
 
 // A number of the call as a size.
 pub(crate) fn size(row: &[u8], i: usize) -> usize
-    ensures { λ r. ⌜ r ≤ mostWord ⌝ }
+    requires { ⌜ i < 6 ⌝ }
+    ensures { λ r. ⌜ r ≡ sizeOf (now (row .entry)) i ⌝ }
 {
     bits(row, i) as usize
 }
 
 // A row's own bytes.
-pub(crate) fn payload(row: &[u8]) -> &[u8] {
-    part(row, BLOCK, size_word(row, 1))
+pub(crate) fn payload(row: &[u8]) -> &[u8]
+    ensures { λ r. ⌜ now r ≡ payloadOf (now (row .entry)) ⌝ }
+{
+    first(sequences::rest(row, BLOCK), word(row, 1) as usize)
 }
 
-// A word of the answer that a row expects.
-pub(crate) fn answer(row: &[u8], i: usize) -> usize {
-    if i < ANSWER {
-        size_word(row, FIRST_ANSWER + i)
-    } else {
-        0
-    }
+// A word of the answer that a row expects, as a size.
+pub(crate) fn answer(row: &[u8], i: usize) -> usize
+    requires { ⌜ i < 8 ⌝ }
+    ensures { λ r. ⌜ r ≡ answerOf (now (row .entry)) i ⌝ }
+{
+    word(row, FIRST_ANSWER + i) as usize
 }
 
 // Whether a word of the answer is this number.
-pub(crate) fn expects(row: &[u8], i: usize, n: usize) -> bool {
-    answer(row, i) == n
-}
-
-// Whether a word of the answer is this number of 32 bits.
-pub(crate) fn expects_word(row: &[u8], i: usize, n: u32) -> bool {
-    expects(row, i, n as usize)
-}
-
-// Whether a word of the answer is this signed number.
-pub(crate) fn expects_signed(row: &[u8], i: usize, z: i32) -> bool {
-    if i < ANSWER {
-        let word = signed_word(row, FIRST_ANSWER + i);
-        word == z
-    } else {
-        false
+fn is_word(row: &[u8], i: usize, z: i64) -> bool
+    requires { ⌜ i < 8 ⌝ }
+    ensures { λ r. ⌜ r ≡ isWord (now (row .entry)) i z ⌝ }
+{
+    let word = signed_word(row, FIRST_ANSWER + i) as i64;
+    if word == z {
+        return true;
     }
+    false
 }
 
-// Whether the words of the answer from one on are 0.
-pub(crate) fn expects_no_more(row: &[u8], from: usize) -> bool {
-    for i in from..ANSWER {
-        if !expects(row, i, 0) {
-            return false;
-        }
+// Whether the answer that a row expects is these words.
+pub(crate) fn expects(row: &[u8], words: [i64; ANSWER]) -> bool
+    ensures { λ r. ⌜ r ≡ expected (now (row .entry)) words ⌝ }
+{
+    let mut same = true;
+    let mut i = 0;
+    while i < ANSWER {
+        same = same & is_word(row, i, words[i]);
+        i += 1;
     }
-    true
+    same
 }
 
 // Whether a file begins with a head of this layout.
-pub(crate) fn has_head(file: &[u8]) -> bool {
-    call(file) == 0 && BLOCK <= file.len() && number(file, 0) == VERSION
+pub(crate) fn has_head(file: &[u8]) -> bool
+    ensures { λ r. ⌜ r ≡ hasHead (now (file .entry)) ⌝ }
+{
+    (BLOCK <= file.len()) & (call(file) == 0) & (size(file, 0) == VERSION)
 }
 
 // Tells how many rows a file's head promises, unless it has just so many.
@@ -182,19 +163,14 @@ pub(crate) fn tell_promised(file: &[u8], rows: u64) {
     }
 }
 
-// How many bytes the row at a place has, 0 where it is cut off.
-pub(crate) fn row_size(file: &[u8], at: usize) -> usize
-    requires { ⌜ at ≤ length (now file) ⌝ }
-    ensures { λ r. ⌜ at + r ≤ length (now (file .entry)) ⌝ }
+// How many bytes the row at the front of what is left has, 0 where it is cut off.
+pub(crate) fn row_size(left: &[u8]) -> usize
+    ensures { λ r. ⌜ r ≡ rowSize (now (left .entry)) ⌝ }
+    ensures within { λ r. ⌜ r ≤ length (now (left .entry)) ⌝ }
 {
-    let left = file.len() - at;
-    if left < BLOCK {
-        return 0;
-    }
-    let own = size_word(&file[at..], 1);
-    let blocks = (own + BLOCK - 1) / BLOCK;
+    let blocks = (word(left, 1) as usize + BLOCK - 1) / BLOCK;
     let whole = BLOCK + BLOCK * blocks;
-    if left < whole {
+    if left.len() < whole {
         return 0;
     }
     whole

@@ -1,48 +1,77 @@
-// Counts of replayed rows, and how they are told. Row 1 is the first after the file's head.
+// Counts of replayed rows, and how they are told. A tally is a table: all rows, those that agreed, and the rows of each call, those of them that agreed,
+// and the rows by the refusal that they expect and by where that comes from. Row 1 is the first after the file's head.
+ghost use mathlib.Core.Path.{_≡_};
+ghost use Prim.Native.Nat.{_+_, _%_, _^_, _≤_};
+ghost use lib.ListN.{getD};
+ghost use Rattle.vectors.specs.Tally.{counts, bumped, counted};
 use crate::calls;
 use crate::rows;
 use crate::say;
 
 // The refusals' numbers, and 0 for none.
 const NUMBERS: usize = refusals::NO_WORD as usize + 1;
-// Where an expectation comes from, as rows have it: from the crate, or from document 01 where the crate does not count.
-const NOWHERE: usize = 0;
+// Where an expectation comes from: nowhere, the crate's answer, its error, or the documents where the crate panics, is narrowed or has no such call.
+const ORIGINS: usize = 6;
+// Where the counts stand.
+const ROWS: usize = 0;
 
-const ANSWERED: usize = 1;
+const AGREED: usize = 1;
 
-const REFUSED: usize = 2;
+const CALLS: usize = 2;
 
-const PANICKED: usize = 3;
+const CALLS_AGREED: usize = CALLS + calls::END;
 
-const NARROWED: usize = 4;
+const BY_NUMBER: usize = CALLS_AGREED + calls::END;
 
-const ADDED: usize = 5;
-// One past the last of these.
-const ORIGINS: usize = ADDED + 1;
+const BY_ORIGIN: usize = BY_NUMBER + NUMBERS;
+// How many there are.
+pub const COUNTS: usize = BY_ORIGIN + ORIGINS;
 // The most differences that are told one by one.
 const MOST_TOLD: u64 = 20;
 
-pub(crate) struct Tally {
-    pub rows: u64,
-    agreed: u64,
-    calls: [u64; calls::END],
-    calls_agreed: [u64; calls::END],
-    numbers: [u64; NUMBERS],
-    origins: [u64; ORIGINS],
+// One more at a place of so many from the first on, where there is such a place. A file has far fewer rows than there are numbers.
+fn bump(tally: &mut [u64], first: usize, size: usize, i: usize)
+    requires { ⌜ first + size ≤ counts ⌝ }
+    ensures { λ _. ⌜ now (tally .exit) ≡ bumped (now (tally .entry)) first size i ⌝ }
+{
+    if size <= i {
+        return;
+    }
+    let at = first + i;
+    if tally.len() <= at {
+        return;
+    }
+    let n = std::num::wrapping_add_u64(tally[at], 1);
+    tally[at] = n;
 }
 
-// One more: a file has far fewer rows than there are numbers.
-fn more(n: u64) -> u64 {
-    std::num::wrapping_add_u64(n, 1)
+// Counts one row more. A call, a number or an origin that rows cannot have is counted among all rows alone.
+pub(crate) fn count(tally: &mut [u64; COUNTS], row: &[u8], agrees: bool)
+    ensures { λ _. ⌜ now (tally .exit) ≡ counted (now (tally .entry)) (now (row .entry)) agrees ⌝ }
+{
+    let call = rows::call(row);
+    bump(tally, ROWS, 1, 0);
+    bump(tally, CALLS, calls::END, call);
+    bump(tally, BY_NUMBER, NUMBERS, rows::answer(row, 0));
+    bump(tally, BY_ORIGIN, ORIGINS, rows::origin(row));
+    if agrees {
+        bump(tally, AGREED, 1, 0);
+        bump(tally, CALLS_AGREED, calls::END, call);
+        return;
+    }
 }
 
-// One more where a row agrees.
-fn more_if(n: u64, agrees: bool) -> u64 {
-    if agrees { more(n) } else { n }
+// How many rows there are.
+pub(crate) fn rows_in(tally: &[u64; COUNTS]) -> u64
+    ensures { λ r. ⌜ r ≡ getD (now (tally .entry)) 0 0 ⌝ }
+{
+    tally[ROWS]
 }
 
 // How many rows differed, of so many of which some agreed.
-fn differed(rows: u64, agreed: u64) -> u64 {
+fn differed(rows: u64, agreed: u64) -> u64
+    ensures { λ r. ⌜ (r + agreed) % 2 ^ 64 ≡ rows ⌝ }
+{
     std::num::wrapping_sub_u64(rows, agreed)
 }
 
@@ -64,9 +93,8 @@ fn tell_call(call: usize, rows: u64, agreed: u64) {
     say::text(b" differed\n");
 }
 
-// Tells how many rows have something in common.
-fn tell_rows(what: &[u8], rows: u64) {
-    say::text(what);
+// Tells how many rows have what was told before.
+fn tell_rows(rows: u64) {
     say::text(b": ");
     say::number(rows);
     say::text(b" rows\n");
@@ -78,103 +106,68 @@ fn tell_number(number: usize, rows: u64) {
         return;
     }
     if number == 0 {
-        tell_rows(b"no refusal", rows);
+        say::text(b"no refusal");
     } else {
         say::text(b"refusal ");
         say::number(number as u64);
-        tell_rows(b"", rows);
+    }
+    tell_rows(rows);
+}
+
+// Tells how many expectations come from one origin.
+fn tell_origin(origin: usize, rows: u64) {
+    say::line(
+        b"nothing expected\nexpected by the crate's answer\nexpected by the crate's error\nexpected by document 01, the crate panics\nexpected by document 01, which narrows the crate\nexpected by the documents, the crate has no such call",
+        origin,
+    );
+    tell_rows(rows);
+}
+
+// Tells that the last row differs, unless many did before it.
+pub(crate) fn tell_difference(tally: &[u64; COUNTS], row: &[u8]) {
+    let rows = tally[ROWS];
+    if differed(rows, tally[AGREED]) <= MOST_TOLD {
+        say::text(b"row ");
+        say::number(rows);
+        say::text(b" differs: ");
+        calls::say(rows::call(row));
+        say::text(b"\n");
     }
 }
 
-impl Tally {
-    pub(crate) fn new() -> Self {
-        Self {
-            rows: 0,
-            agreed: 0,
-            calls: [0; calls::END],
-            calls_agreed: [0; calls::END],
-            numbers: [0; NUMBERS],
-            origins: [0; ORIGINS],
-        }
-    }
+// Tells that the row after the last one is cut off.
+pub(crate) fn tell_cut_off(tally: &[u64; COUNTS]) {
+    say::text(b"cut off after row ");
+    say::number(tally[ROWS]);
+    say::text(b"\n");
+}
 
-    // With one row more. A call, a number or an origin that rows cannot have is counted among all rows alone.
-    pub(crate) fn with(mut self, row: &[u8], agrees: bool) -> Self {
-        let call = rows::call(row);
-        let number = rows::answer(row, 0);
-        let origin = rows::origin(row);
-        self.rows = more(self.rows);
-        self.agreed = more_if(self.agreed, agrees);
-        if call < calls::END {
-            self.calls[call] = more(self.calls[call]);
-            self.calls_agreed[call] = more_if(self.calls_agreed[call], agrees);
-        }
-        if number < NUMBERS {
-            self.numbers[number] = more(self.numbers[number]);
-        }
-        if origin < ORIGINS {
-            self.origins[origin] = more(self.origins[origin]);
-        }
-        self
+// Tells of each call how many rows make it and how many of them agreed.
+fn tell_calls(tally: &[u64; COUNTS]) {
+    for call in calls::BUILD_CARD..calls::END {
+        tell_call(call, tally[CALLS + call], tally[CALLS_AGREED + call]);
     }
+}
 
-    // Tells that the last row differs, unless many did before it.
-    pub(crate) fn tell_difference(self, row: &[u8]) {
-        if differed(self.rows, self.agreed) <= MOST_TOLD {
-            say::text(b"row ");
-            say::number(self.rows);
-            say::text(b" differs: ");
-            calls::say(rows::call(row));
-            say::text(b"\n");
-        }
+// Tells of each refusal how many rows expect it.
+fn tell_numbers(tally: &[u64; COUNTS]) {
+    for number in 0..NUMBERS {
+        tell_number(number, tally[BY_NUMBER + number]);
     }
+}
 
-    // Tells that the row after the last one is cut off.
-    pub(crate) fn tell_cut_off(self) {
-        say::text(b"cut off after row ");
-        say::number(self.rows);
-        say::text(b"\n");
+// Tells how many expectations come from where.
+fn tell_origins(tally: &[u64; COUNTS]) {
+    for origin in 0..ORIGINS {
+        tell_origin(origin, tally[BY_ORIGIN + origin]);
     }
+}
 
-    // Tells of each call how many rows make it and how many of them agreed.
-    fn tell_calls(self) {
-        for call in calls::BUILD_CARD..calls::END {
-            tell_call(call, self.calls[call], self.calls_agreed[call]);
-        }
-    }
-
-    // Tells of each refusal how many rows expect it.
-    fn tell_numbers(self) {
-        for number in 0..NUMBERS {
-            tell_number(number, self.numbers[number]);
-        }
-    }
-
-    // Tells how many expectations come from where.
-    fn tell_origins(self) {
-        tell_rows(b"nothing expected", self.origins[NOWHERE]);
-        tell_rows(b"expected by the crate's answer", self.origins[ANSWERED]);
-        tell_rows(b"expected by the crate's error", self.origins[REFUSED]);
-        tell_rows(
-            b"expected by document 01, the crate panics",
-            self.origins[PANICKED],
-        );
-        tell_rows(
-            b"expected by document 01, which narrows the crate",
-            self.origins[NARROWED],
-        );
-        tell_rows(
-            b"expected by the documents, the crate has no such call",
-            self.origins[ADDED],
-        );
-    }
-
-    // Tells the counts, the whole last.
-    pub(crate) fn tell(self) {
-        self.tell_calls();
-        self.tell_numbers();
-        self.tell_origins();
-        tell_agreed(self.rows, self.agreed);
-        say::text(b"\n");
-    }
+// Tells the counts, the whole last.
+pub(crate) fn tell(tally: &[u64; COUNTS]) {
+    tell_calls(tally);
+    tell_numbers(tally);
+    tell_origins(tally);
+    tell_agreed(tally[ROWS], tally[AGREED]);
+    say::text(b"\n");
 }

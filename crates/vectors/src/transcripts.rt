@@ -1,93 +1,98 @@
 // Rows that change the lent transcript: they build it, or damage one number of it.
+ghost use mathlib.Core.Path.{_≡_};
+ghost use lib.ListN.{set};
+ghost use Rattle.segments.specs.Tables.{tables};
+ghost use Rattle.building.specs.Afterwards.{answerOf as builtOf, lengthAnswer, tablesAfter};
+ghost use Rattle.entry.specs.Boundary.{builtNumber, builtHead};
+ghost use Rattle.vectors.specs.Changes.{cardMade, recordsMade, lengthMade, totalOf, recordsWords, lengthOnlyWords, builtWords, headDamaged, tablesDamaged, placesOf, damageWords, headAfter, tablesThen, changeWords};
+use crate::answers;
 use crate::calls;
 use crate::rows;
+use crate::rows::ANSWER;
 use refusals::MOST_SEGMENTS;
 use refusals::MOST_STARTS;
 
-// Whether the last start of a table, the total, is a word of the answer; another word is the segment count.
-fn same_total(row: &[u8], i: usize, starts: &[u32; MOST_STARTS]) -> bool {
+// What damage answers where there is no such place.
+const NO_PLACE: u32 = 1;
+
+// The start of a table at the segment count that a row expects: the total. 0 where the table has no such place.
+fn total(row: &[u8], starts: &[u32; MOST_STARTS]) -> u32
+    ensures { λ r. ⌜ r ≡ totalOf (now (row .entry)) (now (starts .entry)) ⌝ }
+{
     let count = rows::answer(row, 3);
     if MOST_STARTS <= count {
-        return false;
+        return 0;
     }
-    rows::expects_word(row, i, starts[count])
+    starts[count]
 }
 
-// Whether a refusal is the recorded one.
-fn same_refusal(row: &[u8], number: u32) -> bool {
-    rows::expects_word(row, 0, number) & rows::expects_no_more(row, 1)
-}
-
-// Whether a transcript is built as recorded: strand, first start, segment count, and the two lengths.
-fn same_built(
-    row: &[u8],
-    head: &[i32; 8],
-    genome: &[u32; MOST_STARTS],
-    transcript: &[u32; MOST_STARTS],
-) -> bool {
-    rows::expects(row, 0, 0)
-        & rows::expects_signed(row, 1, head[1])
-        & rows::expects_signed(row, 2, head[2])
-        & rows::expects_signed(row, 3, head[3])
-        & same_total(row, 4, genome)
-        & same_total(row, 5, transcript)
-        & rows::expects_no_more(row, 6)
-}
-
-// Whether a transcript is built as recorded, or its building refused.
-fn same_outcome(
+// What is recorded of a transcript from records: strand, first start, segment count, and the two lengths; or of its refusal.
+fn of_records(
     row: &[u8],
     number: u32,
     head: &[i32; 8],
     genome: &[u32; MOST_STARTS],
     transcript: &[u32; MOST_STARTS],
-) -> bool {
+) -> [i64; ANSWER]
+    ensures { λ r. ⌜ r ≡ recordsWords (now (row .entry)) number (now (head .entry)) (now (genome .entry)) (now (transcript .entry)) ⌝ }
+{
     if number == 0 {
-        same_built(row, head, genome, transcript)
-    } else {
-        same_refusal(row, number)
+        let strand = head[1];
+        let first = head[2];
+        let count = head[3];
+        let along_genome = total(row, genome);
+        let along_transcript = total(row, transcript);
+        return answers::of_numbers(
+            0,
+            strand as i64,
+            first as i64,
+            count as i64,
+            along_genome as i64,
+            along_transcript as i64,
+        );
     }
+    answers::of_refusal(number)
 }
 
-// Whether a length-only transcript is built as recorded: its length, with zeros in the place of what it lacks.
-fn same_length_only(row: &[u8], head: &[i32; 8]) -> bool {
-    rows::expects(row, 0, 0)
-        & rows::expects(row, 1, 0)
-        & rows::expects(row, 2, 0)
-        & rows::expects(row, 3, 0)
-        & rows::expects(row, 4, 0)
-        & rows::expects_signed(row, 5, head[7])
-        & rows::expects_no_more(row, 6)
+// What is recorded of a length-only transcript: its length, with zeros in the place of what it lacks; or of its refusal.
+fn of_length_only(number: u32, head: &[i32; 8]) -> [i64; ANSWER]
+    ensures { λ r. ⌜ r ≡ lengthOnlyWords number (now (head .entry)) ⌝ }
+{
+    if number == 0 {
+        let length = head[7];
+        return answers::of_numbers(0, 0, 0, 0, 0, length as i64);
+    }
+    answers::of_refusal(number)
 }
 
-// Puts a number into a head, and says whether it has that place.
-fn put_signed(table: &mut [i32], i: usize, z: i32) -> bool {
-    if i < table.len() {
-        table[i] = z;
-        true
-    } else {
-        false
+// Puts a number into a head, where it has that place.
+fn put_signed(table: &mut [i32], i: usize, z: i32)
+    ensures { λ _. ⌜ now (table .exit) ≡ set (now (table .entry)) i z ⌝ }
+{
+    if table.len() <= i {
+        return;
     }
+    table[i] = z;
 }
 
-// Puts a number into a table of starts, and says whether it has that place.
-fn put_start(table: &mut [u32], i: usize, n: u32) -> bool {
-    if i < table.len() {
-        table[i] = n;
-        true
-    } else {
-        false
+// Puts a number into a table of starts, where it has that place.
+fn put_start(table: &mut [u32], i: usize, n: u32)
+    ensures { λ _. ⌜ now (table .exit) ≡ set (now (table .entry)) i n ⌝ }
+{
+    if table.len() <= i {
+        return;
     }
+    table[i] = n;
 }
 
-// Puts a letter into the table of letters, and says whether it has that place.
-fn put_letter(table: &mut [u8], i: usize, letter: u8) -> bool {
-    if i < table.len() {
-        table[i] = letter;
-        true
-    } else {
-        false
+// Puts a letter into the table of letters, where it has that place.
+fn put_letter(table: &mut [u8], i: usize, letter: u8)
+    ensures { λ _. ⌜ now (table .exit) ≡ set (now (table .entry)) i letter ⌝ }
+{
+    if table.len() <= i {
+        return;
     }
+    table[i] = letter;
 }
 
 // Changes one number of the lent memory: of the head (0), of a table of starts (1, 2) or of the letters (3).
@@ -97,44 +102,85 @@ fn damage(
     genome: &mut [u32; MOST_STARTS],
     transcript: &mut [u32; MOST_STARTS],
     letters: &mut [u8; MOST_SEGMENTS],
-) -> bool {
+)
+    ensures { λ _. ⌜ now (head .exit) ≡ headDamaged (now (row .entry)) (now (head .entry)) ⌝ }
+    ensures { λ _. ⌜ tables (now (genome .exit)) (now (transcript .exit)) (now (letters .exit)) ≡ tablesDamaged (now (row .entry)) (tables (now (genome .entry)) (now (transcript .entry)) (now (letters .entry))) ⌝ }
+{
+    let table = rows::size(row, 0);
     let i = rows::size(row, 1);
     let value = rows::bits(row, 2);
-    match rows::size(row, 0) {
-        0 => put_signed(head, i, rows::number(row, 2)),
-        1 => put_start(genome, i, value),
-        2 => put_start(transcript, i, value),
-        3 => put_letter(letters, i, (value % 256) as u8),
-        _ => false,
+    if table == 0 {
+        put_signed(head, i, rows::number(row, 2));
+        return;
+    }
+    if table == 1 {
+        put_start(genome, i, value);
+        return;
+    }
+    if table == 2 {
+        put_start(transcript, i, value);
+        return;
+    }
+    if table == 3 {
+        put_letter(letters, i, (value % 256) as u8);
     }
 }
 
-// Whether `txc_build_card` answers as recorded.
+// How many places the head (0), a table of starts (1, 2) and the letters (3) have.
+fn places(table: usize) -> usize
+    ensures { λ r. ⌜ r ≡ placesOf table ⌝ }
+{
+    if table == 0 {
+        return 8;
+    }
+    if table < 3 {
+        return MOST_STARTS;
+    }
+    if table == 3 {
+        return MOST_SEGMENTS;
+    }
+    0
+}
+
+// What is recorded of damage: nothing. Where there is no such place, a number that no such row expects.
+fn of_damage(row: &[u8]) -> [i64; ANSWER]
+    ensures { λ r. ⌜ r ≡ damageWords (now (row .entry)) ⌝ }
+{
+    if rows::size(row, 1) < places(rows::size(row, 0)) {
+        return answers::of_refusal(0);
+    }
+    answers::of_refusal(NO_PLACE)
+}
+
+// What `txc_build_card` answers.
 fn build_card(
     row: &[u8],
     head: &mut [i32; 8],
     genome: &mut [u32; MOST_STARTS],
     transcript: &mut [u32; MOST_STARTS],
     letters: &mut [u8; MOST_SEGMENTS],
-) -> bool {
-    let number = entry::build::txc_build_card(
-        rows::payload(row),
-        head,
-        genome,
-        transcript,
-        letters,
-    );
-    same_outcome(row, number, head, genome, transcript)
+) -> [i64; ANSWER]
+    ensures { λ r. ⌜ r ≡ builtWords (now (row .entry)) (builtOf (cardMade (now (row .entry)))) (now (head .exit)) (tables (now (genome .exit)) (now (transcript .exit)) (now (letters .exit))) ⌝ }
+    ensures { λ _. ⌜ now (head .exit) ≡ builtHead (builtOf (cardMade (now (row .entry)))) (now (head .entry)) ⌝ }
+    ensures { λ _. ⌜ tables (now (genome .exit)) (now (transcript .exit)) (now (letters .exit)) ≡ tablesAfter (cardMade (now (row .entry))) (tables (now (genome .entry)) (now (transcript .entry)) (now (letters .entry))) ⌝ }
+{
+    let card = rows::payload(row);
+    let number = entry::build::txc_build_card(card, head, genome, transcript, letters);
+    of_records(row, number, head, genome, transcript)
 }
 
-// Whether `txc_build` answers as recorded.
+// What `txc_build` answers.
 fn build(
     row: &[u8],
     head: &mut [i32; 8],
     genome: &mut [u32; MOST_STARTS],
     transcript: &mut [u32; MOST_STARTS],
     letters: &mut [u8; MOST_SEGMENTS],
-) -> bool {
+) -> [i64; ANSWER]
+    ensures { λ r. ⌜ r ≡ builtWords (now (row .entry)) (builtOf (recordsMade (now (row .entry)))) (now (head .exit)) (tables (now (genome .exit)) (now (transcript .exit)) (now (letters .exit))) ⌝ }
+    ensures { λ _. ⌜ now (head .exit) ≡ builtHead (builtOf (recordsMade (now (row .entry)))) (now (head .entry)) ⌝ }
+    ensures { λ _. ⌜ tables (now (genome .exit)) (now (transcript .exit)) (now (letters .exit)) ≡ tablesAfter (recordsMade (now (row .entry))) (tables (now (genome .entry)) (now (transcript .entry)) (now (letters .entry))) ⌝ }
+{
     let number = entry::build::txc_build(
         rows::number(row, 0),
         rows::flags(row),
@@ -147,11 +193,14 @@ fn build(
         transcript,
         letters,
     );
-    same_outcome(row, number, head, genome, transcript)
+    of_records(row, number, head, genome, transcript)
 }
 
-// Whether `txc_build_length` answers as recorded.
-fn build_length(row: &[u8], head: &mut [i32; 8]) -> bool {
+// What `txc_build_length` answers.
+fn build_length(row: &[u8], head: &mut [i32; 8]) -> [i64; ANSWER]
+    ensures { λ r. ⌜ r ≡ lengthOnlyWords (builtNumber (lengthAnswer (lengthMade (now (row .entry))))) (now (head .exit)) ⌝ }
+    ensures { λ _. ⌜ now (head .exit) ≡ builtHead (lengthAnswer (lengthMade (now (row .entry)))) (now (head .entry)) ⌝ }
+{
     let number = entry::build::txc_build_length(
         rows::number(row, 0),
         rows::flags(row),
@@ -159,27 +208,31 @@ fn build_length(row: &[u8], head: &mut [i32; 8]) -> bool {
         rows::number(row, 2),
         head,
     );
-    if number == 0 {
-        same_length_only(row, head)
-    } else {
-        same_refusal(row, number)
-    }
+    of_length_only(number, head)
 }
 
-// Whether a row that changes the lent transcript is answered as recorded.
-pub(crate) fn agrees(
+// What is answered to a row that changes the lent transcript.
+pub(crate) fn answered(
     row: &[u8],
     head: &mut [i32; 8],
     genome: &mut [u32; MOST_STARTS],
     transcript: &mut [u32; MOST_STARTS],
     letters: &mut [u8; MOST_SEGMENTS],
-) -> bool {
-    match rows::call(row) {
-        calls::BUILD_CARD => build_card(row, head, genome, transcript, letters),
-        calls::BUILD => build(row, head, genome, transcript, letters),
-        calls::BUILD_LENGTH => build_length(row, head),
-        calls::DAMAGE => damage(row, head, genome, transcript, letters)
-            & rows::expects_no_more(row, 0),
-        _ => false,
+) -> [i64; ANSWER]
+    ensures { λ r. ⌜ r ≡ changeWords (now (row .entry)) (now (head .exit)) (tables (now (genome .exit)) (now (transcript .exit)) (now (letters .exit))) ⌝ }
+    ensures { λ _. ⌜ now (head .exit) ≡ headAfter (now (row .entry)) (now (head .entry)) ⌝ }
+    ensures { λ _. ⌜ tables (now (genome .exit)) (now (transcript .exit)) (now (letters .exit)) ≡ tablesThen (now (row .entry)) (tables (now (genome .entry)) (now (transcript .entry)) (now (letters .entry))) ⌝ }
+{
+    let call = rows::call(row);
+    if call == calls::BUILD_CARD {
+        return build_card(row, head, genome, transcript, letters);
     }
+    if call == calls::BUILD {
+        return build(row, head, genome, transcript, letters);
+    }
+    if call == calls::BUILD_LENGTH {
+        return build_length(row, head);
+    }
+    damage(row, head, genome, transcript, letters);
+    of_damage(row)
 }

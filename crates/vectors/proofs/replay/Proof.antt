@@ -1,51 +1,49 @@
--- The loop ends: each row that is not cut off takes bytes away from those that are left.
-use Prim.Native.Nat.{_-_, _≤_}
-use lib.ListN.{length}
+-- What is left to replay makes with the counts so far what the whole file makes.
+use Prim.Native.Nat.{ℕ, _-_}
+use native.Mathlib.Omega.{arith}
+use mathlib.Core.Path.{_≡_, sym, ap, _∙_}
+use mathlib.Core.List.{List}
+use lib.ListN.{length, take, drop, length-drop}
+use lib.Seq.{take-all}
+use Rattle.segments.specs.Tables.{tables}
+use Rattle.vectors.specs.Tally.{counted}
+use Rattle.vectors.proofs.Replaying.{Left, begun, one-more, cut-off, ended}
 use borrow.Author.Needs.{needs}
 use Rattle.vectors.proofs.replay.Statement.{statement}
 use Rattle.vectors.proofs.replay.Tie as tie
 
 abbrev Inv-loop : tie.InvT-loop
-Inv-loop file head₀ genome₀ transcript₀ letters₀ tally₀ at₀ head genome transcript letters tally at = at ≤ length file
+Inv-loop file head₀ genome₀ transcript₀ letters₀ tally₀ at₀ head genome transcript letters tally at = Left file at head (tables genome transcript letters) tally
 
 abbrev μ-loop : tie.MeasureT-loop
 μ-loop file head₀ genome₀ transcript₀ letters₀ tally₀ at₀ head genome transcript letters tally at = length file - at
 
-new-requires : tie.Need-new-requires Inv-loop μ-loop
-new-requires c κs = search needs
+-- the bytes from a place on
+rest : (file : List ℕ) (at : ℕ) → take (length file - at) (drop at file) ≡ drop at file
+rest file at = take-all (length file - at) (drop at file) (omega (arith, length-drop at file))
 
 loop-holds : tie.Need-loop-holds Inv-loop μ-loop
-loop-holds c = search needs
-
-row-size-requires : tie.Need-row-size-requires Inv-loop μ-loop
-row-size-requires c κs = search needs
-
-tell-cut-off-requires : tie.Need-tell-cut-off-requires Inv-loop μ-loop
-tell-cut-off-requires c κs = search needs
+loop-holds c = begun (c .before .args .file .now)
 
 returns : tie.Need-returns Inv-loop μ-loop
-returns c = search needs
-
-part-requires : tie.Need-part-requires Inv-loop μ-loop
-part-requires c κs = search needs
-
-agrees-requires : tie.Need-agrees-requires Inv-loop μ-loop
-agrees-requires c κs = search needs
-
-counted-requires : tie.Need-counted-requires Inv-loop μ-loop
-counted-requires c κs = search needs
-
-add-at : tie.Need-add-at Inv-loop μ-loop
-add-at c = search needs
-
-loop-less : tie.Need-loop-less Inv-loop μ-loop
-loop-less c = search needs
+returns c =
+    let l = c .before .before .before .before .before .before .loop in
+    let s = c .before .before .before .row-size in
+    cut-off (l .inv) (sym (simp (rest (c .before .before .before .before .before .before .before .before .args .file .now) (l .at)) at (s .ensures .0)) ∙ c .before .before .if1 .taken)
 
 loop-again : tie.Need-loop-again Inv-loop μ-loop
-loop-again c = search needs
+loop-again c =
+    let file = c .before .before .before .before .before .before .before .before .before .before .before .before .before .before .before .args .file .now in
+    let l = c .before .before .before .before .before .before .before .before .before .before .before .before .before .loop in
+    let s = c .before .before .before .before .before .before .before .before .before .before .row-size in
+    let all = rest file (l .at) in
+    let row = c .before .before .before .before .before .before .before .first in
+    let g = c .before .before .agrees .ensures in
+    one-more (l .inv) (s .result) (simp all at (s .ensures .0)) (c .before .before .before .before .before .before .before .before .before .if1 .left) (simp (all, length-drop) at (s .ensures .1))
+    (row .result .now) (simp all at (row .ensures)) (g .1 .0) (g .1 .1) (c .count .ensures ∙ ap (counted (l .tally) (row .result .now)) (g .0))
 
 returns-2 : tie.Need-returns-2 Inv-loop μ-loop
-returns-2 c = search needs
+returns-2 c = ended (c .before .loop .inv) (c .loop-test .left)
 
 pub replay-spec : {M : Type 1} → statement M
 replay-spec =
@@ -53,15 +51,20 @@ replay-spec =
     (tie.spec
     Inv-loop
     μ-loop
-    new-requires
     loop-holds
-    row-size-requires
-    tell-cut-off-requires
+    (λ c. search needs)
+    (λ c. search needs)
+    (λ c. search needs)
+    (λ c κs. search needs)
+    (λ c κs. search needs)
     returns
-    part-requires
-    agrees-requires
-    counted-requires
-    add-at
-    loop-less
+    (λ c. search needs)
+    (λ c. search needs)
+    (λ c. search needs)
+    (λ c κs. search needs)
+    (λ c κs. search needs)
+    (λ c κs. search needs)
+    (λ c. search needs)
+    (λ c. search needs)
     loop-again
     returns-2)

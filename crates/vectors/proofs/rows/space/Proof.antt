@@ -1,13 +1,13 @@
 -- The room for a file has its length by the law of repeats; computing the list would cost by its length.
 use Prim.Native.Nat.{ℕ}
-use mathlib.Core.Path.{sym}
+use mathlib.Core.Path.{refl, sym}
 use lib.ListN.{length-replicate}
 use Rattle.vectors.specs.Sizes.{mostFile}
 use Rattle.vectors.proofs.rows.space.Statement.{statement}
 use Rattle.vectors.proofs.rows.space.Tie as tie
 
 returns : tie.Need-returns
-returns c = sym (length-replicate {A = ℕ} mostFile 0)
+returns c = (refl, sym (length-replicate {A = ℕ} mostFile 0))
 
 pub space-spec : {M : Type 1} → statement M
 space-spec = tie.close (tie.spec returns)

@@ -1,51 +1,36 @@
--- The loop ends: the elements that are left become fewer.
-use Prim.Native.Nat.{_-_, _/_}
-use lib.ListN.{length}
+-- After each turn the flag says whether all elements passed stand in the tables.
+use Prim.Native.Nat.{ℕ, _≤_, _-_}
+use mathlib.Core.Path.{_≡_, ap, _∙_}
+use lib.IntN.{ℤ, pos}
+use lib.ListN.{getD}
+use mir.Syntax.{w32}
+use Rattle.whole.specs.laws.Whole.{told}
+use Rattle.segments.specs.Tables.{allBelow}
+use Rattle.vectors.proofs.Below.{all-none, all-more, all-done}
+use Rattle.vectors.specs.Texts.{laidOut, isElement, beginWith}
 use borrow.Author.Needs.{needs}
 use Rattle.vectors.proofs.texts.begin_with.Statement.{statement}
 use Rattle.vectors.proofs.texts.begin_with.Tie as tie
 
 abbrev Inv-loop : tie.InvT-loop
-Inv-loop elements counts letters i₀ i = Unit {0}
+Inv-loop elements counts letters number same₀ i₀ same i = (i ≤ laidOut elements) × (same ≡ allBelow (λ (k : ℕ). isElement elements k (getD counts k (pos 0)) (getD letters k 0)) i)
 
 abbrev μ-loop : tie.MeasureT-loop
-μ-loop elements counts letters i₀ i = length elements / 5 - i
+μ-loop elements counts letters number same₀ i₀ same i = laidOut elements - i
 
 loop-holds : tie.Need-loop-holds Inv-loop μ-loop
-loop-holds c = search needs
-
-returns : tie.Need-returns Inv-loop μ-loop
-returns c = search needs
-
-element-at-requires : tie.Need-element-at-requires Inv-loop μ-loop
-element-at-requires c κs = search needs
-
-mul-is-element : tie.Need-mul-is-element Inv-loop μ-loop
-mul-is-element c = search needs
-
-element-copy-out-is-element : tie.Need-element-copy-out-is-element Inv-loop μ-loop
-element-copy-out-is-element c = search needs
-
-element-copy-out-is-element-2 : tie.Need-element-copy-out-is-element-2 Inv-loop μ-loop
-element-copy-out-is-element-2 c = search needs
-
-is-element-requires : tie.Need-is-element-requires Inv-loop μ-loop
-is-element-requires c κs = search needs
-
-returns-2 : tie.Need-returns-2 Inv-loop μ-loop
-returns-2 c = search needs
-
-add-i : tie.Need-add-i Inv-loop μ-loop
-add-i c = search needs
-
-loop-less : tie.Need-loop-less Inv-loop μ-loop
-loop-less c = search needs
+loop-holds c = (search needs, all-none _)
 
 loop-again : tie.Need-loop-again Inv-loop μ-loop
-loop-again c = search needs
+loop-again c =
+    let a = c .before .before .before .before .before .before .args in
+    let l = c .before .before .before .before .loop in
+    let count = told w32 (getD (a .counts .now) (l .i) (pos 0)) (c .before .before .is-element-arg .given) in
+    (search needs, all-more _ _ (l .inv .1) (c .is-element .ensures ∙ ap (λ (z : ℤ). isElement (a .elements .now) (l .i) z (getD (a .letters .now) (l .i) 0)) count))
 
-returns-3 : tie.Need-returns-3 Inv-loop μ-loop
-returns-3 c = search needs
+returns : tie.Need-returns Inv-loop μ-loop
+unfolding beginWith
+returns c = all-done _ _ _ (c .before .loop .inv .1) (c .before .loop .inv .0) (c .loop-test .left)
 
 pub begin-with-spec : {M : Type 1} → statement M
 begin-with-spec =
@@ -54,14 +39,11 @@ begin-with-spec =
     Inv-loop
     μ-loop
     loop-holds
-    returns
-    element-at-requires
-    mul-is-element
-    element-copy-out-is-element
-    element-copy-out-is-element-2
-    is-element-requires
-    returns-2
-    add-i
-    loop-less
+    (λ c. search needs)
+    (λ c. search needs)
+    (λ c. search needs)
+    (λ c κs. search needs)
+    (λ c. search needs)
+    (λ c. search needs)
     loop-again
-    returns-3)
+    returns)

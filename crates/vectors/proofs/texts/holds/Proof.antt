@@ -1,39 +1,33 @@
--- The loop ends: the bytes that are left become fewer.
-use Prim.Native.Nat.{_-_}
-use lib.ListN.{length}
+-- After each turn the flag says whether all bytes passed are those of the text.
+use Prim.Native.Nat.{ℕ, _≤_, _-_}
+use mathlib.Core.Path.{_≡_, ap}
+use mathlib.Core.Bool.{Bool, _&&_}
+use lib.Dec.{eqb, leb}
+use lib.ListN.{length, getD}
+use Rattle.segments.specs.Tables.{allBelow}
+use Rattle.vectors.proofs.Below.{all-none, all-more, all-done}
+use Rattle.vectors.specs.Texts.{holdsText}
 use borrow.Author.Needs.{needs}
 use Rattle.vectors.proofs.texts.holds.Statement.{statement}
 use Rattle.vectors.proofs.texts.holds.Tie as tie
 
 abbrev Inv-loop : tie.InvT-loop
-Inv-loop buffer text i₀ i = Unit {0}
+Inv-loop buffer text same₀ i₀ same i = (i ≤ length buffer) × (same ≡ allBelow (λ (k : ℕ). eqb (getD buffer k 0) (getD text k 0)) i)
 
 abbrev μ-loop : tie.MeasureT-loop
-μ-loop buffer text i₀ i = length buffer - i
+μ-loop buffer text same₀ i₀ same i = length buffer - i
 
 loop-holds : tie.Need-loop-holds Inv-loop μ-loop
-loop-holds c = search needs
-
-shared-slice-read-if1 : tie.Need-shared-slice-read-if1 Inv-loop μ-loop
-shared-slice-read-if1 c = search needs
-
-byte-at-requires : tie.Need-byte-at-requires Inv-loop μ-loop
-byte-at-requires c κs = search needs
-
-returns : tie.Need-returns Inv-loop μ-loop
-returns c = search needs
-
-add-i : tie.Need-add-i Inv-loop μ-loop
-add-i c = search needs
-
-loop-less : tie.Need-loop-less Inv-loop μ-loop
-loop-less c = search needs
+loop-holds c = (search needs, all-none _)
 
 loop-again : tie.Need-loop-again Inv-loop μ-loop
-loop-again c = search needs
+loop-again c = (search needs, all-more _ _ (c .before .before .before .loop .inv .1) (ap (eqb _) (c .byte-at .ensures)))
 
-returns-2 : tie.Need-returns-2 Inv-loop μ-loop
-returns-2 c = search needs
+returns : tie.Need-returns Inv-loop μ-loop
+unfolding holdsText
+returns c =
+    let a = c .before .before .before .before .args in
+    ap (λ (t : Bool). t && leb (length (a .text .now)) (length (a .buffer .now))) (all-done _ _ _ (c .before .loop .inv .1) (c .before .loop .inv .0) (c .loop-test .left))
 
 pub holds-spec : {M : Type 1} → statement M
 holds-spec =
@@ -42,10 +36,9 @@ holds-spec =
     Inv-loop
     μ-loop
     loop-holds
-    shared-slice-read-if1
-    byte-at-requires
-    returns
-    add-i
-    loop-less
+    (λ c. search needs)
+    (λ c κs. search needs)
+    (λ c. search needs)
+    (λ c. search needs)
     loop-again
-    returns-2)
+    returns)

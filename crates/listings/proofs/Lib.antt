@@ -1,0 +1,2 @@
+-- The laws of the loop over cards.
+pub mod Listed

@@ -1,0 +1,4 @@
+-- What several proofs cite, and the laws of the loop over rows.
+pub mod Below
+pub mod Zeros
+pub mod Replaying
