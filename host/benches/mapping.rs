@@ -2,7 +2,7 @@
 // The function that `criterion_group!` makes is public and has no words.
 #![allow(missing_docs)]
 
-use benches::{Bench, SIZES};
+use benches::{Bench, Letters, SIZES};
 use criterion::{criterion_group, criterion_main, BenchmarkId, Criterion};
 
 /// Times two sides that are asked one position after the other, over and over.
@@ -25,7 +25,8 @@ fn sides<T, U>(
 fn mapping(criterion: &mut Criterion) {
     for strand in [1, -1] {
         for segments in SIZES {
-            let Bench { asking, mapper, g_to_c, c_to_g, crate_g, crate_c, .. } = Bench::new(segments, strand);
+            let Bench { asking, mapper, g_to_c, c_to_g, crate_g, crate_c, .. } =
+                Bench::new(Letters::Matches, segments, strand);
             let size = format!("{segments} segments, strand {strand}");
             let (to_c, to_g) = (|i: usize| g_to_c[i].ask(&asking.lent), |i: usize| c_to_g[i].ask(&asking.lent));
             sides(criterion, "g_to_c", &size, g_to_c.len(), to_c, |i| mapper.g_to_c(&crate_g[i]));

@@ -89,7 +89,7 @@ fn records_hold(
         let count = segment_count(head);
         let totals = totals_hold(first, genome[count], transcript[count]);
         let cds = cds_holds(head, transcript[count]);
-        let segments = segments::segments_hold(genome, transcript, letters, count);
+        let segments = together::segments_hold(genome, transcript, letters, count);
         segments & totals & cds
     } else {
         false

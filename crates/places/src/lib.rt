@@ -22,7 +22,6 @@ use positions::fitting::GEnd;
 use positions::fitting::NEnd;
 use refusals::MOST_SEGMENTS;
 use refusals::MOST_STARTS;
-use segments::End;
 use segments::Spot;
 
 // How a transcript lies on the genome, beside its tables: whether its strand is 1, its first start, how many segments it has.
@@ -160,25 +159,16 @@ pub fn to_n(
     let p = place_of_g(at.first, from);
     let q = place_of_g(at.first, to);
     if are_inside(strict, last(genome, count), p, q) {
-        let a = segments::genome_to_transcript(
+        let ends = segments::genome_to_transcript(
             genome,
             transcript,
             letters,
             count,
             p,
-            End::Start,
-            forward,
-        );
-        let b = segments::genome_to_transcript(
-            genome,
-            transcript,
-            letters,
-            count,
             q,
-            End::Stop,
             forward,
         );
-        return n_answer(forward, last(transcript, count), a, b);
+        return n_answer(forward, last(transcript, count), ends.start, ends.stop);
     }
     NAnswer::Refused(refusals::OUTSIDE)
 }
@@ -216,9 +206,8 @@ fn g_of_ends(
     let p = place_of_n(forward, len, a.base);
     let q = place_of_n(forward, len, b.base);
     if are_inside(strict, len, p, q) {
-        let x = segments::transcript_to_genome(genome, transcript, letters, count, p, End::Start);
-        let y = segments::transcript_to_genome(genome, transcript, letters, count, q, End::Stop);
-        return g_answer(forward, first, x, y, a.offset, b.offset);
+        let ends = segments::transcript_to_genome(genome, transcript, letters, count, p, q);
+        return g_answer(forward, first, ends.start, ends.stop, a.offset, b.offset);
     }
     GAnswer::Refused(refusals::OUTSIDE)
 }

@@ -1,4 +1,3 @@
 -- Lemmas on plain values, for the proofs of this crate.
-mod All
 mod Bounds
-mod Steps
+mod Halving

@@ -49,13 +49,17 @@ rightAt a i = stepRight (getD (a .letters) i 0) (getD (a .genome) i 0) (getD (a 
 unfoldable pub segmentsHold : Tables → ℕ → Bool
 segmentsHold a n = eqb (getD (a .genome) 0 0) 0 && eqb (getD (a .transcript) 0 0) 0 && (allBelow (knownAt (a .letters)) n && allBelow (rightAt a) n)
 
+-- of the first n + 1 entries none is below the one before it
+pub record Rising (entries : List ℕ) (n : ℕ) : Type 0 where
+  pub each : (i : ℕ) → i < n → getD entries i 0 ≤ getD entries (i + 1) 0
+
 -- the same as facts, at every index
 pub record Holds (a : Tables) (n : ℕ) : Type 0 where
   pub genome-from-0 : getD (a .genome) 0 0 ≡ 0
   pub transcript-from-0 : getD (a .transcript) 0 0 ≡ 0
   pub letters : (i : ℕ) → i < n → isLetter (getD (a .letters) i 0) ≡ true
-  pub genome-rises : (i : ℕ) → i < n → getD (a .genome) i 0 ≤ getD (a .genome) (i + 1) 0
-  pub transcript-rises : (i : ℕ) → i < n → getD (a .transcript) i 0 ≤ getD (a .transcript) (i + 1) 0
+  pub genome-rises : Rising (a .genome) n
+  pub transcript-rises : Rising (a .transcript) n
   pub steps : (i : ℕ) → i < n
       → stepsOf (kindOf (getD (a .letters) i 0)) (getD (a .genome) (i + 1) 0 - getD (a .genome) i 0) (getD (a .transcript) (i + 1) 0 - getD (a .transcript) i 0) ≡ true
 

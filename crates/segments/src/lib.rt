@@ -1,15 +1,16 @@
-// The tables of a transcript: whether their segments hold together, the finder, and the mapping of a place, once for both directions.
+// The tables of a transcript: the finder, and the mapping of a place, once for both directions.
 // Segment i begins at entry i of the two tables of starts and ends at entry i + 1. A place is a whole number and may lie outside the tables on either side.
 ghost use mathlib.Core.Path.{_≡_};
-ghost use mathlib.Core.Bool.{true, cond};
+ghost use mathlib.Core.Bool.{true, _&&_};
 ghost use Prim.Native.Nat.{_≤_, _<_};
 ghost use lib.IntN.{pos};
 ghost use lib.Signed.{ltZ};
 ghost use Rattle.refusals.specs.Numbers.{mostSegments};
-ghost use Rattle.whole.specs.Whole.{Within};
-ghost use Rattle.cigar.specs.Elements.{isLetter, kindOf};
-ghost use Rattle.segments.specs.Tables.{tables, stepRight, allBelow, knownAt, rightAt, segmentsHold};
-ghost use Rattle.segments.specs.Places.{indexOf, unsurely, beside, leftNearer, nearer, spotIn, mapByTables};
+ghost use Rattle.whole.specs.Whole.{Within, eqZ};
+ghost use Rattle.cigar.specs.Elements.{kindOf};
+ghost use Rattle.segments.specs.Tables.{tables, segmentsHold, Rising};
+ghost use Rattle.segments.specs.Places.{indexOf, segmentAt, unsurely, beside, leftNearer, nearer, spotIn, spotOf, mapByTables};
+ghost use Rattle.segments.specs.Places.End.{start, stop};
 ghost use Rattle.segments.specs.Paper.{endSaid, spotSaid, toTranscript, toGenome, Small};
 use numbering::Place;
 use refusals::MOST_SEGMENTS;
@@ -29,91 +30,10 @@ pub struct Spot {
     pub number: usize,
 }
 
-// Whether the letter is one of = D I M N X.
-fn is_known(letter: u8) -> bool
-    ensures { λ r. ⌜ r ≡ isLetter letter ⌝ }
-{
-    (letter == b'=')
-        | (letter == b'D')
-        | (letter == b'I')
-        | (letter == b'M')
-        | (letter == b'N')
-        | (letter == b'X')
-}
-
-// 0 where the flag is true, else x.
-fn unless(flag: bool, x: u32) -> u32
-    ensures { λ r. ⌜ r ≡ cond flag 0 x ⌝ }
-{
-    if flag { 0 } else { x }
-}
-
-// Whether one segment's steps are its letter's. What the letter lets the transcript see of the genome's step is compared with
-// what it lets the genome see of the transcript's: with no early way out the loop over it is vectorised.
-fn is_right(letter: u8, g0: u32, g1: u32, t0: u32, t1: u32) -> bool
-    ensures { λ r. ⌜ r ≡ stepRight letter g0 g1 t0 t1 ⌝ }
-{
-    let dg = std::num::wrapping_sub_u32(g1, g0);
-    let dt = std::num::wrapping_sub_u32(t1, t0);
-    let genome = unless((letter == b'I') | (letter == b'N'), dg);
-    let transcript = unless(letter == b'D', dt);
-    (g0 <= g1) & (t0 <= t1) & (genome == transcript)
-}
-
-// Whether the first count letters are known.
-fn all_known(letters: &[u8; MOST_SEGMENTS], count: usize) -> bool
-    requires { ⌜ count ≤ mostSegments ⌝ }
-    ensures { λ r. ⌜ r ≡ allBelow (knownAt (now (letters .entry))) count ⌝ }
-{
-    let mut ok = true;
-    let mut i = 0;
-    while i < count {
-        ok = ok & is_known(letters[i]);
-        i += 1;
-    }
-    ok
-}
-
-// Whether the first count segments' steps are right.
-fn all_right(
-    genome: &[u32; MOST_STARTS],
-    transcript: &[u32; MOST_STARTS],
-    letters: &[u8; MOST_SEGMENTS],
-    count: usize,
-) -> bool
-    requires { ⌜ count ≤ mostSegments ⌝ }
-    ensures { λ r. ⌜ r ≡ allBelow (rightAt (tables (now (genome .entry)) (now (transcript .entry)) (now (letters .entry)))) count ⌝ }
-{
-    let mut ok = true;
-    let mut i = 0;
-    while i < count {
-        ok = ok
-            & is_right(
-                letters[i],
-                genome[i],
-                genome[i + 1],
-                transcript[i],
-                transcript[i + 1],
-            );
-        i += 1;
-    }
-    ok
-}
-
-// Whether count segments hold together.
-pub fn segments_hold(
-    genome: &[u32; MOST_STARTS],
-    transcript: &[u32; MOST_STARTS],
-    letters: &[u8; MOST_SEGMENTS],
-    count: usize,
-) -> bool
-    requires { ⌜ count ≤ mostSegments ⌝ }
-    ensures { λ r. ⌜ r ≡ segmentsHold (tables (now (genome .entry)) (now (transcript .entry)) (now (letters .entry))) count ⌝ }
-{
-    let begins = (genome[0] == 0) & (transcript[0] == 0);
-    let letters_known = all_known(letters, count);
-    let steps_right = all_right(genome, transcript, letters, count);
-    begins & (letters_known & steps_right)
+// The spots of an interval's two ends.
+pub struct Spots {
+    pub start: Spot,
+    pub stop: Spot,
 }
 
 // Whether a segment's end is above p.
@@ -123,21 +43,24 @@ fn is_above(end: u32, p: i64) -> bool
     p < (end as i64)
 }
 
-// The number of the segment of the place p: the first whose end is above p, or else the last.
+// The number of the segment of the place p: the first whose end is above p, or else the last. No entry is below the one before it, so it is found by halving.
 fn find(starts: &[u32; MOST_STARTS], count: usize, p: i64) -> usize
     requires { ⌜ (1 ≤ count) × (count ≤ mostSegments) ⌝ }
+    requires { ⌜ Rising (now starts) count ⌝ }
     ensures within { λ r. ⌜ r < count ⌝ }
     ensures found { λ r. ⌜ r ≡ indexOf (now (starts .entry)) count p ⌝ }
 {
-    let last = count - 1;
-    let mut i = 0;
-    while i < last {
-        if is_above(starts[i + 1], p) {
-            return i;
+    let mut low = 0;
+    let mut high = count - 1;
+    while low < high {
+        let middle = low + (high - low) / 2;
+        if is_above(starts[middle + 1], p) {
+            high = middle;
+        } else {
+            low = middle + 1;
         }
-        i += 1;
     }
-    i
+    low
 }
 
 // Whether the left edge of an N is the nearer one; halfway it is on strand 1.
@@ -235,59 +158,121 @@ fn spot_in(
     }
 }
 
-// The place p, which begins an interval or ends it, from one table to the other.
-fn map_place(
+// The number of the segment of the place q, where that of p is at hand: an interval of one place is looked for once.
+fn find_beside(starts: &[u32; MOST_STARTS], count: usize, p: i64, number: usize, q: i64) -> usize
+    requires { ⌜ (1 ≤ count) × (count ≤ mostSegments) ⌝ }
+    requires { ⌜ Rising (now starts) count ⌝ }
+    requires { ⌜ (number < count) × (number ≡ indexOf (now starts) count p) ⌝ }
+    ensures within { λ r. ⌜ r < count ⌝ }
+    ensures found { λ r. ⌜ r ≡ indexOf (now (starts .entry)) count q ⌝ }
+{
+    if q == p {
+        return number;
+    }
+    find(starts, count, q)
+}
+
+// The place p, which begins an interval or ends it, by the segment with this number.
+fn map_at(
+    from: &[u32; MOST_STARTS],
+    to: &[u32; MOST_STARTS],
+    letters: &[u8; MOST_SEGMENTS],
+    number: usize,
+    p: i64,
+    end: End,
+    forward: bool,
+) -> Spot
+    requires { ⌜ number < mostSegments ⌝ }
+    requires { ⌜ Within 36 p ⌝ }
+    ensures said { λ r. ⌜ spotSaid r ≡ spotOf (segmentAt (now (from .entry)) (now (to .entry)) (now (letters .entry)) number) p (endSaid end) forward ⌝ }
+    ensures small { λ r. ⌜ Small r ⌝ }
+{
+    spot_in(
+        number,
+        letters[number],
+        from[number],
+        from[number + 1],
+        to[number],
+        p,
+        end,
+        forward,
+    )
+}
+
+// Whether an interval's ends are one place whose spot is sure: it is then the spot of both.
+fn is_one(p: i64, q: i64, start: Spot) -> bool
+    ensures { λ r. ⌜ r ≡ (eqZ p q && start .sure) ⌝ }
+{
+    if p == q {
+        return start.sure;
+    }
+    false
+}
+
+// The places p and q, which begin and end an interval, from one table to the other.
+fn map_ends(
     from: &[u32; MOST_STARTS],
     to: &[u32; MOST_STARTS],
     letters: &[u8; MOST_SEGMENTS],
     count: usize,
     p: Place,
-    end: End,
+    q: Place,
     forward: bool,
-) -> Spot
+) -> Spots
     requires { ⌜ (1 ≤ count) × (count ≤ mostSegments) ⌝ }
-    requires { ⌜ Within 36 (p .0) ⌝ }
-    ensures said { λ r. ⌜ spotSaid r ≡ mapByTables (now (from .entry)) (now (to .entry)) (now (letters .entry)) count (p .0) (endSaid end) forward ⌝ }
-    ensures small { λ r. ⌜ Small r ⌝ }
+    requires { ⌜ Rising (now from) count ⌝ }
+    requires { ⌜ Within 36 (p .0) × Within 36 (q .0) ⌝ }
+    ensures first { λ r. ⌜ spotSaid (r .start) ≡ mapByTables (now (from .entry)) (now (to .entry)) (now (letters .entry)) count (p .0) start forward ⌝ }
+    ensures second { λ r. ⌜ spotSaid (r .stop) ≡ mapByTables (now (from .entry)) (now (to .entry)) (now (letters .entry)) count (q .0) stop forward ⌝ }
+    ensures small { λ r. ⌜ Small (r .start) × Small (r .stop) ⌝ }
 {
-    let z = p.0;
-    let i = find(from, count, z);
-    spot_in(i, letters[i], from[i], from[i + 1], to[i], z, end, forward)
+    let y = p.0;
+    let z = q.0;
+    let i = find(from, count, y);
+    let start = map_at(from, to, letters, i, y, End::Start, forward);
+    if is_one(y, z, start) {
+        return Spots { start, stop: start };
+    }
+    let j = find_beside(from, count, y, i, z);
+    let stop = map_at(from, to, letters, j, z, End::Stop, forward);
+    Spots { start, stop }
 }
 
-// Genome to transcript; forward says whether the strand is 1.
+// An interval's ends p and q from the genome to the transcript; forward says whether the strand is 1.
 pub fn genome_to_transcript(
     genome: &[u32; MOST_STARTS],
     transcript: &[u32; MOST_STARTS],
     letters: &[u8; MOST_SEGMENTS],
     count: usize,
     p: Place,
-    end: End,
+    q: Place,
     forward: bool,
-) -> Spot
+) -> Spots
     requires { ⌜ (1 ≤ count) × (count ≤ mostSegments) ⌝ }
     requires { ⌜ segmentsHold (tables (now genome) (now transcript) (now letters)) count ≡ true ⌝ }
-    requires { ⌜ Within 36 (p .0) ⌝ }
-    ensures said { λ r. ⌜ spotSaid r ≡ toTranscript (tables (now (genome .entry)) (now (transcript .entry)) (now (letters .entry))) count (p .0) (endSaid end) forward ⌝ }
-    ensures small { λ r. ⌜ Small r ⌝ }
+    requires { ⌜ Within 36 (p .0) × Within 36 (q .0) ⌝ }
+    ensures first { λ r. ⌜ spotSaid (r .start) ≡ toTranscript (tables (now (genome .entry)) (now (transcript .entry)) (now (letters .entry))) count (p .0) start forward ⌝ }
+    ensures second { λ r. ⌜ spotSaid (r .stop) ≡ toTranscript (tables (now (genome .entry)) (now (transcript .entry)) (now (letters .entry))) count (q .0) stop forward ⌝ }
+    ensures small { λ r. ⌜ Small (r .start) × Small (r .stop) ⌝ }
 {
-    map_place(genome, transcript, letters, count, p, end, forward)
+    map_ends(genome, transcript, letters, count, p, q, forward)
 }
 
-// Transcript to genome, where the strand counts as 1.
+// From the transcript to the genome, where the strand counts as 1.
 pub fn transcript_to_genome(
     genome: &[u32; MOST_STARTS],
     transcript: &[u32; MOST_STARTS],
     letters: &[u8; MOST_SEGMENTS],
     count: usize,
     p: Place,
-    end: End,
-) -> Spot
+    q: Place,
+) -> Spots
     requires { ⌜ (1 ≤ count) × (count ≤ mostSegments) ⌝ }
     requires { ⌜ segmentsHold (tables (now genome) (now transcript) (now letters)) count ≡ true ⌝ }
-    requires { ⌜ Within 36 (p .0) ⌝ }
-    ensures said { λ r. ⌜ spotSaid r ≡ toGenome (tables (now (genome .entry)) (now (transcript .entry)) (now (letters .entry))) count (p .0) (endSaid end) ⌝ }
-    ensures small { λ r. ⌜ Small r ⌝ }
+    requires { ⌜ Within 36 (p .0) × Within 36 (q .0) ⌝ }
+    ensures first { λ r. ⌜ spotSaid (r .start) ≡ toGenome (tables (now (genome .entry)) (now (transcript .entry)) (now (letters .entry))) count (p .0) start ⌝ }
+    ensures second { λ r. ⌜ spotSaid (r .stop) ≡ toGenome (tables (now (genome .entry)) (now (transcript .entry)) (now (letters .entry))) count (q .0) stop ⌝ }
+    ensures small { λ r. ⌜ Small (r .start) × Small (r .stop) ⌝ }
 {
-    map_place(transcript, genome, letters, count, p, end, true)
+    map_ends(transcript, genome, letters, count, p, q, true)
 }

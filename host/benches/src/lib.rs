@@ -21,29 +21,57 @@ pub const SIZES: [usize; 3] = [10, 200, 2_000];
 /// How many positions are asked.
 pub const POSITIONS: usize = 30_000;
 
-/// The elements of an exon, which all match: 100 bases.
-const PARTS: [&str; 3] = ["40=", "X", "59="];
-const EXON: i32 = 100;
+/// The letters of the transcripts that are timed.
+#[derive(Clone, Copy, PartialEq, Eq)]
+pub enum Letters {
+    /// Exons that match, with introns between them.
+    Matches,
+    /// An insertion or a deletion in each exon.
+    Mixed,
+}
+
+/// The three elements of an exon, which has so many bases of the genome and of the transcript.
+struct Exon {
+    parts: [&'static str; 3],
+    genome: i32,
+    transcript: i32,
+}
+
+const MATCHES: Exon = Exon { parts: ["40=", "X", "59="], genome: 100, transcript: 100 };
+const INSERTED: Exon = Exon { parts: ["40=", "2I", "58="], genome: 100, transcript: 98 };
+const DELETED: Exon = Exon { parts: ["40=", "D", "60="], genome: 100, transcript: 101 };
+const PARTS: usize = MATCHES.parts.len();
 const INTRON: i32 = 900;
+
+/// The exon at an index.
+fn exon(letters: Letters, index: usize) -> Exon {
+    match letters {
+        Letters::Matches => MATCHES,
+        Letters::Mixed if index % 2 == 0 => INSERTED,
+        Letters::Mixed => DELETED,
+    }
+}
 
 /// A transcript of so many segments: exons of three elements with introns between them, and what is left over as elements of
 /// the last exon. Its CDS leaves out a tenth at each end.
-pub fn transcript(segments: usize, strand: i32) -> Case {
-    let exons = segments.div_ceil(PARTS.len() + 1).max(1);
-    let exons = if exons * (PARTS.len() + 1) - 1 > segments { exons - 1 } else { exons };
-    let left_over = segments - (exons * (PARTS.len() + 1) - 1);
-    let long = |index: usize| EXON + if index + 1 == exons { left_over as i32 } else { 0 };
+pub fn transcript(letters: Letters, segments: usize, strand: i32) -> Case {
+    let exons = segments.div_ceil(PARTS + 1).max(1);
+    let exons = if exons * (PARTS + 1) - 1 > segments { exons - 1 } else { exons };
+    let left_over = segments - (exons * (PARTS + 1) - 1);
+    let further = |index: usize| if index + 1 == exons { left_over } else { 0 };
+    let total = (0..exons).map(|index| exon(letters, index).transcript).sum::<i32>() + left_over as i32;
     let mut records = Vec::new();
-    let (mut alt, total) = (1_000, exons as i32 * EXON + left_over as i32);
+    let mut alt = 1_000;
     let mut tx = if strand == 1 { 0 } else { total };
     for index in 0..exons {
-        let mut cigar = PARTS.concat();
-        cigar.push_str(&if index + 1 == exons { "M".repeat(left_over) } else { String::new() });
-        let tx_start = if strand == 1 { tx } else { tx - long(index) };
-        let numbers = [alt, alt + long(index), tx_start, tx_start + long(index), strand * index as i32];
+        let Exon { parts, genome, transcript } = exon(letters, index);
+        let (genome, transcript) = (genome + further(index) as i32, transcript + further(index) as i32);
+        let cigar = parts.concat() + &"M".repeat(further(index));
+        let tx_start = if strand == 1 { tx } else { tx - transcript };
+        let numbers = [alt, alt + genome, tx_start, tx_start + transcript, strand * index as i32];
         records.push(Record { numbers, cigar: cigar.into_bytes() });
-        alt += long(index) + INTRON;
-        tx += strand * long(index);
+        alt += genome + INTRON;
+        tx += strand * transcript;
     }
     Case { strand, cds_start: Some(total / 10), cds_end: Some(total - total / 10), records }
 }
@@ -62,8 +90,8 @@ pub struct Asking {
 
 impl Asking {
     /// Builds a transcript.
-    pub fn new(segments: usize, strand: i32) -> Asking {
-        let case = transcript(segments, strand);
+    pub fn new(letters: Letters, segments: usize, strand: i32) -> Asking {
+        let case = transcript(letters, segments, strand);
         let bytes = case.lay();
         let source = Source::Records(paper::build(case.laid(&bytes)).expect("it builds"));
         let mut lent = Lent::filled(0);
@@ -112,8 +140,8 @@ pub struct Bench {
 
 impl Bench {
     /// Builds a transcript on both sides, and holds them to each other at every position.
-    pub fn new(segments: usize, strand: i32) -> Bench {
-        let asking = Asking::new(segments, strand);
+    pub fn new(letters: Letters, segments: usize, strand: i32) -> Bench {
+        let asking = Asking::new(letters, segments, strand);
         let Some(Outcome::Answered(mut mapper)) = original::build(&asking.case) else { panic!("it builds") };
         let about_g = |kind| (0..POSITIONS).map(|index| asking.about_g(kind, index)).collect::<Vec<_>>();
         let (g_to_n, g_to_c) = (about_g(Kind::GToN), about_g(Kind::GToC));

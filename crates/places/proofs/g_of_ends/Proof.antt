@@ -38,15 +38,14 @@ test-is c =
 
 returns : tie.Need-returns
 returns c =
-    let y = c .before .before .before in
-    let x = y .before in
+    let x = c .before .before .before in
     let t = x .before in
     let q = t .before .before in
     let p = q .before .before in
     let s = p .before .before .before in
     let a = s .args in
     let from = rw (from-is p) at (x .transcript-to-genome .ensures .0) in
-    let to = rw (to-is q) at (y .transcript-to-genome2 .ensures .0) in
+    let to = rw (to-is q) at (x .transcript-to-genome .ensures .1 .0) in
     let o = told w32 (a .a .offset) (c .before .before .struct-told3 .given .1 .0 .1) in
     let u = told w32 (a .b .offset) (c .before .struct-told4 .given .1 .0 .1) in
     rw (g-answered (a .at) _ (s .pre) (a .strict) (paperNAsked (a .a)) (paperNAsked (a .b)) (test-is (t .before) ∙ t .if1 .taken))
@@ -62,7 +61,6 @@ pub g-of-ends-spec : {M : Type 1} → statement M
 g-of-ends-spec =
     tie.close
     (tie.spec
-    (λ c κs. search needs)
     (λ c κs. search needs)
     (λ c κs. search needs)
     (λ c κs. search needs)

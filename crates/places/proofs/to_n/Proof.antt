@@ -25,14 +25,13 @@ test-is c =
 
 returns : tie.Need-returns
 returns c =
-    let y = c .before .before in
-    let x = y .before in
+    let x = c .before .before in
     let t = x .before in
     let q = t .before .before .before in
     let s = q .before .before in
     let a = s .args in
     let from = rw (from-is (q .before)) at (x .genome-to-transcript .ensures .0) in
-    let to = rw (to-is q) at (y .genome-to-transcript2 .ensures .0) in
+    let to = rw (to-is q) at (x .genome-to-transcript .ensures .1 .0) in
     rw (n-answered (a .at) _ (s .pre) (a .strict) (a .from) (a .to) (test-is (t .before) ∙ t .if1 .taken))
     (simp (from, to, c .before .last2 .ensures) at (c .n-answer .ensures))
 
@@ -46,7 +45,6 @@ pub to-n-spec : {M : Type 1} → statement M
 to-n-spec =
     tie.close
     (tie.spec
-    (λ c κs. search needs)
     (λ c κs. search needs)
     (λ c κs. search needs)
     (λ c κs. search needs)

@@ -1,32 +1,27 @@
--- Each segment that the loop passed ends at p or before, so that the one where it stops is the first whose end is above p, or the last: there is only one such number. A signed number stands in an invariant as its bits, so p is `toZ w64 p` there. Assumes nothing.
-use Prim.Native.Nat.{ℕ, _-_, _≤_, _<_}
+-- The loop keeps the segment sought between `low` and `high` (`Bracket`), and one is left in the end. A signed number stands in an invariant as its bits, so p is `toZ w64 p` there. Assumes nothing.
+use Prim.Native.Nat.{_-_}
 use native.Mathlib.Omega.{arith}
-use mathlib.Core.Bool.{false}
 use mathlib.Core.Path.{_≡_, sym, _∙_}
-use borrow.Author.Count.{below-none, below-more}
 use borrow.Author.Needs.{needs}
 use mir.Syntax.{w64}
 use mir.Val.{toZ}
 use Rattle.whole.specs.laws.Whole.{read}
-use Rattle.segments.specs.Places.{endsAbove}
-use Rattle.segments.specs.laws.Finding.{index-is}
+use Rattle.segments.proofs.Halving.{Bracket, bracket-all, bracket-down, bracket-up, bracket-done}
 use Rattle.segments.proofs.find.Statement.{statement}
 use Rattle.segments.proofs.find.Tie as tie
 
 abbrev Inv-loop : tie.InvT-loop
-Inv-loop starts count p last i₀ i = (i ≤ last) × ((k : ℕ) → k < i → endsAbove starts (toZ w64 p) k ≡ false)
+Inv-loop starts count p low₀ high₀ low high = Bracket starts count (toZ w64 p) low high
 
 abbrev μ-loop : tie.MeasureT-loop
-μ-loop starts count p last i₀ i = last - i
-
-sub-last : tie.Need-sub-last Inv-loop μ-loop
-sub-last c = search needs
+μ-loop starts count p low₀ high₀ low high = high - low
 
 loop-holds : tie.Need-loop-holds Inv-loop μ-loop
-loop-holds c = (search needs, below-none _)
+loop-holds c = bracket-all (omega arith)
 
+-- the middle's index lies in the table, as `high` does
 add-is-above : tie.Need-add-is-above Inv-loop μ-loop
-add-is-above c = search needs
+add-is-above c = let b = c .before .loop .inv in omega (arith, b .within)
 
 mul-is-above : tie.Need-mul-is-above Inv-loop μ-loop
 mul-is-above c = search needs
@@ -34,30 +29,21 @@ mul-is-above c = search needs
 element-copy-out-is-above : tie.Need-element-copy-out-is-above Inv-loop μ-loop
 element-copy-out-is-above c = search needs
 
-is-above-requires : tie.Need-is-above-requires Inv-loop μ-loop
-is-above-requires c κs = search needs
-
-returns : tie.Need-returns Inv-loop μ-loop
-returns c =
-    let at-loop = c .before .before .before .before in
-    let p = read (at-loop .before .fits .p) in
-    (search needs, index-is _ _ _ (record { below = omega arith; passed = simp p at (at-loop .loop .inv .1); here = λ _. simp p at (sym (c .before .is-above .ensures) ∙ c .if1 .taken) }))
-
-add-i : tie.Need-add-i Inv-loop μ-loop
-add-i c = search needs
-
-loop-less : tie.Need-loop-less Inv-loop μ-loop
-loop-less c = search needs
-
 loop-again : tie.Need-loop-again Inv-loop μ-loop
 loop-again c =
     let at-loop = c .before .before .before .before in
-    (search needs, below-more _ _ (at-loop .loop .inv .1) (sym (c .before .is-above .ensures) ∙ c .if1 .left))
+    bracket-down (at-loop .loop .inv) (omega arith) (omega arith) (sym (c .before .is-above .ensures) ∙ c .if1 .taken)
 
-returns-2 : tie.Need-returns-2 Inv-loop μ-loop
-returns-2 c =
+loop-again-2 : tie.Need-loop-again-2 Inv-loop μ-loop
+loop-again-2 c =
+    let at-loop = c .before .before .before .before in
+    bracket-up (at-loop .loop .inv) (at-loop .before .pre .1) (omega arith) (sym (c .before .is-above .ensures) ∙ c .if1 .left)
+
+returns : tie.Need-returns Inv-loop μ-loop
+returns c =
+    let b = c .before .loop .inv in
     let p = read (c .before .before .fits .p) in
-    (search needs, index-is _ _ _ (record { below = omega arith; passed = simp p at (c .before .loop .inv .1); here = λ more. absurd (omega arith) }))
+    (omega (arith, b .ordered, b .within), simp p at (bracket-done b (c .loop-test .left)))
 
 pub find-spec : {M : Type 1} → statement M
 find-spec =
@@ -65,14 +51,17 @@ find-spec =
     (tie.spec
     Inv-loop
     μ-loop
-    sub-last
+    (λ c. search needs)
     loop-holds
+    (λ c. search needs)
+    (λ c. search needs)
     add-is-above
     mul-is-above
     element-copy-out-is-above
-    is-above-requires
-    returns
-    add-i
-    loop-less
+    (λ c κs. search needs)
+    (λ c. search needs)
     loop-again
-    returns-2)
+    (λ c. search needs)
+    (λ c. search needs)
+    loop-again-2
+    returns)

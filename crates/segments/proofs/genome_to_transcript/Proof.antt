@@ -1,18 +1,24 @@
--- The tables hold together, so that what they map a place to is what their elements do. Assumes nothing.
+-- The tables hold together, so that they rise, and what they map a place to is what their elements do. Assumes nothing.
 use mathlib.Core.Path.{_∙_}
 use native.Mathlib.Omega.{arith}
 use borrow.Author.Needs.{needs}
-use Rattle.segments.specs.Tables.{tables}
+use Rattle.segments.specs.Tables.{tables, Holds}
 use Rattle.segments.specs.laws.Meaning.{holds-means}
 use Rattle.segments.specs.laws.Reading.{by-genome}
 use Rattle.segments.proofs.genome_to_transcript.Statement.{statement}
 use Rattle.segments.proofs.genome_to_transcript.Tie as tie
 
+held : (c : tie.Start) → let a = c .args in Holds (tables (a .genome .now) (a .transcript .now) (a .letters .now)) (a .count)
+held c = holds-means _ _ (c .pre .1 .0)
+
+map-ends-requires : tie.Need-map-ends-requires
+map-ends-requires c κs = (search needs, (held c .genome-rises, search needs))
+
 returns : tie.Need-returns
 returns c =
-    let a = c .before .args in
-    let holds = holds-means (tables (a .genome .now) (a .transcript .now) (a .letters .now)) (a .count) (c .before .pre .1 .0) in
-    (c .map-place .ensures .0 ∙ by-genome _ _ holds (omega arith) _ _ _, c .map-place .ensures .1)
+    let e = c .map-ends .ensures in
+    let holds = held (c .before) in
+    (e .0 ∙ by-genome _ _ holds (omega arith) _ _ _, (e .1 .0 ∙ by-genome _ _ holds (omega arith) _ _ _, e .1 .1))
 
 pub genome-to-transcript-spec : {M : Type 1} → statement M
-genome-to-transcript-spec = tie.close (tie.spec (λ c κs. search needs) returns)
+genome-to-transcript-spec = tie.close (tie.spec map-ends-requires returns)

@@ -1,19 +1,21 @@
--- The number of a place's segment: what is so of it, and that it is the only such number. Assumes nothing.
+-- The number of a place's segment: what is so of it, and that it is the only such number; and a place that is both ends of an interval. Assumes nothing.
 use Prim.Native.Nat.{ℕ, zero, suc, _+_, _-_, _≤_, _<_}
 use native.Mathlib.Numerals.{add-one}
 use native.Mathlib.Omega.{arith}
-use mathlib.Core.Bool.{Bool, true, false}
+use mathlib.Core.Bool.{Bool, true, false, false≢true}
 use mathlib.Core.List.{List, [], _∷_}
-use mathlib.Core.Path.{_≡_, sym, ap, subst, _∙_}
+use mathlib.Core.Path.{_≡_, refl, sym, ap, subst, _∙_}
 use lib.Dec.{ltb}
 use lib.IntN.{ℤ, pos}
 use lib.ListN.{getD, length}
 use lib.Signed.{ltZ}
 use borrow.Author.Tests.{ltb-true, ltb-false}
 use Rattle.whole.specs.laws.Whole.{by-test}
-use Rattle.cigar.specs.Elements.{Element, Side, total}
+use Rattle.cigar.specs.Elements.{Element, Side, Kind, total}
+use Rattle.cigar.specs.Elements.Kind.{matches, inserts, deletes, skips}
 use Rattle.segments.specs.Tables.{entriesOf}
-use Rattle.segments.specs.Places.{firstBelow, endsAbove, indexOf}
+use Rattle.segments.specs.Places.{firstBelow, endsAbove, indexOf, Segment, Spot, spotIn, spotOf}
+use Rattle.segments.specs.Places.End.{start, stop}
 use Rattle.segments.specs.laws.Made.{entry-first, entry-total}
 
 -- of the numbers below n, i is the first at which f is true, or else the last
@@ -90,3 +92,15 @@ inside side es k h = go _ (index-says from (length es) (pos k) (some-elements si
           (λ e. ltb-true _ _ (s .here (ltb-true _ _ e)))
           (λ e. let last : i + 1 ≡ length es = omega (arith, s .below, ltb-false) in rw last (omega (arith, entry-total side es)));
     }
+
+-- a spot that is sure is the same for an interval's start and its end
+pub ends-alike : (s : Segment) (p : ℤ) (forward : Bool) → spotOf s p start forward .sure ≡ true → spotOf s p stop forward ≡ spotOf s p start forward
+unfolding spotIn
+ends-alike s p forward h = go (s .does) h
+  where
+    go : (k : Kind) → spotIn (s .number) k (s .begins) (s .ends) (s .other) p start forward .sure ≡ true
+        → spotIn (s .number) k (s .begins) (s .ends) (s .other) p stop forward ≡ spotIn (s .number) k (s .begins) (s .ends) (s .other) p start forward
+    go matches h = refl
+    go inserts h = absurd (false≢true h)
+    go deletes h = absurd (false≢true h)
+    go skips h = refl

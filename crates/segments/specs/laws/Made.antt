@@ -119,8 +119,8 @@ module _ (es : List Element) where
     genome-from-0 = simp padded-at (entry-first genome es);
     transcript-from-0 = simp padded-at (entry-first transcript es);
     letters = λ i below. simp (padded-at, letter-at) (lettered-at es i lettered below);
-    genome-rises = λ i below. simp padded-at (omega (arith, entry-next genome es i below));
-    transcript-rises = λ i below. simp padded-at (omega (arith, entry-next transcript es i below));
+    genome-rises = record { each = λ i below. simp padded-at (omega (arith, entry-next genome es i below)) };
+    transcript-rises = record { each = λ i below. simp padded-at (omega (arith, entry-next transcript es i below)) };
     steps = λ i below.
         let x = getD es i nowhere in
         simp (padded-at, letter-at, genome-step i below, transcript-step i below) (steps-right (kindOf (x .letter)) (x .count));

@@ -1,18 +1,21 @@
 -- What the tests of `Tables` mean: each is true exactly where the facts hold that it stands for. Assumes nothing.
-use Prim.Native.Nat.{ℕ, zero, suc, _-_, _≤_, _<_}
-use native.Mathlib.Nat.{not-suc-le-zero, le-of-suc-le-suc, eq-or-lt-of-le, le-step, le-refl}
+use Prim.Native.Nat.{ℕ, zero, suc, _+_, _-_, _≤_, _<_}
+use native.Mathlib.Nat.{not-suc-le-zero, le-of-suc-le-suc, eq-or-lt-of-le, le-of-eq, le-trans, le-step, le-refl}
+use native.Mathlib.Numerals.{add-one}
+use native.Mathlib.Omega.{arith}
 use mathlib.Core.Bool.{Bool, true, _&&_}
+use mathlib.Core.List.{List}
 use mathlib.Core.Logic.{⊎-elim}
-use mathlib.Core.Path.{_≡_, refl, sym, subst}
+use mathlib.Core.Path.{_≡_, refl, sym, ap, subst}
 use lib.ListN.{getD}
 use lib.Dec.{leb, eqb}
 use borrow.Author.Tests.{leb-true, eqb-true, le-leb, eq-eqb}
 use Rattle.whole.specs.laws.Whole.{both, both-of}
 use Rattle.cigar.specs.Elements.{kindOf}
-use Rattle.segments.specs.Tables.{Tables, allBelow, stepRight, stepsOf, knownAt, rightAt, segmentsHold, Holds}
+use Rattle.segments.specs.Tables.{Tables, allBelow, stepRight, stepsOf, knownAt, rightAt, segmentsHold, Rising, Holds}
 
 -- `allBelow f n` is true exactly where f is true at each number below n
-all-at : (f : ℕ → Bool) (n : ℕ) → allBelow f n ≡ true → (i : ℕ) → i < n → f i ≡ true
+pub all-at : (f : ℕ → Bool) (n : ℕ) → allBelow f n ≡ true → (i : ℕ) → i < n → f i ≡ true
 unfolding allBelow
 all-at f zero e i l = absurd (not-suc-le-zero l)
 all-at f (suc n) e i l =
@@ -21,10 +24,19 @@ all-at f (suc n) e i l =
     (λ (q : i < n). all-at f n (both (allBelow f n) (f n) e .0) i q)
     (eq-or-lt-of-le (le-of-suc-le-suc l))
 
-all-of : (f : ℕ → Bool) (n : ℕ) → ((i : ℕ) → i < n → f i ≡ true) → allBelow f n ≡ true
+pub all-of : (f : ℕ → Bool) (n : ℕ) → ((i : ℕ) → i < n → f i ≡ true) → allBelow f n ≡ true
 unfolding allBelow
 all-of f zero h = refl
 all-of f (suc n) h = both-of (all-of f n (λ i l. h i (le-step l))) (h n (le-refl (suc n)))
+
+-- where no entry is below the one before it, none is below an earlier one
+pub rising : (entries : List ℕ) (n : ℕ) → Rising entries n → (i j : ℕ) → i ≤ j → j ≤ n → getD entries i 0 ≤ getD entries j 0
+rising entries n up i zero i≤j j≤n = le-of-eq (ap (λ (k : ℕ). getD entries k 0) (omega arith))
+rising entries n up i (suc j) i≤j j≤n =
+    ⊎-elim
+    (λ (e : i ≡ suc j). le-of-eq (ap (λ (k : ℕ). getD entries k 0) e))
+    (λ (l : i < suc j). le-trans (rising entries n up i j (omega arith) (omega arith)) (rw add-one at (up .each j j≤n)))
+    (eq-or-lt-of-le i≤j)
 
 -- the parts of one segment's test
 module _ (c g₀ g₁ t₀ t₁ : ℕ) where
@@ -54,8 +66,8 @@ module _ (a : Tables) (n : ℕ) where
         genome-from-0 = eqb-true (getD (a .genome) 0 0) 0 g-begins;
         transcript-from-0 = eqb-true (getD (a .transcript) 0 0) 0 t-begins;
         letters = all-at (knownAt (a .letters)) n letters;
-        genome-rises = λ i below. right-parts _ _ _ _ _ (right i below) .0;
-        transcript-rises = λ i below. right-parts _ _ _ _ _ (right i below) .1;
+        genome-rises = record { each = λ i below. right-parts _ _ _ _ _ (right i below) .0 };
+        transcript-rises = record { each = λ i below. right-parts _ _ _ _ _ (right i below) .1 };
         steps = λ i below. right-parts _ _ _ _ _ (right i below) .2;
       }
 
@@ -64,4 +76,4 @@ module _ (a : Tables) (n : ℕ) where
   holds-where h =
       both-of
       (both-of (eq-eqb (getD (a .genome) 0 0) 0 (h .genome-from-0)) (eq-eqb (getD (a .transcript) 0 0) 0 (h .transcript-from-0)))
-      (both-of (all-of (knownAt (a .letters)) n (h .letters)) (all-of (rightAt a) n (λ i below. right-of _ _ _ _ _ (h .genome-rises i below) (h .transcript-rises i below) (h .steps i below))))
+      (both-of (all-of (knownAt (a .letters)) n (h .letters)) (all-of (rightAt a) n (λ i below. right-of _ _ _ _ _ (h .genome-rises .each i below) (h .transcript-rises .each i below) (h .steps i below))))

@@ -73,7 +73,7 @@ module _ (a : Tables) (n : ℕ) (holds : Holds a n) where
   unfolding genome transcript
   both-step i below =
       let (dg, dt) = steps-say (kindOf (getD (a .letters) i 0)) _ _ (holds .steps i below) in
-      (omega (arith, dg, holds .genome-rises i below), omega (arith, dt, holds .transcript-rises i below))
+      (omega (arith, dg, holds .genome-rises .each i below), omega (arith, dt, holds .transcript-rises .each i below))
 
   pub genome-step : (i : ℕ) → i < n → getD (a .genome) i 0 + genome (elementAt a i) ≡ getD (a .genome) (i + 1) 0
   genome-step i below = both-step i below .0

@@ -1,6 +1,6 @@
 //! Asks one kind of question many times, for a tool that counts instructions.
 
-use benches::{Asking, POSITIONS};
+use benches::{Asking, Letters, POSITIONS};
 use clap::{Parser, ValueEnum};
 use trials::{Kind, Lent};
 
@@ -29,7 +29,7 @@ enum Which {
 
 fn main() {
     let Options { kind, segments, strand, count } = Options::parse();
-    let asking = Asking::new(segments, strand);
+    let asking = Asking::new(Letters::Matches, segments, strand);
     let bytes = asking.case.lay();
     for index in (0..count).map(|index| index * POSITIONS / count) {
         let question = match kind {

@@ -8,7 +8,7 @@ use std::{
     time::{Duration, Instant},
 };
 
-use benches::{Bench, POSITIONS, SIZES};
+use benches::{Bench, Letters, POSITIONS, SIZES};
 use clap::Parser;
 use compare::original::{self, Outcome};
 use pulindraxi::{
@@ -39,12 +39,12 @@ fn best<const N: usize>(rounds: usize, times: usize, contestants: [&dyn Fn(); N]
     best.map(|time| time.as_nanos() as f64 / times as f64)
 }
 
-fn questions(rounds: usize) {
+fn questions(rounds: usize, letters: Letters) {
     println!("| segments | strand | question | crate, ns | port, ns | port / crate | of it check 23, ns | finding and the rest, ns |");
     println!("|---|---|---|---|---|---|---|---|");
     for segments in SIZES {
         for strand in [1, -1] {
-            let Bench { asking, mapper, c_to_g, crate_g, crate_c, .. } = Bench::new(segments, strand);
+            let Bench { asking, mapper, c_to_g, crate_g, crate_c, .. } = Bench::new(letters, segments, strand);
             let of = black_box(&asking.lent).reading();
             let check = || {
                 for _ in 0..POSITIONS {
@@ -86,7 +86,7 @@ fn buildings(rounds: usize) {
     println!("\n| segments | building in the crate, µs | by the port, µs | port / crate | tables of the crate, bytes | of the port, bytes |");
     println!("|---|---|---|---|---|---|");
     for segments in SIZES {
-        let bench = Bench::new(segments, 1);
+        let bench = Bench::new(Letters::Matches, segments, 1);
         let bytes = bench.asking.case.lay();
         let from = bench.asking.case.laid(&bytes);
         let lent = RefCell::new(Lent::filled(0));
@@ -150,7 +150,7 @@ fn words(rounds: usize) {
 
 /// Whether the crate is built as for use, where an overflow wraps.
 fn crate_wraps() -> bool {
-    let mut bench = Bench::new(SIZES[0], 1);
+    let mut bench = Bench::new(Letters::Matches, SIZES[0], 1);
     let start = Asked { base: i32::MIN, ..Asked::default() };
     let question = Question { start, strict: false, ..bench.g_to_n[0] };
     original::ask(&mut bench.mapper, &question) != Outcome::Panicked
@@ -163,7 +163,9 @@ fn main() -> ExitCode {
         eprintln!("ratios: the crate has overflow checks; build with --profile bench");
         return ExitCode::FAILURE;
     }
-    questions(options.rounds);
+    questions(options.rounds, Letters::Matches);
+    println!("\nWith an insertion or a deletion in each exon:\n");
+    questions(options.rounds, Letters::Mixed);
     buildings(options.rounds);
     words(options.rounds);
     ExitCode::SUCCESS

@@ -1,9 +1,9 @@
 -- Where no step is negative, the differences that wrap are the steps, and the one test of what each letter leaves of them is the letter's own. Assumes nothing.
 use native.Mathlib.Omega.{arith}
 use borrow.Author.Needs.{needs}
-use Rattle.segments.proofs.Steps.{right-wrapped}
-use Rattle.segments.proofs.is_right.Statement.{statement}
-use Rattle.segments.proofs.is_right.Tie as tie
+use Rattle.together.proofs.OneStep.{right-wrapped}
+use Rattle.together.proofs.is_right.Statement.{statement}
+use Rattle.together.proofs.is_right.Tie as tie
 
 -- the results of the two calls of `wrapping_sub_u32` fit a `u32`, which `omega` finds
 returns : tie.Need-returns

@@ -1,8 +1,8 @@
 -- The code's six tests are the definition's. Assumes nothing.
 use mathlib.Core.Path.{refl}
 use Rattle.cigar.specs.Elements.{isLetter}
-use Rattle.segments.proofs.is_known.Statement.{statement}
-use Rattle.segments.proofs.is_known.Tie as tie
+use Rattle.together.proofs.is_known.Statement.{statement}
+use Rattle.together.proofs.is_known.Tie as tie
 
 returns : tie.Need-returns
 unfolding isLetter

@@ -2,10 +2,10 @@
 use Prim.Native.Nat.{_≤_, _-_}
 use mathlib.Core.Path.{_≡_}
 use borrow.Author.Needs.{needs}
 use Rattle.segments.specs.Tables.{tables, allBelow, rightAt}
-use Rattle.segments.proofs.All.{all-none, all-more, all-done}
-use Rattle.segments.proofs.all_right.Statement.{statement}
-use Rattle.segments.proofs.all_right.Tie as tie
+use Rattle.together.proofs.All.{all-none, all-more, all-done}
+use Rattle.together.proofs.all_right.Statement.{statement}
+use Rattle.together.proofs.all_right.Tie as tie
 
 abbrev Inv-loop : tie.InvT-loop
 Inv-loop genome transcript letters count ok₀ i₀ ok i = (i ≤ count) × (ok ≡ allBelow (rightAt (tables genome transcript letters)) i)

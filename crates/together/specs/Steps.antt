@@ -1,0 +1,72 @@
+-- A segment's steps as the machine takes them: differences that may wrap, and the bit that no length has. Assumes nothing.
+use Prim.Native.Nat.{ℕ, _+_, _-_, _^_}
+use mathlib.Core.Bool.{Bool, cond, _&&_, _||_}
+use mathlib.Core.List.{List}
+use lib.Dec.{eqb, leb, ltb}
+use lib.ListN.{getD}
+use Rattle.whole.specs.Whole.{if_then_else_}
+use Rattle.cigar.specs.Elements.{letterD, letterEqual, letterI, letterM, letterN, letterX}
+use Rattle.segments.specs.Tables.{Tables}
+
+-- the difference of two entries; one that would be negative wraps
+unfoldable pub wrapped : ℕ → ℕ → ℕ
+wrapped later earlier = if leb earlier later then later - earlier else later + 2 ^ 32 - earlier
+
+-- a number without the highest bit of 32
+unfoldable pub low : ℕ → Bool
+low n = ltb n (2 ^ 31)
+
+-- ---- one segment of the letter c, which goes from g₀ to g₁ and from t₀ to t₁
+
+-- what the letter lets the transcript see of the genome's step is what it lets the genome see of the transcript's
+unfoldable pub same : ℕ → ℕ → ℕ → ℕ → ℕ → Bool
+same c g₀ g₁ t₀ t₁ = eqb (cond (eqb c letterI || eqb c letterN) 0 (wrapped g₁ g₀)) (cond (eqb c letterD) 0 (wrapped t₁ t₀))
+
+-- no step and no end is high
+unfoldable pub lowSteps : ℕ → ℕ → ℕ → ℕ → Bool
+lowSteps g₀ g₁ t₀ t₁ = low (wrapped g₁ g₀) && low g₁ && low (wrapped t₁ t₀) && low t₁
+
+-- the common letters, which advance both sides alike or, as N, the genome alone: = M N X
+unfoldable pub isCommon : ℕ → Bool
+isCommon c = eqb c letterEqual || eqb c letterM || eqb c letterN || eqb c letterX
+
+-- the same tests for them: the transcript goes no further than the genome, so its steps and ends are not looked at
+unfoldable pub commonSame : ℕ → ℕ → ℕ → ℕ → ℕ → Bool
+commonSame c g₀ g₁ t₀ t₁ = eqb (cond (eqb c letterN) 0 (wrapped g₁ g₀)) (wrapped t₁ t₀)
+
+unfoldable pub commonLow : ℕ → ℕ → Bool
+commonLow g₀ g₁ = low (wrapped g₁ g₀) && low g₁
+
+-- ---- segment i of tables
+
+abbrev at : (ℕ → ℕ → ℕ → ℕ → ℕ → Bool) → Tables → ℕ → Bool
+at test a i = test (getD (a .letters) i 0) (getD (a .genome) i 0) (getD (a .genome) (i + 1) 0) (getD (a .transcript) i 0) (getD (a .transcript) (i + 1) 0)
+
+abbrev pub sameAt : Tables → ℕ → Bool
+sameAt a i = at same a i
+
+abbrev pub lowAt : Tables → ℕ → Bool
+lowAt a i = at (λ c g₀ g₁ t₀ t₁. lowSteps g₀ g₁ t₀ t₁) a i
+
+abbrev pub commonAt : List ℕ → ℕ → Bool
+commonAt letters i = isCommon (getD letters i 0)
+
+abbrev pub commonSameAt : Tables → ℕ → Bool
+commonSameAt a i = at commonSame a i
+
+abbrev pub commonLowAt : Tables → ℕ → Bool
+commonLowAt a i = at (λ c g₀ g₁ t₀ t₁. commonLow g₀ g₁) a i
+
+-- a test from the number `first` on: those before it pass
+abbrev pub from : ℕ → (ℕ → Bool) → ℕ → Bool
+from first test i = ltb i first || test i
+
+-- ---- the tables of n segments
+
+-- both begin at 0
+unfoldable pub begin : List ℕ → List ℕ → Bool
+begin genome transcript = eqb (getD genome 0 0) 0 && eqb (getD transcript 0 0) 0
+
+-- neither last entry is high
+unfoldable pub lowEnds : List ℕ → List ℕ → ℕ → Bool
+lowEnds genome transcript n = low (getD genome n 0) && low (getD transcript n 0)
