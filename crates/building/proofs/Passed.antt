@@ -17,7 +17,7 @@ use Rattle.reading.specs.Reading.{exonsOf}
 use Rattle.judging.specs.Judging.{Made, Measured, judge, elementsMade}
 use Rattle.transcript.specs.Heads.{bothBits, startOf, endOf, withCds, bareHead, bitsOf, startIn, endIn}
 use Rattle.reading.specs.Tallies.{talliedAll}
-use Rattle.filling.specs.Filling.{elementsAll, Small}
+use Rattle.filling.specs.Filling.{elementsAll, SmallSums}
 use Rattle.building.specs.Afterwards.{headOf, lengthHead}
 use Rattle.judging.specs.laws.Accepted.{Accepted, accepted-means, judged-sane, whole, cds-pass, bits-are, last-pass, Measures}
 use Rattle.transcript.specs.declared.Head.{Head}
@@ -48,7 +48,7 @@ module _ (n : Numbers) (s : List ℕ) (to : Sums) (p : Told (judge n s) to) wher
   pub is-ready : Ready (n .count) s
   is-ready = ready (made .forward) (n .count) s (omega (arith, means .pass .some, records-length (n .count) s 0)) (means .exact) (means .pass .on .sound)
 
-  pub is-small : Small to
+  pub is-small : SmallSums to
   is-small =
       let sane = judged-sane n s made (p .judged) in
       rw (p .sums-are) (record { few = sane .few; genome-small = omega (arith, sane .genome-small); transcript-small = sane .transcript-small })

@@ -40,9 +40,9 @@ lengthHead m = record {
 
 -- ---- the answer: the refusal's number, or the head
 
-abbrev pub answerOf : Outcome Made → Built
-answerOf (refused k) = answer.Refused k
-answerOf (answered m) = answer.Transcript (headOf m)
+abbrev pub builtAnswer : Outcome Made → Built
+builtAnswer (refused k) = answer.Refused k
+builtAnswer (answered m) = answer.Transcript (headOf m)
 
 abbrev pub lengthAnswer : Outcome Measured → Built
 lengthAnswer (refused k) = answer.Refused k

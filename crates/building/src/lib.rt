@@ -9,7 +9,7 @@ ghost use Rattle.transcript.specs.Heads.{bothBits, withCds, bareHead};
 ghost use Rattle.judging.specs.Judging.{judge};
 ghost use Rattle.segments.specs.Tables.{tables};
 ghost use Rattle.filling.specs.Filling.{Long};
-ghost use Rattle.building.specs.Afterwards.{answerOf, tablesAfter};
+ghost use Rattle.building.specs.Afterwards.{builtAnswer, tablesAfter};
 use reading::Sums;
 use reading::Tally;
 use records::ALT_START;
@@ -52,7 +52,7 @@ fn build_into(
     letters: &mut [u8],
 ) -> Built
     requires { ⌜ Long (tables (now genome) (now transcript) (now letters)) ⌝ }
-    ensures { λ r. ⌜ r ≡ answerOf (judge numbers (now (s .entry))) ⌝ }
+    ensures { λ r. ⌜ r ≡ builtAnswer (judge numbers (now (s .entry))) ⌝ }
     ensures { λ _. ⌜ tables (now (genome .exit)) (now (transcript .exit)) (now (letters .exit)) ≡ tablesAfter (judge numbers (now (s .entry))) (tables (now (genome .entry)) (now (transcript .entry)) (now (letters .entry))) ⌝ }
 {
     match judging::judge(numbers, s) {
@@ -74,7 +74,7 @@ pub fn build(
     transcript: &mut [u32; MOST_STARTS],
     letters: &mut [u8; MOST_SEGMENTS],
 ) -> Built
-    ensures { λ r. ⌜ r ≡ answerOf (judge numbers (now (records .entry))) ⌝ }
+    ensures { λ r. ⌜ r ≡ builtAnswer (judge numbers (now (records .entry))) ⌝ }
     ensures { λ _. ⌜ tables (now (genome .exit)) (now (transcript .exit)) (now (letters .exit)) ≡ tablesAfter (judge numbers (now (records .entry))) (tables (now (genome .entry)) (now (transcript .entry)) (now (letters .entry))) ⌝ }
 {
     build_into(numbers, records, genome, transcript, letters)

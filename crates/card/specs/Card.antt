@@ -9,7 +9,7 @@ use Rattle.refusals.specs.Numbers.{tooMuch, noCard, badVersion, mostCard}
 use Rattle.refusals.specs.Outcome.{Outcome, answered, refused}
 use Rattle.whole.specs.Whole.{if_then_else_, eqZ}
 use Rattle.fields.specs.Fields.{le16, bytes16, bytes32, bits32}
-use Rattle.records.specs.Records.{Record, fieldAt, laid, exactly}
+use Rattle.records.specs.Records.{Record, fieldAt, recordText, exactly}
 use Rattle.transcript.specs.Heads.{bothBits, startOf, endOf, strandOf, numberOf}
 use Rattle.transcript.specs.declared.Bound.{Bound}
 use Rattle.transcript.specs.declared.Bound.the-variants.{Given, Absent}
@@ -36,7 +36,7 @@ cdsByte start end = givenBit start + 2 * givenBit end
 -- records, one after the other
 unfoldable pub recordsText : List Record → List ℕ
 recordsText [] = []
-recordsText (r ∷ rs) = laid r ++ recordsText rs
+recordsText (r ∷ rs) = recordText r ++ recordsText rs
 
 -- what stands before n records
 unfoldable pub headerText : ℤ → Bound → Bound → ℕ → List ℕ

@@ -1,19 +1,10 @@
 -- The layout of a card, named once: its mark, its version, and where its numbers stand. The code's names for them are those of src/lib.rt.
 use Prim.Native.Nat.{ℕ}
-use mathlib.Core.List.{List, [], _∷_}
-
--- `TXC`, by its letters' bytes
-abbrev pub letterT : ℕ
-letterT = 84
-
-abbrev pub letterX : ℕ
-letterX = 88
-
-abbrev pub letterC : ℕ
-letterC = 67
+use mathlib.Core.List.{List}
+use Rattle.cigar.specs.Bytes.{ascii}
 
 abbrev pub mark : List ℕ
-mark = letterT ∷ letterX ∷ letterC ∷ []
+mark = ascii "TXC"
 
 abbrev pub version : ℕ
 version = 1

@@ -1,12 +1,10 @@
 -- Building from a card, and writing a card into a lent buffer. Assumes nothing.
 use Prim.Native.Nat.{ℕ}
 use mathlib.Core.List.{List}
-use lib.Dec.{ltb}
-use lib.ListN.{length, drop}
-use Rattle.refusals.specs.Numbers.{tooMuch, noRoom, mostCard}
+use lib.ListN.{drop}
+use Rattle.refusals.specs.Numbers.{mostCard}
 use Rattle.refusals.specs.Outcome.{Outcome, answered, refused}
-use Rattle.whole.specs.Whole.{if_then_else_}
-use Rattle.cigar.specs.Write.{Writing}
+use Rattle.cigar.specs.Write.{Writing, fitted}
 use Rattle.transcript.specs.declared.Numbers.{Numbers}
 use Rattle.judging.specs.Input.{inputOf}
 use Rattle.judging.specs.Judging.{Made, judge}
@@ -24,13 +22,6 @@ judgeRead s (read.Refused k) = refused k
 abbrev pub judgeCard : List ℕ → Outcome Made
 judgeCard s = judgeRead s (readCard s)
 
--- a card for a buffer of that many bytes: 3 where it has too many bytes, 20 where it is longer than the buffer
-abbrev pub fitted : ℕ → List ℕ → Writing
-fitted room text =
-    if ltb mostCard (length text) then refused tooMuch
-    else if ltb room (length text) then refused noRoom
-    else answered text
-
 -- building's refusal comes first
 abbrev pub ifTaken : Outcome Made → Writing → Writing
 ifTaken (refused k) w = refused k
@@ -38,4 +29,4 @@ ifTaken (answered m) w = w
 
 -- document 01's order: building's, 3 (size), 20
 unfoldable pub cardWriting : Numbers → List ℕ → ℕ → Writing
-cardWriting n bytes room = ifTaken (judge n bytes) (fitted room (cardText (inputOf n bytes)))
+cardWriting n bytes room = ifTaken (judge n bytes) (fitted mostCard room (cardText (inputOf n bytes)))

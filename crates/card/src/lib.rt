@@ -6,18 +6,18 @@ ghost use mathlib.Core.List.{[], _∷_, _++_};
 ghost use lib.Dec.{eqb};
 ghost use lib.ListN.{length};
 ghost use lib.Seq.{sets};
-ghost use Rattle.refusals.specs.Numbers.{mostRecords};
-ghost use Rattle.cigar.specs.Write.{answerOf, bufferAfter};
+ghost use Rattle.refusals.specs.Numbers.{mostRecords, mostCard};
+ghost use Rattle.cigar.specs.Write.{fitted, writtenAnswer, bufferAfter};
 ghost use Rattle.records.specs.Records.{exactly};
 ghost use Rattle.transcript.specs.Heads.{strandOf};
 ghost use Rattle.segments.specs.Tables.{tables};
-ghost use Rattle.building.specs.Afterwards.{answerOf as builtOf, tablesAfter};
+ghost use Rattle.building.specs.Afterwards.{builtAnswer, tablesAfter};
 ghost use Rattle.card.specs.Layout.{mark, version, startAt, recordsAt};
 ghost use Rattle.whole.specs.Whole.{eqZ};
 ghost use Rattle.fields.specs.Fields.{bytes16};
 ghost use Rattle.card.specs.Card.{strandByte, givenBit, cdsByte, headerText, cardText, isMarked, numbersIn, arePlain, isCard, readCard};
 ghost use Rattle.judging.specs.Input.{inputOf};
-ghost use Rattle.card.specs.Writing.{judgeCard, fitted, cardWriting};
+ghost use Rattle.card.specs.Writing.{judgeCard, cardWriting};
 use cigar::write::Written;
 use reading::Tally;
 use refusals::BAD_VERSION;
@@ -179,7 +179,7 @@ pub fn build_card(
     transcript: &mut [u32; MOST_STARTS],
     letters: &mut [u8; MOST_SEGMENTS],
 ) -> Built
-    ensures { λ r. ⌜ r ≡ builtOf (judgeCard (now (card .entry))) ⌝ }
+    ensures { λ r. ⌜ r ≡ builtAnswer (judgeCard (now (card .entry))) ⌝ }
     ensures { λ _. ⌜ tables (now (genome .exit)) (now (transcript .exit)) (now (letters .exit)) ≡ tablesAfter (judgeCard (now (card .entry))) (tables (now (genome .entry)) (now (transcript .entry)) (now (letters .entry))) ⌝ }
 {
     match read_card(card) {
@@ -254,8 +254,8 @@ fn put_header(buffer: &mut [u8], strand: i32, start: Bound, end: Bound, count: u
 // The card of records that stand in bytes, unless it is too large (3) or too long for the buffer (20).
 fn write_taken(numbers: Numbers, records: &[u8], buffer: &mut [u8]) -> Written
     requires { ⌜ (numbers .count ≤ mostRecords) × (exactly (numbers .count) (now records) 0 ≡ true) ⌝ }
-    ensures { λ r. ⌜ r ≡ answerOf (fitted (length (now (buffer .entry))) (cardText (inputOf numbers (now (records .entry))))) ⌝ }
-    ensures { λ _. ⌜ now (buffer .exit) ≡ bufferAfter (now (buffer .entry)) (fitted (length (now (buffer .entry))) (cardText (inputOf numbers (now (records .entry))))) ⌝ }
+    ensures { λ r. ⌜ r ≡ writtenAnswer (fitted mostCard (length (now (buffer .entry))) (cardText (inputOf numbers (now (records .entry))))) ⌝ }
+    ensures { λ _. ⌜ now (buffer .exit) ≡ bufferAfter (now (buffer .entry)) (fitted mostCard (length (now (buffer .entry))) (cardText (inputOf numbers (now (records .entry))))) ⌝ }
 {
     let size = RECORDS_AT + records.len();
     if MOST_CARD < size {
@@ -273,7 +273,7 @@ fn write_taken(numbers: Numbers, records: &[u8], buffer: &mut [u8]) -> Written
 
 // The card of building's input at the front of a lent buffer, or a refusal, which leaves the buffer as it is.
 pub fn write_card(numbers: Numbers, records: &[u8], buffer: &mut [u8]) -> Written
-    ensures { λ r. ⌜ r ≡ answerOf (cardWriting numbers (now (records .entry)) (length (now (buffer .entry)))) ⌝ }
+    ensures { λ r. ⌜ r ≡ writtenAnswer (cardWriting numbers (now (records .entry)) (length (now (buffer .entry)))) ⌝ }
     ensures { λ _. ⌜ now (buffer .exit) ≡ bufferAfter (now (buffer .entry)) (cardWriting numbers (now (records .entry)) (length (now (buffer .entry)))) ⌝ }
 {
     match judging::judge(numbers, records) {

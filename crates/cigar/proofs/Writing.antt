@@ -21,7 +21,7 @@ use Rattle.refusals.specs.Outcome.{answered, refused, Answered}
 use Rattle.cigar.specs.Elements.{Element, isLetter}
 use Rattle.cigar.specs.Text.{Reading, before, element, elementsIn}
 use Rattle.cigar.specs.laws.Steps.{answered-before}
-use Rattle.cigar.specs.Write.{elementText, elementsText, judged, given, givenFrom, fitted, textOf, writing, sizeOf}
+use Rattle.cigar.specs.Write.{elementText, elementsText, judged, elementsGiven, givenFrom, fitted, textOf, writing, sizeOf}
 use Rattle.cigar.specs.declared.write.Written.{Written}
 use Rattle.cigar.specs.declared.write.Written.the-variants as answer
 
@@ -29,7 +29,7 @@ use Rattle.cigar.specs.declared.write.Written.the-variants as answer
 abbrev pub leftOf : List ℤ → List ℕ → ℕ → ℕ → Reading
 leftOf counts letters number i = givenFrom counts letters i (number - i)
 
-pub left-all : (counts : List ℤ) (letters : List ℕ) (number : ℕ) → given counts letters number ≡ leftOf counts letters number 0
+pub left-all : (counts : List ℤ) (letters : List ℕ) (number : ℕ) → elementsGiven counts letters number ≡ leftOf counts letters number 0
 left-all counts letters number = ap (givenFrom counts letters 0) {x = number} {y = number - 0} (omega arith)
 
 module _ (counts : List ℤ) (letters : List ℕ) (number i : ℕ) where
@@ -126,7 +126,7 @@ refusal-is (refused j) {k} e = let same : j ≡ k = cc in ap refused same
 
 module _ (number : ℕ) (counts : List ℤ) (letters : List ℕ) (room : ℕ) where
   abbrev all : Reading
-  all = given counts letters number
+  all = elementsGiven counts letters number
 
   pub many-written : mostSegments < number → writing number counts letters room ≡ refused tooMuch
   unfolding writing
@@ -140,7 +140,7 @@ module _ (number : ℕ) (counts : List ℤ) (letters : List ℕ) (room : ℕ) wh
   refused-written h e = few-written h ∙ ap (textOf room) (refusal-is all e)
 
   module _ {size : ℕ} (few : number ≤ mostSegments) (e : sizeOf all ≡ answer.Text size) where
-    fits-written : writing number counts letters room ≡ fitted room (elementsText (elementsIn all))
+    fits-written : writing number counts letters room ≡ fitted mostText room (elementsText (elementsIn all))
     fits-written = few-written few ∙ ap (textOf room) (sized all e .is)
 
     pub large-written : mostText < size → writing number counts letters room ≡ refused tooMuch

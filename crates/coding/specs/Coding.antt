@@ -8,7 +8,7 @@ use Rattle.refusals.specs.Outcome.{Outcome, refused}
 use Rattle.whole.specs.Whole.{if_then_else_}
 use Rattle.numbering.specs.Numbers.{cOfN, nOfC}
 use Rattle.positions.specs.Positions.{Interval, each, NAsked, CAsked, NPosition, CPosition}
-use Rattle.positions.specs.Answers.{unmarked, Answer, plainly, ends, nFits, cFits, fitted, fitting}
+use Rattle.positions.specs.Answers.{unmarked, Answer, plainly, ends, nFits, cFits, ifFits, fitting}
 use Rattle.transcript.specs.Transcript.{Cds, noCds, cds}
 
 -- strict: the one number is 0 or less, or the other is above the length
@@ -45,7 +45,7 @@ unfoldable pub nPosition : Bool → ℕ → ℕ → ℕ → CAsked → Outcome N
 nPosition strict len s e a =
     let n = nOfC (pos s) (pos e) (a .base) in
     if refuses16 strict len n then refused cOutside
-    else fitted nFits (record { base = n; offset = a .offset })
+    else ifFits nFits (record { base = n; offset = a .offset })
 
 unfoldable pub cToN : Bool → ℕ → Cds → Interval CAsked → Answer NPosition
 cToN strict len noCds i = refused notCoding

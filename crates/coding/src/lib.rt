@@ -3,7 +3,7 @@ ghost use mathlib.Core.Path.{_≡_};
 ghost use lib.IntN.{pos};
 ghost use Rattle.whole.specs.Whole.{Within};
 ghost use Rattle.numbering.specs.Numbers.{nOfC};
-ghost use Rattle.positions.specs.Answers.{fitted, cFits};
+ghost use Rattle.positions.specs.Answers.{ifFits, cFits};
 ghost use Rattle.positions.specs.Paper.{paperCAsked, paperNQuestion, paperCQuestion, paperNEnd, paperCEnd, paperNPlain, paperCPlain};
 ghost use Rattle.transcript.specs.Transcript.{Cds.cds};
 ghost use Rattle.coding.specs.Coding.{beyond, cPosition, nPosition, nToC, cToN};
@@ -37,7 +37,7 @@ fn is_beyond(strict: bool, len: u32, low: NNumber, high: NNumber) -> bool
 // A position as c.: its number crosses over, its offset stays; 17.
 fn c_position(s: u32, e: u32, n: NNumber, offset: i32) -> CEnd
     requires { ⌜ Within 40 (n .0) ⌝ }
-    ensures { λ r. ⌜ paperCEnd r ≡ fitted cFits (cPosition s e (record { base = n .0; offset = offset })) ⌝ }
+    ensures { λ r. ⌜ paperCEnd r ≡ ifFits cFits (cPosition s e (record { base = n .0; offset = offset })) ⌝ }
 {
     let start = s as i64;
     let end = e as i64;

@@ -1,11 +1,11 @@
 // Building for the host: the head and the three tables are lent, and a refusal leaves all of them. And a card, written into a lent buffer.
 ghost use mathlib.Core.Path.{_≡_};
 ghost use lib.ListN.{length};
-ghost use Rattle.cigar.specs.Write.{answerOf as writtenOf, bufferAfter};
+ghost use Rattle.cigar.specs.Write.{writtenAnswer, bufferAfter};
 ghost use Rattle.segments.specs.Tables.{tables};
 ghost use Rattle.judging.specs.Input.{numbersOf};
 ghost use Rattle.judging.specs.Judging.{judge, judgeLength};
-ghost use Rattle.building.specs.Afterwards.{answerOf, lengthAnswer, tablesAfter};
+ghost use Rattle.building.specs.Afterwards.{builtAnswer, lengthAnswer, tablesAfter};
 ghost use Rattle.card.specs.Writing.{cardWriting, judgeCard};
 ghost use Rattle.layout.specs.Layout.{headRow};
 ghost use Rattle.entry.specs.Boundary.{builtNumber, builtHead, writtenLaid};
@@ -74,8 +74,8 @@ pub extern "C" fn txc_build(
     transcript: &mut [u32; MOST_STARTS],
     letters: &mut [u8; MOST_SEGMENTS],
 ) -> u32
-    ensures { λ r. ⌜ r ≡ builtNumber (answerOf (judge (numbersOf strand cds «cds_start» «cds_end» count) (now (records .entry)))) ⌝ }
-    ensures { λ _. ⌜ now (head .exit) ≡ builtHead (answerOf (judge (numbersOf strand cds «cds_start» «cds_end» count) (now (records .entry)))) (now (head .entry)) ⌝ }
+    ensures { λ r. ⌜ r ≡ builtNumber (builtAnswer (judge (numbersOf strand cds «cds_start» «cds_end» count) (now (records .entry)))) ⌝ }
+    ensures { λ _. ⌜ now (head .exit) ≡ builtHead (builtAnswer (judge (numbersOf strand cds «cds_start» «cds_end» count) (now (records .entry)))) (now (head .entry)) ⌝ }
     ensures { λ _. ⌜ tables (now (genome .exit)) (now (transcript .exit)) (now (letters .exit)) ≡ tablesAfter (judge (numbersOf strand cds «cds_start» «cds_end» count) (now (records .entry))) (tables (now (genome .entry)) (now (transcript .entry)) (now (letters .entry))) ⌝ }
 {
     let numbers = numbers_of(strand, cds, cds_start, cds_end, count);
@@ -92,8 +92,8 @@ pub extern "C" fn txc_build_card(
     transcript: &mut [u32; MOST_STARTS],
     letters: &mut [u8; MOST_SEGMENTS],
 ) -> u32
-    ensures { λ r. ⌜ r ≡ builtNumber (answerOf (judgeCard (now (card .entry)))) ⌝ }
-    ensures { λ _. ⌜ now (head .exit) ≡ builtHead (answerOf (judgeCard (now (card .entry)))) (now (head .entry)) ⌝ }
+    ensures { λ r. ⌜ r ≡ builtNumber (builtAnswer (judgeCard (now (card .entry)))) ⌝ }
+    ensures { λ _. ⌜ now (head .exit) ≡ builtHead (builtAnswer (judgeCard (now (card .entry)))) (now (head .entry)) ⌝ }
     ensures { λ _. ⌜ tables (now (genome .exit)) (now (transcript .exit)) (now (letters .exit)) ≡ tablesAfter (judgeCard (now (card .entry))) (tables (now (genome .entry)) (now (transcript .entry)) (now (letters .entry))) ⌝ }
 {
     let built = card::build_card(card, genome, transcript, letters);
@@ -127,7 +127,7 @@ pub extern "C" fn txc_write_card(
     records: &[u8],
     buffer: &mut [u8],
 ) -> Length
-    ensures { λ r. ⌜ r ≡ writtenLaid (writtenOf (cardWriting (numbersOf strand cds «cds_start» «cds_end» count) (now (records .entry)) (length (now (buffer .entry))))) ⌝ }
+    ensures { λ r. ⌜ r ≡ writtenLaid (writtenAnswer (cardWriting (numbersOf strand cds «cds_start» «cds_end» count) (now (records .entry)) (length (now (buffer .entry))))) ⌝ }
     ensures { λ _. ⌜ now (buffer .exit) ≡ bufferAfter (now (buffer .entry)) (cardWriting (numbersOf strand cds «cds_start» «cds_end» count) (now (records .entry)) (length (now (buffer .entry)))) ⌝ }
 {
     let numbers = numbers_of(strand, cds, cds_start, cds_end, count);

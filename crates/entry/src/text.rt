@@ -3,7 +3,7 @@ ghost use mathlib.Core.Path.{_≡_};
 ghost use lib.ListN.{length};
 ghost use Rattle.cigar.specs.Text.{countedOf};
 ghost use Rattle.cigar.specs.Read.{readText, countsAfter, lettersAfter};
-ghost use Rattle.cigar.specs.Write.{writing, answerOf, bufferAfter};
+ghost use Rattle.cigar.specs.Write.{writing, writtenAnswer, bufferAfter};
 ghost use Rattle.sequences.specs.Alleles.{prefixLen, suffixLen, changedPart};
 ghost use Rattle.entry.specs.Boundary.{countedLaid, writtenLaid, partLaid};
 use cigar::Counted;
@@ -57,7 +57,7 @@ pub extern "C" fn txc_write_cigar(
     letters: &[u8; MOST_SEGMENTS],
     buffer: &mut [u8],
 ) -> Length
-    ensures { λ r. ⌜ r ≡ writtenLaid (answerOf (writing number (now (counts .entry)) (now (letters .entry)) (length (now (buffer .entry))))) ⌝ }
+    ensures { λ r. ⌜ r ≡ writtenLaid (writtenAnswer (writing number (now (counts .entry)) (now (letters .entry)) (length (now (buffer .entry))))) ⌝ }
     ensures { λ _. ⌜ now (buffer .exit) ≡ bufferAfter (now (buffer .entry)) (writing number (now (counts .entry)) (now (letters .entry)) (length (now (buffer .entry)))) ⌝ }
 {
     match cigar::write::write_cigar(number, counts, letters, buffer) {

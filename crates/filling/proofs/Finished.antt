@@ -9,10 +9,11 @@ use lib.Seq.{sets}
 use Rattle.refusals.specs.Numbers.{mostSegments}
 use Rattle.cigar.specs.laws.Stores.{sets-append}
 use Rattle.cigar.specs.Elements.{Element, Side, genome, transcript}
-use Rattle.segments.specs.Tables.{Tables, entriesFrom, entriesOf, lettersOf, padded, tablesOf}
+use Rattle.cigar.specs.Read.{lettersOf}
+use Rattle.segments.specs.Tables.{Tables, entriesFrom, entriesOf, padded, tablesOf}
 use Rattle.reading.specs.Tallies.{nothing, sumsOf, oneOn, sumsOn}
 use Rattle.reading.specs.laws.Texts.{sums-eq, on-one, on-none}
-use Rattle.filling.specs.Filling.{Long, put, fill, finished}
+use Rattle.filling.specs.Filling.{Long, put, fill, tablesFinished}
 use Rattle.reading.specs.declared.Sums.{Sums}
 use Rattle.filling.proofs.Fills.{tables-eq}
 use Rattle.filling.proofs.Runs.{sets-whole}
@@ -52,7 +53,7 @@ padded-whole entries table {k} {n} e long h =
     ∙ sym (sets-append entries rest table 0)
     ∙ sets-whole (entries ++ rest) table (omega (arith, length-append entries rest, length-replicate {A = ℕ} (n - k) 0)))
 
-pub fill-finished : (es : List Element) → length es ≤ mostSegments → (a : Tables) → Long a → finished (fill a nothing es) (sumsOf es) ≡ tablesOf es
+pub fill-finished : (es : List Element) → length es ≤ mostSegments → (a : Tables) → Long a → tablesFinished (fill a nothing es) (sumsOf es) ≡ tablesOf es
 fill-finished es few a long =
     let to : sumsOf es ≡ sumsOn nothing es = sums-eq (omega arith) (omega arith) (omega arith) in
     rw (fill-genome a nothing (sumsOf es) es to, fill-transcript a nothing (sumsOf es) es to, fill-letters a nothing es)

@@ -14,7 +14,7 @@ use Rattle.transcript.specs.Building.{partsOf, elementsAfter, elementsOf}
 use Rattle.reading.specs.Reading.{Exons, followedBy, genomeEndOf, between, readFirst, readNext, exonsAfter, exonsOf}
 use Rattle.reading.specs.Tallies.{nothing, sumsOf, oneOn, sumsOn, tallied, talliedAfter, talliedAll}
 use Rattle.segments.specs.Tables.{Tables}
-use Rattle.filling.specs.Filling.{fill, ordered, nextElements, elementsPast, elementsAll, Small, SmallTally}
+use Rattle.filling.specs.Filling.{fill, ordered, nextElements, elementsPast, elementsAll, SmallSums, SmallTally}
 use Rattle.reading.specs.declared.Sums.{Sums}
 use Rattle.reading.specs.declared.Tally.the-variants as tally
 use Rattle.reading.specs.laws.Texts.{on-one}
@@ -32,7 +32,7 @@ ordered-sums true s es = refl
 ordered-sums false s es = sums-reverse s es
 
 -- what is tallied so far is no larger
-pub small-so-far : (e : ℕ) (s : Sums) (x : Exons) → SmallTally (talliedAfter e s x) → Small s
+pub small-so-far : (e : ℕ) (s : Sums) (x : Exons) → SmallTally (talliedAfter e s x) → SmallSums s
 small-so-far e s (answered xs) h = record { few = omega (arith, h .few); genome-small = omega (arith, h .genome-small); transcript-small = omega (arith, h .transcript-small) }
 small-so-far e s (refused k) h = absurd h
 

@@ -36,8 +36,8 @@ fill a s [] = a
 fill a s (x ∷ xs) = fill (put a s (x .letter)) (oneOn s x) xs
 
 -- the totals are put behind the last segment, and 0 at the places that are not used
-abbrev pub finished : Tables → Sums → Tables
-finished a s =
+abbrev pub tablesFinished : Tables → Sums → Tables
+tablesFinished a s =
     tables (sets (set (a .genome) (s .count) (s .genome)) (s .count + 1) (replicate (mostStarts - (s .count + 1)) 0))
     (sets (set (a .transcript) (s .count) (s .transcript)) (s .count + 1) (replicate (mostStarts - (s .count + 1)) 0))
     (sets (a .letters) (s .count) (replicate (mostSegments - s .count) 0))
@@ -88,12 +88,12 @@ pub record Before (a b : Sums) : Type 0 where
   pub transcript-up : a .transcript ≤ b .transcript
 
 -- the tables have room for what goes to s
-pub record Small (s : Sums) : Type 0 where
+pub record SmallSums (s : Sums) : Type 0 where
   pub few : s .count ≤ mostSegments
   pub genome-small : s .genome ≤ mostBases
   pub transcript-small : s .transcript ≤ mostBases
 
 -- what was tallied is no refusal, and the tables have room for it
 abbrev pub SmallTally : Tally → Type 0
-SmallTally (tally.Sums s) = Small s
+SmallTally (tally.Sums s) = SmallSums s
 SmallTally (tally.Refused k) = ⊥

@@ -12,7 +12,7 @@ ghost use Rattle.reading.specs.Reading.{between, genomeEndOf, readFirst, readNe
 ghost use Rattle.reading.specs.Tallies.{Bounded, nothing, oneOn, tallied, talliedAfter, talliedAll};
 ghost use Rattle.reading.specs.declared.Tally.the-variants as tally;
 ghost use Rattle.segments.specs.Tables.{tables, tablesOf};
-ghost use Rattle.filling.specs.Filling.{Long, fill, finished, ordered, turnedOn, nextElements, elementsPast, elementsAll, UpTo, Before, Small, SmallTally};
+ghost use Rattle.filling.specs.Filling.{Long, fill, tablesFinished, ordered, turnedOn, nextElements, elementsPast, elementsAll, UpTo, Before, SmallSums, SmallTally};
 use cigar::Step;
 use reading::Sums;
 use reading::Tally;
@@ -52,7 +52,7 @@ fn narrow(x: u64) -> u32
 
 // Where an element begins that goes from `at` to `after` along a text, whose elements go from `from` to `to`.
 fn turned(forward: bool, from: Sums, to: Sums, at: Sums, after: Sums) -> Sums
-    requires { ⌜ UpTo from at × Before at after × UpTo after to × Small to ⌝ }
+    requires { ⌜ UpTo from at × Before at after × UpTo after to × SmallSums to ⌝ }
     ensures { λ r. ⌜ (r ≡ turnedOn forward from to at after) × Before r to ⌝ }
 {
     if forward {
@@ -80,7 +80,7 @@ fn fill_text(
 )
     requires { ⌜ Long (tables (now genome) (now transcript) (now letters)) ⌝ }
     requires { ⌜ tallied from (readAll (mostSegments - from .count) (now text)) ≡ tally.Sums to ⌝ }
-    requires { ⌜ Bounded from × Small to ⌝ }
+    requires { ⌜ Bounded from × SmallSums to ⌝ }
     ensures { λ _. ⌜ tables (now (genome .exit)) (now (transcript .exit)) (now (letters .exit)) ≡ fill (tables (now (genome .entry)) (now (transcript .entry)) (now (letters .entry))) from (ordered forward (elementsIn (readAll (mostSegments - from .count) (now (text .entry))))) ⌝ }
 {
     let mut at = 0;
@@ -115,7 +115,7 @@ fn fill_first(
     letters: &mut [u8],
 )
     requires { ⌜ Long (tables (now genome) (now transcript) (now letters)) ⌝ }
-    requires { ⌜ Stands (now s) 0 × Small to ⌝ }
+    requires { ⌜ Stands (now s) 0 × SmallSums to ⌝ }
     requires { ⌜ tallied nothing (readFirst (recordAt (now s) 0)) ≡ tally.Sums to ⌝ }
     ensures { λ _. ⌜ tables (now (genome .exit)) (now (transcript .exit)) (now (letters .exit)) ≡ fill (tables (now (genome .entry)) (now (transcript .entry)) (now (letters .entry))) nothing (ordered forward (elementsIn (readFirst (recordAt (now (s .entry)) 0)))) ⌝ }
 {
@@ -144,7 +144,7 @@ fn fill_next(
     requires { ⌜ Long (tables (now genome) (now transcript) (now letters)) ⌝ }
     requires { ⌜ (previous + cigarText ≤ length (now s)) × Stands (now s) at × Beside (recordAt (now s) previous) (recordAt (now s) at) ⌝ }
     requires { ⌜ tallied (oneOn from (between (recordAt (now s) previous) (recordAt (now s) at))) (readNext (from .count) (recordAt (now s) at)) ≡ tally.Sums to ⌝ }
-    requires { ⌜ Bounded from × Small to ⌝ }
+    requires { ⌜ Bounded from × SmallSums to ⌝ }
     ensures { λ _. ⌜ tables (now (genome .exit)) (now (transcript .exit)) (now (letters .exit)) ≡ fill (tables (now (genome .entry)) (now (transcript .entry)) (now (letters .entry))) from (nextElements forward (from .count) (recordAt (now (s .entry)) previous) (recordAt (now (s .entry)) at)) ⌝ }
 {
     let gap = reading::gap_at(s, previous, at);
@@ -223,8 +223,8 @@ fn fill_all(
 
 // The totals are put behind the last segment, and 0 at the places that are not used.
 fn finish(to: Sums, genome: &mut [u32], transcript: &mut [u32], letters: &mut [u8])
-    requires { ⌜ Long (tables (now genome) (now transcript) (now letters)) × Small to ⌝ }
-    ensures { λ _. ⌜ tables (now (genome .exit)) (now (transcript .exit)) (now (letters .exit)) ≡ finished (tables (now (genome .entry)) (now (transcript .entry)) (now (letters .entry))) to ⌝ }
+    requires { ⌜ Long (tables (now genome) (now transcript) (now letters)) × SmallSums to ⌝ }
+    ensures { λ _. ⌜ tables (now (genome .exit)) (now (transcript .exit)) (now (letters .exit)) ≡ tablesFinished (tables (now (genome .entry)) (now (transcript .entry)) (now (letters .entry))) to ⌝ }
 {
     let place = to.count;
     let on_genome = narrow(to.genome);
@@ -248,7 +248,7 @@ pub fn write_tables(
     letters: &mut [u8],
 )
     requires { ⌜ Long (tables (now genome) (now transcript) (now letters)) ⌝ }
-    requires { ⌜ Ready count (now s) × Small to ⌝ }
+    requires { ⌜ Ready count (now s) × SmallSums to ⌝ }
     requires { ⌜ talliedAll (exonsOf (recordsFrom count (now s) 0)) ≡ tally.Sums to ⌝ }
     ensures { λ _. ⌜ tables (now (genome .exit)) (now (transcript .exit)) (now (letters .exit)) ≡ tablesOf (elementsAll forward (exonsOf (recordsFrom count (now (s .entry)) 0))) ⌝ }
 {

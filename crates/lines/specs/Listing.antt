@@ -23,8 +23,8 @@ abbrev pub signOf : Bool → ℕ
 signOf forward = if forward then 43 else 45
 
 -- the mark, strand sign, segment count, genome and transcript length
-unfoldable pub headerText : Bool → ℕ → ℕ → ℕ → List ℕ
-headerText forward n g t = mark ++ 32 ∷ signOf forward ∷ numbersText n g t
+unfoldable pub listingHeader : Bool → ℕ → ℕ → ℕ → List ℕ
+listingHeader forward n g t = mark ++ 32 ∷ signOf forward ∷ numbersText n g t
 
 -- a letter, genome start, transcript start and count
 abbrev pub lineText : ℕ → ℕ → Element → List ℕ
@@ -37,7 +37,7 @@ linesText g t (x ∷ xs) = lineText g t x ++ linesText (g + genome x) (t + trans
 
 -- the listing of elements on a strand
 unfoldable pub listingText : Bool → List Element → List ℕ
-listingText forward es = headerText forward (length es) (total genome es) (total transcript es) ++ linesText 0 0 es
+listingText forward es = listingHeader forward (length es) (total genome es) (total transcript es) ++ linesText 0 0 es
 
 -- `refused`, the number, and the newline
 unfoldable pub refusalText : ℕ → List ℕ

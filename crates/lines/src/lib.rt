@@ -7,7 +7,7 @@ ghost use lib.IntN.{pos, natAbs};
 ghost use lib.Signed.{leZ};
 ghost use Rattle.whole.specs.Whole.{eqZ};
 ghost use Rattle.refusals.specs.Numbers.{mostSegments};
-ghost use Rattle.lines.specs.Listing.{numberText, numbersText, signOf, headerText, listingText, refusalText, judgmentText};
+ghost use Rattle.lines.specs.Listing.{numberText, numbersText, signOf, listingHeader, listingText, refusalText, judgmentText};
 ghost use Rattle.lines.specs.Tables.{lineAt, linesFrom};
 ghost use Rattle.cigar.specs.Lent.{atFront};
 ghost use Rattle.segments.specs.Tables.{tables, Holds, read};
@@ -127,7 +127,7 @@ fn sign(forward: bool) -> u8
 // The header. Returns the place after it.
 fn put_header(buffer: &mut [u8], forward: bool, count: u32, genome: u32, transcript: u32) -> usize
     requires { ⌜ mostHeader ≤ length (now buffer) ⌝ }
-    ensures { λ r. ⌜ Put (now (buffer .entry)) (now (buffer .exit)) 0 r (headerText forward count genome transcript) ⌝ }
+    ensures { λ r. ⌜ Put (now (buffer .entry)) (now (buffer .exit)) 0 r (listingHeader forward count genome transcript) ⌝ }
     ensures within { λ r. ⌜ r ≤ mostHeader ⌝ }
 {
     card::put_mark(buffer);

@@ -11,7 +11,7 @@ use Rattle.segments.specs.Tables.{Tables, segmentsHold, read}
 use Rattle.transcript.specs.Transcript.{Transcript}
 use Rattle.transcript.specs.Transcript.Cds.{noCds}
 use Rattle.positions.specs.Positions.{GPosition, NPosition}
-use Rattle.positions.specs.Answers.{Answer, markOf, ends, gFits, nFits, fitted}
+use Rattle.positions.specs.Answers.{Answer, markOf, ends, gFits, nFits, ifFits}
 use Rattle.places.specs.Mapping.{turned, signed, earlier, later}
 use Rattle.places.specs.declared.Alignment.{Alignment}
 
@@ -27,7 +27,7 @@ pub record Aligns (a : Alignment) (x : Tables) : Type 0 where
 
 -- a spot of a transcript of that strand and length as an n. position, or 17
 abbrev pub nEndAt : Bool → ℕ → Spot → Outcome NPosition
-nEndAt forward len a = fitted nFits (record { base = nOfPlace (turned forward len (a .place)); offset = signed forward (a .offset) })
+nEndAt forward len a = ifFits nFits (record { base = nOfPlace (turned forward len (a .place)); offset = signed forward (a .offset) })
 
 -- an interval's two spots as an n. interval with its mark, or 17: on strand -1 start and end change places
 unfoldable pub nJoined : Bool → ℕ → Spot → Spot → Answer NPosition
@@ -35,7 +35,7 @@ nJoined forward len a b = ends (markOf (a .sure && b .sure)) (nEndAt forward len
 
 -- a place of the genome with an n. number's own offset as a g. position, or 17
 abbrev pub gEndAt : Bool → ℕ → ℤ → ℤ → Outcome GPosition
-gEndAt forward first p o = fitted gFits (record { base = p +ℤ pos first +ℤ pos 1 +ℤ signed forward o })
+gEndAt forward first p o = ifFits gFits (record { base = p +ℤ pos first +ℤ pos 1 +ℤ signed forward o })
 
 -- an interval's two spots, with the numbers' own offsets, as a g. interval with its mark, or 17
 unfoldable pub gJoined : Bool → ℕ → Spot → Spot → ℤ → ℤ → Answer GPosition

@@ -65,9 +65,9 @@ abbrev pub cFits : CPosition → Bool
 cFits a = fits (a .base .0) && fits (a .offset)
 
 -- this where it fits, and else 17
-abbrev pub fitted : {A : Type 0} → (A → Bool) → A → Outcome A
-fitted fit a = if fit a then answered a else refused tooWide
+abbrev pub ifFits : {A : Type 0} → (A → Bool) → A → Outcome A
+ifFits fit a = if fit a then answered a else refused tooWide
 
 -- an answer of which each number fits, and else 17
 abbrev pub fitting : {P : Type 0} → (P → Bool) → Answer P → Answer P
-fitting {P} fit answer = andThen answer (fitted (λ (a : Marked P). fit (a .interval .from) && fit (a .interval .to)))
+fitting {P} fit answer = andThen answer (ifFits (λ (a : Marked P). fit (a .interval .from) && fit (a .interval .to)))

@@ -2,7 +2,7 @@
 ghost use mathlib.Core.Path.{_≡_};
 ghost use Rattle.whole.specs.Whole.{Within};
 ghost use Rattle.refusals.specs.Outcome.{through, Outcome.answered};
-ghost use Rattle.positions.specs.Answers.{gFits, nFits, cFits, fitted, ends, after, markOf, Mark.unmarked};
+ghost use Rattle.positions.specs.Answers.{gFits, nFits, cFits, ifFits, ends, after, markOf, Mark.unmarked};
 ghost use Rattle.positions.specs.Paper.{paperGEnd, paperNEnd, paperCEnd, paperNPlain, paperCPlain, paperGInterval, paperG, paperN, paperC};
 use crate::CAnswer;
 use crate::CInterval;
@@ -47,7 +47,7 @@ pub fn whole_n(base: i32) -> NNumber
 
 // The g. number, or 17.
 pub fn g_end(g: i64) -> GEnd
-    ensures { λ r. ⌜ paperGEnd r ≡ fitted gFits (record { base = g }) ⌝ }
+    ensures { λ r. ⌜ paperGEnd r ≡ ifFits gFits (record { base = g }) ⌝ }
 {
     match whole::fits(g) {
         Fit::Number(base) => GEnd::At(GPosition { base }),
@@ -57,7 +57,7 @@ pub fn g_end(g: i64) -> GEnd
 
 // The n. number with its offset, or 17.
 pub fn n_end(n: NNumber, offset: i64) -> NEnd
-    ensures { λ r. ⌜ paperNEnd r ≡ fitted nFits (record { base = n .0; offset = offset }) ⌝ }
+    ensures { λ r. ⌜ paperNEnd r ≡ ifFits nFits (record { base = n .0; offset = offset }) ⌝ }
 {
     match whole::fits(n.0) {
         Fit::Number(base) => match whole::fits(offset) {
@@ -70,7 +70,7 @@ pub fn n_end(n: NNumber, offset: i64) -> NEnd
 
 // The c. number with its offset, which is the boundary's, or 17.
 pub fn c_end(c: CNumber, offset: i32) -> CEnd
-    ensures { λ r. ⌜ paperCEnd r ≡ fitted cFits (record { base = c; offset = offset }) ⌝ }
+    ensures { λ r. ⌜ paperCEnd r ≡ ifFits cFits (record { base = c; offset = offset }) ⌝ }
 {
     let star = c.1;
     match whole::fits(c.0) {

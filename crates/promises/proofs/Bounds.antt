@@ -9,7 +9,8 @@ use lib.ListN.{getD, length, take, drop, take-append-drop}
 use Rattle.whole.specs.laws.Whole.{by-test, order, sum, dif, up, dn}
 use Rattle.cigar.specs.Elements.{Element, Side, Kind, kindOf, kind, total}
 use Rattle.cigar.specs.Elements.Kind.{matches, inserts, deletes, skips}
-use Rattle.segments.specs.Tables.{entriesOf, lettersOf}
+use Rattle.cigar.specs.Read.{lettersOf}
+use Rattle.segments.specs.Tables.{entriesOf}
 use Rattle.segments.specs.Places.{End, leftNearer, nearer, spotIn, indexOf, mapByTables, mapPlace}
 use Rattle.segments.specs.Places.End.{start, stop}
 use Rattle.segments.specs.laws.Totals.{total-append}

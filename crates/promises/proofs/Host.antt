@@ -18,7 +18,7 @@ use Rattle.holding.specs.Holding.{Lent, holds, sourceOf, checked}
 use Rattle.holding.specs.laws.Held.{checked-held}
 use Rattle.judging.specs.Judging.{Made, Measured, elementsMade, judge, judgeLength}
 use Rattle.judging.specs.laws.Accepted.{judged-sane, measured-means, measured-inside}
-use Rattle.building.specs.Afterwards.{headOf, lengthHead, answerOf, lengthAnswer, tablesAfter}
+use Rattle.building.specs.Afterwards.{headOf, lengthHead, builtAnswer, lengthAnswer, tablesAfter}
 use Rattle.building.specs.laws.Standing.{beside, built-holds, built-stands, measured-holds, measured-stands}
 use Rattle.card.specs.Layout.{recordsAt}
 use Rattle.card.specs.Card.{readCard, numbersIn}
@@ -50,7 +50,7 @@ not-0 ks k none h e =
     let z : _≡_ {A = Bool} false true = sym none ∙ there in
     let q : _≡_ {A = ℕ} 0 1 = cc in omega arith
 
-made-of : (ks : List ℕ) (j : Outcome Made) → oneOf 0 ks ≡ false → Only ks j → builtNumber (answerOf j) ≡ 0 → (m : Made) × (j ≡ answered m)
+made-of : (ks : List ℕ) (j : Outcome Made) → oneOf 0 ks ≡ false → Only ks j → builtNumber (builtAnswer j) ≡ 0 → (m : Made) × (j ≡ answered m)
 made-of ks (answered m) none h z = (m, refl)
 made-of ks (refused k) none h z = absurd (not-0 ks k none (h .only) z)
 
@@ -128,7 +128,7 @@ module _ (w : Way) (head : List ℤ) (was : Tables) where
   -- what building wrote is the head and the tables of what it made
   written-is : (m : Made) → judgment w ≡ answered m → memory ≡ beside (headOf m) (tablesOf (elementsMade m))
   unfolding headAt
-  written-is m h = ap (λ (j : Outcome Made). beside (headAt (builtHead (answerOf j) head)) (tablesAfter j was)) h
+  written-is m h = ap (λ (j : Outcome Made). beside (headAt (builtHead (builtAnswer j) head)) (tablesAfter j was)) h
 
   seen : (m : Made) → judgment w ≡ answered m → Sees ours memory (madeOf m)
   seen m h =

@@ -23,7 +23,7 @@ use Rattle.coding.specs.Coding.{beyond, cPosition, cOfInterval, nToC, nPosition
 use Rattle.places.specs.Mapping.{turned, signed, nOfSpot, gOfSpot, wholeN, gToN, gOfEnds, nToG}
 use Rattle.mapper.specs.Chains.{gToC, cToG}
 use Rattle.promises.specs.Bases.{Name, nName, cNumber}
-use Rattle.promises.specs.Demands.{ours, gNumber, gAsked, gAt, nAt, cAt, Named}
+use Rattle.promises.specs.Demands.{ours, gNumber, askedAt, gAt, nAt, cAt, Named}
 use Rattle.promises.proofs.InRange.{InRange}
 use Rattle.promises.proofs.Fits.{Within, within-fits, signed-within, c-within}
 use Rattle.promises.proofs.Turns.{turn-turn, sign-sign, across, turned-within, across-within, inside-within, n-of-place, place-of-base, same-either}
@@ -88,7 +88,7 @@ module _ (t : Transcript) (in-range : InRange t) (p q a : ℕ) (o : ℤ) (r : Re
   base-fits : fits (gNumber t p) ≡ true
   base-fits = fits-by (gNumber t p) (omega (arith, r .p-in, in-range .genome-small)) (omega arith)
 
-  to-n : gToN true t (gAsked t p) ≡ certainly (nAt x)
+  to-n : gToN true t (askedAt t p) ≡ certainly (nAt x)
   unfolding gToN wholeN nOfSpot
   to-n = rw (place-of-base (t .first) p, inside-within (genomeLength t) p (r .p-in), r .there start, r .there stop, same-either (t .forward) (surely (r .segment) (pos q) o), number-of (t .forward) (transcriptLength t) q (r .q-in), number-fits, offset-fits)
 
@@ -115,7 +115,7 @@ module _ (t : Transcript) (in-range : InRange t) (p q a : ℕ) (o : ℤ) (r : Re
     high : ltb (transcriptLength t) (m + 1) ≡ false
     high = le-ltb (transcriptLength t) (m + 1) (omega (arith, m-in))
 
-    to-c : gToC true t (gAsked t p) ≡ certainly (cAt s e x)
+    to-c : gToC true t (askedAt t p) ≡ certainly (cAt s e x)
     unfolding gToC nToC cOfInterval beyond cPosition
     to-c = rw (to-n, coding, low, high, counted, c-fits, offset-fits)
 

@@ -10,7 +10,7 @@ use Rattle.cigar.specs.Text.{readFrom}
 use Rattle.cigar.specs.Read.{readText}
 use Rattle.cigar.specs.Write.{writing, givenFrom, elementsText, elementText}
 use Rattle.words.specs.Words.{letterOf, allKnown, readWords, faultOf, faultFrom, writeWords}
-use Rattle.records.specs.Records.{Record, laid}
+use Rattle.records.specs.Records.{Record, recordText}
 use Rattle.judging.specs.Input.{inputOf, numbersOf}
 use Rattle.judging.specs.Judging.{judge, judgeLength, lengthFault, rangeFault}
 use Rattle.judging.specs.laws.Worked.{row, bytesOf, digit, letterS, ten, nines, rowsA, one, computing}
@@ -106,7 +106,7 @@ build-length-occurs = refl
 
 -- A, for which there is no room; and what building refuses
 pub write-card-occurs : map (λ (x : Handed). cardWriting (x .0) (x .1) 0) (handed 3 (pos 3) (pos 15) rowsA ∷ samples) ≡ map refused cardWritingRefusals
-unfolding computing cardWriting cardText headerText recordsText laid
+unfolding computing cardWriting cardText headerText recordsText recordText
 write-card-occurs = refl
 
 -- the card of what is handed over
@@ -115,5 +115,5 @@ card x = cardText (inputOf (x .0) (x .1))
 
 -- no record; no byte; version 2; and what building refuses once the strand is known
 pub build-card-occurs : map judgeCard (card (plain []) ∷ [] ∷ (mark ++ (2 ∷ 0 ∷ [])) ∷ map card (drop 4 samples)) ≡ map refused cardRefusals
-unfolding computing cardText headerText recordsText laid readCard isMarked isCard arePlain numbersIn
+unfolding computing cardText headerText recordsText recordText readCard isMarked isCard arePlain numbersIn
 build-card-occurs = refl

@@ -23,7 +23,7 @@ use Rattle.transcript.specs.Heads.{bothBits}
 use Rattle.transcript.specs.declared.Numbers.{Numbers}
 use Rattle.transcript.specs.declared.Bound.{Bound}
 use Rattle.transcript.specs.declared.Bound.the-variants.{Given, Absent}
-use Rattle.promises.specs.Demands.{Mapper, ours, madeOf, Builds, AllSpan, basesOf, addedUpstream, movedUp, Kept, kept, Lengthens, Keeps, Demand-2, Demand-2-built, Demand-3}
+use Rattle.promises.specs.Demands.{Mapper, ours, madeOf, Builds, AllSpan, basesOf, addedUpstream, movedUp, KeptOfRecord, kept, Lengthens, Keeps, Demand-2, Demand-2-built, Demand-3}
 use Rattle.promises.proofs.InRange.{InRange, held-in-range}
 use Rattle.promises.proofs.Records.{Spans, exonBases}
 use Rattle.promises.proofs.Built.{exonIn, From, built-from}
@@ -54,7 +54,7 @@ demand-2-built = built-too ours demand-2
 -- ---- a lengthened input makes a lengthened transcript
 
 -- an exon is made of what is kept of its record
-exonOfKept : Kept → Exon
+exonOfKept : KeptOfRecord → Exon
 exonOfKept k = record { alt-start = natAbs (k .alt-start); alt-end = natAbs (k .alt-end); parts = elementsIn (readText (k .cigar)) }
 
 same-exons : (own rs : List Record) → map kept own ≡ map kept rs → map exonIn own ≡ map exonIn rs

@@ -19,7 +19,7 @@ use Rattle.fields.specs.Fields.{le16}
 use Rattle.cigar.specs.Elements.{isLetter}
 use Rattle.cigar.specs.Text.{Reading, isDigit, countOf, readFrom}
 use Rattle.cigar.specs.Read.{readText}
-use Rattle.cigar.specs.Write.{elementsText, givenFrom, given, fitted, textOf, writing}
+use Rattle.cigar.specs.Write.{elementsText, givenFrom, elementsGiven, fitted, textOf, writing}
 use Rattle.words.specs.Words.{allKnown, readWords, faultOf, faultFrom, writeWords}
 use Rattle.records.specs.Records.{Record, exactly}
 use Rattle.records.specs.Faults.{_orElse_, spanFault, startFault, riseFault, joinFault, ownFault, followFault, pairFault, faultsAfter, faults}
@@ -35,7 +35,6 @@ use Rattle.positions.specs.laws.Refusing.{only-if, only-unless}
 use Rattle.card.specs.Layout.{version, versionAt, strandAt, cdsAt, countAt, recordsAt}
 use Rattle.card.specs.Card.{readCard, numbersIn, inputIn, cardText, isMarked, isCard}
 use Rattle.card.specs.Writing.{judgeRead, judgeCard, ifTaken, cardWriting}
-use Rattle.card.specs.Writing as cards
 use Rattle.card.specs.laws.RoundTrips.{IsCard, read-means}
 use Rattle.card.specs.declared.ReadCard.{ReadCard}
 use Rattle.card.specs.declared.ReadCard.the-variants as read
@@ -93,7 +92,7 @@ given-only counts letters i (suc m) =
 writing-only : (number : ℕ) (counts : List ℤ) (letters : List ℕ) (room : ℕ) → Only writingRefusals (writing number counts letters room)
 unfolding writing
 writing-only number counts letters room =
-    only-unless writingRefusals (ltb mostSegments number) tooMuch _ (go (given counts letters number) (wider readingRefusals writingRefusals _ refl (given-only counts letters 0 number))) (λ e. refl)
+    only-unless writingRefusals (ltb mostSegments number) tooMuch _ (go (elementsGiven counts letters number) (wider readingRefusals writingRefusals _ refl (given-only counts letters 0 number))) (λ e. refl)
   where
     go : (r : Reading) → Only writingRefusals r → Only writingRefusals (textOf room r)
     go (refused k) h = record { only = h .only }
@@ -318,7 +317,7 @@ card-writing-only : (n : Numbers) (bytes : List ℕ) (room : ℕ) → Only cardW
 unfolding cardWriting
 card-writing-only n bytes room = go (judge n bytes) (judge-only n bytes)
   where
-    go : (j : Outcome Made) → Only buildingRefusals j → Only cardWritingRefusals (ifTaken j (cards.fitted room (cardText (inputOf n bytes))))
+    go : (j : Outcome Made) → Only buildingRefusals j → Only cardWritingRefusals (ifTaken j (fitted mostCard room (cardText (inputOf n bytes))))
     go (refused k) h = record { only = in-wider buildingRefusals cardWritingRefusals refl k (h .only) }
     go (answered m) h =
         let text = cardText (inputOf n bytes) in

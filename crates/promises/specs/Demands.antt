@@ -77,8 +77,8 @@ single a = record { from = a; to = a }
 abbrev pub gNumber : Transcript → ℕ → ℤ
 gNumber t p = pos (p + t .first + 1)
 
-abbrev pub gAsked : Transcript → ℕ → Interval ℤ
-gAsked t p = single (gNumber t p)
+abbrev pub askedAt : Transcript → ℕ → Interval ℤ
+askedAt t p = single (gNumber t p)
 
 abbrev pub gAt : Transcript → ℕ → Interval GPosition
 gAt t p = single (record { base = gNumber t p })
@@ -91,9 +91,9 @@ cAt s e x = single (cName s e x)
 
 -- in strict mode the base at place p is answered with the name x, certainly, and the name, asked again, with the base: in n., and in c. where there is a CDS
 pub record Named (m : Mapper) (t : Transcript) (p : ℕ) (x : Name) : Type 0 where
-  pub g-to-n : m .g-to-n strict t (gAsked t p) ≡ certainly (nAt x)
+  pub g-to-n : m .g-to-n strict t (askedAt t p) ≡ certainly (nAt x)
   pub n-to-g : m .n-to-g strict t (each asksN (nAt x)) ≡ certainly (gAt t p)
-  pub g-to-c : (s e : ℕ) → t .coding ≡ cds s e → m .g-to-c strict t (gAsked t p) ≡ certainly (cAt s e x)
+  pub g-to-c : (s e : ℕ) → t .coding ≡ cds s e → m .g-to-c strict t (askedAt t p) ≡ certainly (cAt s e x)
   pub c-to-g : (s e : ℕ) → t .coding ≡ cds s e → m .c-to-g strict t (each asksC (cAt s e x)) ≡ certainly (gAt t p)
 
 -- there are exon bases at u, upstream, and at d, downstream, and the base at place p has the name that counts from the nearer of the two
@@ -142,12 +142,12 @@ movedUp n (Given z) = Given (z +ℤ pos n)
 movedUp n Absent = Absent
 
 -- what stays of a record when its transcript is lengthened: its genome bounds and its CIGAR
-pub record Kept : Type 0 where
+pub record KeptOfRecord : Type 0 where
   pub alt-start : ℤ
   pub alt-end : ℤ
   pub cigar : List ℕ
 
-abbrev pub kept : Record → Kept
+abbrev pub kept : Record → KeptOfRecord
 kept r = record { alt-start = r .alt-start; alt-end = r .alt-end; cigar = r .cigar }
 
 -- y is x with records added at either end or both, along the genome, and its CDS bounds moved up by the transcript bases that are added upstream.

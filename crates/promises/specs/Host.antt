@@ -16,7 +16,7 @@ use Rattle.transcript.specs.declared.Numbers.{Numbers}
 use Rattle.holding.specs.Holding.{Lent}
 use Rattle.judging.specs.Input.{Input, inputOf}
 use Rattle.judging.specs.Judging.{Made, Measured, judge, judgeLength}
-use Rattle.building.specs.Afterwards.{answerOf, lengthAnswer, tablesAfter}
+use Rattle.building.specs.Afterwards.{builtAnswer, lengthAnswer, tablesAfter}
 use Rattle.card.specs.Card.{numbersIn, inputIn}
 use Rattle.card.specs.Writing.{judgeCard}
 use Rattle.positions.specs.Answers.{certainly}
@@ -47,11 +47,11 @@ input (of-card bytes) = inputIn bytes (numbersIn bytes)
 
 -- the number that the entry tells
 abbrev pub toldBuilding : Way → ℕ
-toldBuilding w = builtNumber (answerOf (judgment w))
+toldBuilding w = builtNumber (builtAnswer (judgment w))
 
 -- the lent memory afterwards, whatever it was: the head's numbers and the tables
 abbrev pub writtenBy : Way → List ℤ → Tables → Lent
-writtenBy w head was = record { head = headAt (builtHead (answerOf (judgment w)) head); tables = tablesAfter (judgment w) was }
+writtenBy w head was = record { head = headAt (builtHead (builtAnswer (judgment w)) head); tables = tablesAfter (judgment w) was }
 
 -- ---- asking
 

@@ -46,17 +46,17 @@ pub data Reply : Type 0 where
   a-trimming : ℕ → List ℕ → List ℕ → List ℕ → Reply
 
 -- what is answered to a row's question: a CIGAR is read, and its elements are written; of two alleles the common prefix is counted and removed, and the changed part is found
-abbrev pub given : Mapper → Row → Reply
-given m (g-n strict t i a) = in-n (m .g-to-n strict t i)
-given m (n-g strict t i a) = in-g (m .n-to-g strict t i)
-given m (n-c strict t i a) = in-c (m .n-to-c strict t i)
-given m (c-n strict t i a) = in-n (m .c-to-n strict t i)
-given m (g-c strict t i a) = in-c (m .g-to-c strict t i)
-given m (c-g strict t i a) = in-g (m .c-to-g strict t i)
-given m (asked-g-n strict i x a) = in-n (askGToN strict i x)
-given m (in-bounds i x a) = a-yes (askInBounds i x)
-given m (cigar text es) = a-reading (readText text) (elementsText es)
-given m (alleles r a prefix r-left a-left changed) = a-trimming (prefixLen r a) (drop (prefixLen r a) r) (drop (prefixLen r a) a) (changedOf r a)
+abbrev pub replyGiven : Mapper → Row → Reply
+replyGiven m (g-n strict t i a) = in-n (m .g-to-n strict t i)
+replyGiven m (n-g strict t i a) = in-g (m .n-to-g strict t i)
+replyGiven m (n-c strict t i a) = in-c (m .n-to-c strict t i)
+replyGiven m (c-n strict t i a) = in-n (m .c-to-n strict t i)
+replyGiven m (g-c strict t i a) = in-c (m .g-to-c strict t i)
+replyGiven m (c-g strict t i a) = in-g (m .c-to-g strict t i)
+replyGiven m (asked-g-n strict i x a) = in-n (askGToN strict i x)
+replyGiven m (in-bounds i x a) = a-yes (askInBounds i x)
+replyGiven m (cigar text es) = a-reading (readText text) (elementsText es)
+replyGiven m (alleles r a prefix r-left a-left changed) = a-trimming (prefixLen r a) (drop (prefixLen r a) r) (drop (prefixLen r a) a) (changedOf r a)
 
 -- what the row says
 abbrev pub due : Row → Reply
@@ -242,4 +242,4 @@ rows =
 
 -- each row's question has the answer that is due
 abbrev pub TableOfPlaces : Mapper → Type 0
-TableOfPlaces m = map (given m) rows ≡ map due rows
+TableOfPlaces m = map (replyGiven m) rows ≡ map due rows

@@ -41,8 +41,8 @@ recordAt s at = record {
 }
 
 -- a record's bytes
-unfoldable pub laid : Record → List ℕ
-laid r =
+unfoldable pub recordText : Record → List ℕ
+recordText r =
     bytes32 (bits32 (r .alt-start)) ++ bytes32 (bits32 (r .alt-end)) ++ bytes32 (bits32 (r .tx-start)) ++ bytes32 (bits32 (r .tx-end))
     ++ bytes32 (bits32 (r .ord)) ++ bytes16 (length (r .cigar)) ++ r .cigar
 

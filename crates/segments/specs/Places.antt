@@ -9,7 +9,8 @@ use lib.Signed.{ltZ, leZ}
 use Rattle.whole.specs.Whole.{if_then_else_}
 use Rattle.cigar.specs.Elements.{Element, Side, Kind, kindOf}
 use Rattle.cigar.specs.Elements.Kind.{matches, inserts, deletes, skips}
-use Rattle.segments.specs.Tables.{entriesOf, lettersOf}
+use Rattle.cigar.specs.Read.{lettersOf}
+use Rattle.segments.specs.Tables.{entriesOf}
 
 -- ---- which segment
 

@@ -2,12 +2,13 @@
 -- A table is the list of its entries. Segment i begins at entry i of a table of starts and ends at entry i + 1; entries past the last segment's end are not looked at. Assumes nothing.
 use Prim.Native.Nat.{ℕ, zero, suc, _+_, _-_, _≤_, _<_, max}
 use mathlib.Core.Bool.{Bool, true, _&&_}
-use mathlib.Core.List.{List, [], _∷_, _++_, map}
+use mathlib.Core.List.{List, [], _∷_, _++_}
 use mathlib.Core.Path.{_≡_}
 use lib.ListN.{getD, length, replicate}
 use lib.Dec.{eqb, leb}
 use Rattle.refusals.specs.Numbers.{mostSegments, mostStarts}
 use Rattle.cigar.specs.Elements.{Element, Side, Kind, isLetter, kindOf, genome, transcript}
+use Rattle.cigar.specs.Read.{lettersOf}
 use Rattle.cigar.specs.Elements.Kind.{matches, inserts, deletes, skips}
 
 -- the starts on the genome and on the transcript, and the letters' bytes
@@ -87,9 +88,6 @@ entriesFrom side f (x ∷ xs) = f ∷ entriesFrom side (f + side x) xs
 
 abbrev pub entriesOf : Side → List Element → List ℕ
 entriesOf side es = entriesFrom side 0 es
-
-abbrev pub lettersOf : List Element → List ℕ
-lettersOf es = map (λ (x : Element). x .letter) es
 
 -- entries in a table of n places: those that are not used hold 0
 unfoldable pub padded : ℕ → List ℕ → List ℕ

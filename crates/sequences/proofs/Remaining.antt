@@ -13,7 +13,7 @@ use native.Mathlib.Omega.{arith}
 use lib.ListN.{length, take, drop, length-drop, take-append-drop}
 use borrow.Author.Tests.{le-ltb}
 use Rattle.sequences.specs.declared.Part.{Part}
-use Rattle.sequences.specs.Alleles.{prefixLen, before, after, remains, changedPart, stretch}
+use Rattle.sequences.specs.Alleles.{prefixLen, bytesBefore, after, remains, changedPart, stretch}
 use Rattle.sequences.proofs.InCommon.{lastOf, prefix-within, suffix-within, prefix-common, suffix-common, prefix-longest}
 
 -- any list, with p bytes off its front and then q off its back
@@ -33,25 +33,25 @@ pub record Inside (k : Part) (r a : List ℕ) : Type 0 where
 module _ (r a : List ℕ) where
   -- what both begin and end with, and what remains of one of them
   abbrev pub first : List ℕ
-  first = take (before r a) r
+  first = take (bytesBefore r a) r
 
   abbrev pub last : List ℕ
-  last = lastOf (drop (before r a) r) (after r a)
+  last = lastOf (drop (bytesBefore r a) r) (after r a)
 
   abbrev pub middle : List ℕ → List ℕ
-  middle s = stretch s (before r a) (length s - after r a)
+  middle s = stretch s (bytesBefore r a) (length s - after r a)
 
   pub put-together : (r ≡ first ++ (middle r ++ last)) × (a ≡ first ++ (middle a ++ last))
   put-together =
-      let p : ℕ = before r a in
+      let p : ℕ = bytesBefore r a in
       let q : ℕ = after r a in
       let begins : take p a ≡ first = sym (prefix-common r a) in
       let ends : lastOf (drop p a) q ≡ last = sym (suffix-common (drop p r) (drop p a)) in
       (in-three p q r, in-three p q a ∙ cc (begins, ends))
 
-  pub apart : (before r a + after r a ≤ length r) × (before r a + after r a ≤ length a)
+  pub apart : (bytesBefore r a + after r a ≤ length r) × (bytesBefore r a + after r a ≤ length a)
   apart =
-      let p : ℕ = before r a in
+      let p : ℕ = bytesBefore r a in
       let q = suffix-within (drop p r) (drop p a) in
       (omega (arith, prefix-within r a, q, length-drop p r), omega (arith, prefix-within r a, q, length-drop p a))
 

@@ -16,7 +16,7 @@ use lib.Seq.{drop-length}
 use denote.Ref.{RefT}
 use denote.Slice.{sliceVal, slice-vals}
 use borrow.Rule.Slice.PartAt.{part-to-end}
-use Rattle.sequences.specs.Alleles.{suffixLen, before, after, changedPart, stretch, changedOf}
+use Rattle.sequences.specs.Alleles.{suffixLen, bytesBefore, after, changedPart, stretch, changedOf}
 use Rattle.sequences.specs.Slices.{Slice, sliceOf, size, restOf, frontOf, partOf}
 
 pub one-slice : (s t : RefT (List ℕ)) → sliceOf s ≡ sliceOf t → slice-vals s ≡ slice-vals t
@@ -46,5 +46,5 @@ changed-bytes r a =
     let k = changedPart (r .bytes) (a .bytes) in
     ap (λ (s : List ℕ). stretch s (k .from) (k .to)) (chosen-bytes (k .alternative) r a)
 
-pub after-rests : (r a x y : Slice) (p : ℕ) → p ≡ before (r .bytes) (a .bytes) → x ≡ restOf r p → y ≡ restOf a p → suffixLen (x .bytes) (y .bytes) ≡ after (r .bytes) (a .bytes)
-after-rests r a x y p e ex ey = rw (ex, ey, e, rest-bytes r (before (r .bytes) (a .bytes)), rest-bytes a (before (r .bytes) (a .bytes)))
+pub after-rests : (r a x y : Slice) (p : ℕ) → p ≡ bytesBefore (r .bytes) (a .bytes) → x ≡ restOf r p → y ≡ restOf a p → suffixLen (x .bytes) (y .bytes) ≡ after (r .bytes) (a .bytes)
+after-rests r a x y p e ex ey = rw (ex, ey, e, rest-bytes r (bytesBefore (r .bytes) (a .bytes)), rest-bytes a (bytesBefore (r .bytes) (a .bytes)))

@@ -21,15 +21,15 @@ abbrev pub along : Bool → List ℕ → List ℕ
 along back s = cond back (reverse s) s
 
 -- prefix then suffix are removed: how many bytes go at the front, and then at the back
-abbrev pub before : List ℕ → List ℕ → ℕ
-before r a = prefixLen r a
+abbrev pub bytesBefore : List ℕ → List ℕ → ℕ
+bytesBefore r a = prefixLen r a
 
 abbrev pub after : List ℕ → List ℕ → ℕ
-after r a = suffixLen (drop (before r a) r) (drop (before r a) a)
+after r a = suffixLen (drop (bytesBefore r a) r) (drop (bytesBefore r a) a)
 
 -- what remains of the one allele or the other: of which, from where, and to before where
 abbrev pub remains : List ℕ → List ℕ → Bool → Part
-remains r a alternative = record { alternative = alternative; from = before r a; to = length (cond alternative a r) - after r a }
+remains r a alternative = record { alternative = alternative; from = bytesBefore r a; to = length (cond alternative a r) - after r a }
 
 -- what remains of the longer allele, the reference's when lengths tie
 abbrev pub changedPart : List ℕ → List ℕ → Part

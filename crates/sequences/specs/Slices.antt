@@ -20,17 +20,17 @@ abbrev pub size : Slice → ℕ
 size s = length (s .bytes)
 
 -- the part that begins `from` bytes into the slice and ends before `to`
-abbrev pub between : Slice → ℕ → ℕ → Slice
-between s from to = record { block = s .block; at = from + s .at; bytes = stretch (s .bytes) from to }
+abbrev pub partBetween : Slice → ℕ → ℕ → Slice
+partBetween s from to = record { block = s .block; at = from + s .at; bytes = stretch (s .bytes) from to }
 
 -- without its first p bytes: where it has fewer, the empty part at its end
 abbrev pub restOf : Slice → ℕ → Slice
-restOf s p = between s (min p (size s)) (size s)
+restOf s p = partBetween s (min p (size s)) (size s)
 
 -- without its last q bytes: where it has fewer, the empty part at its beginning
 abbrev pub frontOf : Slice → ℕ → Slice
-frontOf s q = between s 0 (size s - q)
+frontOf s q = partBetween s 0 (size s - q)
 
 -- a part of one of two alleles
 abbrev pub partOf : Part → Slice → Slice → Slice
-partOf k r a = between (cond (k .alternative) a r) (k .from) (k .to)
+partOf k r a = partBetween (cond (k .alternative) a r) (k .from) (k .to)

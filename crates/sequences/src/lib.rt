@@ -3,7 +3,7 @@ ghost use mathlib.Core.Path.{_≡_};
 ghost use Prim.Native.Nat.{_<_, _≤_};
 ghost use lib.ListN.{length, getD};
 ghost use Rattle.sequences.specs.Alleles.{prefixLen, suffixLen, along, changedPart};
-ghost use Rattle.sequences.specs.Slices.{sliceOf, between, restOf, frontOf, partOf};
+ghost use Rattle.sequences.specs.Slices.{sliceOf, partBetween, restOf, frontOf, partOf};
 
 // The i-th byte from the back, or from the front.
 fn byte_along(s: &[u8], back: bool, i: usize) -> u8
@@ -47,7 +47,7 @@ pub fn trim_common_suffixes(reference: &[u8], alternative: &[u8]) -> usize
 // A part of the caller's own slice.
 fn cut(s: &[u8], from: usize, to: usize) -> &[u8]
     requires { ⌜ (from ≤ to) × (to ≤ length (now s)) ⌝ }
-    ensures { λ r. ⌜ sliceOf r ≡ between (sliceOf (s .entry)) from to ⌝ }
+    ensures { λ r. ⌜ sliceOf r ≡ partBetween (sliceOf (s .entry)) from to ⌝ }
 {
     &s[from..to]
 }

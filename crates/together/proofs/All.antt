@@ -1,15 +1,14 @@
--- A flag that a loop gathers: after i turns it is `allBelow f i`; and two stretches that overlap. Assumes nothing.
+-- A flag that a loop gathers from a number on, and two stretches that overlap. Assumes nothing.
 use Prim.Native.Nat.{ℕ, _+_, _≤_, _<_}
 use native.Mathlib.Omega.{arith}
-use native.Mathlib.Nat.{le-antisymm}
-use native.Mathlib.Numerals.{add-one}
 use mathlib.Core.Bool.{Bool, true, false, _&&_, _||_}
-use mathlib.Core.Path.{_≡_, refl, sym, ap, ap₂, _∙_}
+use mathlib.Core.Path.{_≡_, refl, sym, _∙_}
 use lib.Dec.{ltb}
 use borrow.Author.Tests.{lt-ltb, le-ltb, ltb-true, ltb-false}
 use Rattle.whole.specs.laws.Whole.{by-test, both, both-of}
 use Rattle.segments.specs.Tables.{allBelow}
 use Rattle.segments.specs.laws.Meaning.{all-at, all-of}
+use Rattle.segments.specs.laws.Gathering.{all-more}
 use Rattle.together.specs.Steps.{from}
 
 -- two tests are one where each follows from the other
@@ -17,20 +16,6 @@ pub equal-where : (a b : Bool) → (a ≡ true → b ≡ true) → (b ≡ true �
 equal-where true b h k = sym (h refl)
 equal-where false true h k = k refl
 equal-where false false h k = refl
-
--- before the first turn the flag is true
-pub all-none : (f : ℕ → Bool) → true ≡ allBelow f 0
-unfolding allBelow
-all-none f = refl
-
--- a turn joins what it found of i to the flag
-pub all-more : (f : ℕ → Bool) (i : ℕ) {flag found : Bool} → flag ≡ allBelow f i → found ≡ f i → (flag && found) ≡ allBelow f (i + 1)
-unfolding allBelow
-all-more f i flag≡ found≡ = rw add-one (ap₂ _&&_ flag≡ found≡)
-
--- after the last turn i is n
-pub all-done : (f : ℕ → Bool) (i n : ℕ) {flag : Bool} → flag ≡ allBelow f i → i ≤ n → n ≤ i → flag ≡ allBelow f n
-all-done f i n flag≡ i≤n n≤i = flag≡ ∙ ap (allBelow f) (le-antisymm i≤n n≤i)
 
 -- ---- from a number on
 

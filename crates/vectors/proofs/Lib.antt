@@ -1,4 +1,3 @@
 -- What several proofs cite, and the laws of the loop over rows.
-pub mod Below
 pub mod Zeros
 pub mod Replaying

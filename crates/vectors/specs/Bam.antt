@@ -15,9 +15,9 @@ use Rattle.words.specs.Words.{readWords, writeWords, countedWords}
 use Rattle.segments.specs.Tables.{allBelow}
 use Rattle.entry.specs.Boundary.{countedLaid}
 use Rattle.vectors.specs.Sizes.{mostWords}
-use Rattle.vectors.specs.Rows.{firstOf, behind, callOf, sizeOf, payloadOf, expected}
+use Rattle.vectors.specs.Rows.{firstOf, behind, callOf, recordedSize, payloadOf, expected}
 use Rattle.vectors.specs.Words.{lengthWords}
-use Rattle.vectors.specs.Texts.{laidOut, countAt, letterAt, countsTable, lettersTable, rowElements, behindElements, holdsEach}
+use Rattle.vectors.specs.Texts.{laidOut, recordedCount, letterAt, countsTable, lettersTable, rowElements, behindElements, holdsEach}
 
 -- ---- words of 32 bits, and what stands at a place of a layout, 0 where there is none
 
@@ -28,7 +28,7 @@ unfoldable pub wordOr : List ℕ → ℕ → ℕ
 wordOr s i = if ltb i (wordsLaid s) then le32 s (4 * i) else 0
 
 unfoldable pub countOr : List ℕ → ℕ → ℤ
-countOr s i = if ltb i (laidOut s) then countAt s i else pos 0
+countOr s i = if ltb i (laidOut s) then recordedCount s i else pos 0
 
 unfoldable pub letterOr : List ℕ → ℕ → ℕ
 letterOr s i = if ltb i (laidOut s) then letterAt s i else 0
@@ -61,15 +61,15 @@ elementsAgree row read counts letters elements =
 
 -- what the row's words read as, in slices that held zeros
 abbrev pub bamRead : List ℕ → Reading
-bamRead row = readWords (wordsPut (firstOf (payloadOf row) (4 * sizeOf row 0)) (replicate (sizeOf row 0) 0) (sizeOf row 0)) (sizeOf row 1) (sizeOf row 2)
+bamRead row = readWords (wordsPut (firstOf (payloadOf row) (4 * recordedSize row 0)) (replicate (recordedSize row 0) 0) (recordedSize row 0)) (recordedSize row 1) (recordedSize row 2)
 
 -- the words stand before the elements in the row's bytes; the row says how many words there are and how many places the slices have
 unfoldable pub readBamAgrees : List ℕ → Bool
 readBamAgrees row =
-    if ltb mostWords (sizeOf row 0) then false
-    else if ltb mostWords (sizeOf row 1) then false
-    else if ltb mostWords (sizeOf row 2) then false
-    else elementsAgree row (bamRead row) (replicate (sizeOf row 1) (pos 0)) (replicate (sizeOf row 2) 0) (behind (payloadOf row) (4 * sizeOf row 0))
+    if ltb mostWords (recordedSize row 0) then false
+    else if ltb mostWords (recordedSize row 1) then false
+    else if ltb mostWords (recordedSize row 2) then false
+    else elementsAgree row (bamRead row) (replicate (recordedSize row 1) (pos 0)) (replicate (recordedSize row 2) 0) (behind (payloadOf row) (4 * recordedSize row 0))
 
 -- the words of what was written are those that the row expects, and the slice then holds the words laid out
 unfoldable pub wordsAgree : List ℕ → Writing → List ℕ → List ℕ → Bool
@@ -77,14 +77,14 @@ wordsAgree row w words layout = expected row (lengthWords (countedLaid (countedW
 
 -- the words of a row's elements
 abbrev pub bamWritten : List ℕ → Writing
-bamWritten row = writeWords (sizeOf row 0) (countsTable (rowElements row)) (lettersTable (rowElements row)) (sizeOf row 2)
+bamWritten row = writeWords (recordedSize row 0) (countsTable (rowElements row)) (lettersTable (rowElements row)) (recordedSize row 2)
 
 -- the row says how many words are lent
 unfoldable pub writeBamAgrees : List ℕ → Bool
 writeBamAgrees row =
     if ltb mostSegments (laidOut (rowElements row)) then false
-    else if ltb mostWords (sizeOf row 2) then false
-    else wordsAgree row (bamWritten row) (replicate (sizeOf row 2) 0) (behindElements row)
+    else if ltb mostWords (recordedSize row 2) then false
+    else wordsAgree row (bamWritten row) (replicate (recordedSize row 2) 0) (behindElements row)
 
 unfoldable pub bamRowAgrees : List ℕ → Bool
 bamRowAgrees row =

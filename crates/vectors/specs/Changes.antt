@@ -12,31 +12,31 @@ use Rattle.transcript.specs.declared.Numbers.{Numbers}
 use Rattle.segments.specs.Tables.{Tables, tables}
 use Rattle.judging.specs.Input.{numbersOf}
 use Rattle.judging.specs.Judging.{Made, Measured, judge, judgeLength}
-use Rattle.building.specs.Afterwards.{answerOf as builtOf, lengthAnswer, tablesAfter}
+use Rattle.building.specs.Afterwards.{builtAnswer, lengthAnswer, tablesAfter}
 use Rattle.card.specs.Writing.{judgeCard}
 use Rattle.entry.specs.Boundary.{builtNumber, builtHead}
-use Rattle.vectors.specs.Rows.{callOf, flagsOf, sizeOf, numberOf, payloadOf, answerOf}
+use Rattle.vectors.specs.Rows.{callOf, flagsOf, recordedSize, recordedNumber, payloadOf, recordedAnswer}
 use Rattle.vectors.specs.Words.{sixWords, twoWords}
 
 -- ---- building
 
 -- building's numbers as a row has them
-abbrev pub numbersIn : List ℕ → Numbers
-numbersIn row = numbersOf (numberOf row 0) (flagsOf row) (numberOf row 1) (numberOf row 2) (sizeOf row 3)
+abbrev pub recordedNumbers : List ℕ → Numbers
+recordedNumbers row = numbersOf (recordedNumber row 0) (flagsOf row) (recordedNumber row 1) (recordedNumber row 2) (recordedSize row 3)
 
 -- what the row's card, its records, and its length make
 abbrev pub cardMade : List ℕ → Outcome Made
 cardMade row = judgeCard (payloadOf row)
 
 abbrev pub recordsMade : List ℕ → Outcome Made
-recordsMade row = judge (numbersIn row) (payloadOf row)
+recordsMade row = judge (recordedNumbers row) (payloadOf row)
 
 abbrev pub lengthMade : List ℕ → Outcome Measured
-lengthMade row = judgeLength (numberOf row 0) (flagsOf row) (numberOf row 1) (numberOf row 2)
+lengthMade row = judgeLength (recordedNumber row 0) (flagsOf row) (recordedNumber row 1) (recordedNumber row 2)
 
 -- the start of a table at the segment count that the row expects, 0 where the table has no such place
 unfoldable pub totalOf : List ℕ → List ℕ → ℕ
-totalOf row starts = if leb mostStarts (answerOf row 3) then 0 else getD starts (answerOf row 3) 0
+totalOf row starts = if leb mostStarts (recordedAnswer row 3) then 0 else getD starts (recordedAnswer row 3) 0
 
 -- strand, first start, segment count and the two lengths, as memory then has them; or the refusal's number
 unfoldable pub recordsWords : List ℕ → ℕ → List ℤ → List ℕ → List ℕ → List ℤ
@@ -57,13 +57,13 @@ builtWords row b head t = recordsWords row (builtNumber b) head (t .genome) (t .
 -- ---- damage: one number of the head (0), of a table of starts (1, 2) or of the letters (3) is set, where there is such a place
 
 unfoldable pub headDamaged : List ℕ → List ℤ → List ℤ
-headDamaged row head = if eqb (sizeOf row 0) 0 then set head (sizeOf row 1) (numberOf row 2) else head
+headDamaged row head = if eqb (recordedSize row 0) 0 then set head (recordedSize row 1) (recordedNumber row 2) else head
 
 unfoldable pub startsDamaged : ℕ → List ℕ → List ℕ → List ℕ
-startsDamaged which row starts = if eqb (sizeOf row 0) which then set starts (sizeOf row 1) (sizeOf row 2) else starts
+startsDamaged which row starts = if eqb (recordedSize row 0) which then set starts (recordedSize row 1) (recordedSize row 2) else starts
 
 unfoldable pub lettersDamaged : List ℕ → List ℕ → List ℕ
-lettersDamaged row letters = if eqb (sizeOf row 0) 3 then set letters (sizeOf row 1) (sizeOf row 2 % 256) else letters
+lettersDamaged row letters = if eqb (recordedSize row 0) 3 then set letters (recordedSize row 1) (recordedSize row 2 % 256) else letters
 
 abbrev pub tablesDamaged : List ℕ → Tables → Tables
 tablesDamaged row t = tables (startsDamaged 1 row (t .genome)) (startsDamaged 2 row (t .transcript)) (lettersDamaged row (t .letters))
@@ -74,14 +74,14 @@ placesOf which = if eqb which 0 then 8 else if ltb which 3 then mostStarts else 
 
 -- nothing is answered; where there is no such place, a number that no such row expects
 unfoldable pub damageWords : List ℕ → List ℤ
-damageWords row = if ltb (sizeOf row 1) (placesOf (sizeOf row 0)) then twoWords 0 (pos 0) else twoWords 1 (pos 0)
+damageWords row = if ltb (recordedSize row 1) (placesOf (recordedSize row 0)) then twoWords 0 (pos 0) else twoWords 1 (pos 0)
 
 -- ---- by the call's number
 
 unfoldable pub headAfter : List ℕ → List ℤ → List ℤ
 headAfter row head =
-    if eqb (callOf row) 1 then builtHead (builtOf (cardMade row)) head
-    else if eqb (callOf row) 2 then builtHead (builtOf (recordsMade row)) head
+    if eqb (callOf row) 1 then builtHead (builtAnswer (cardMade row)) head
+    else if eqb (callOf row) 2 then builtHead (builtAnswer (recordsMade row)) head
     else if eqb (callOf row) 3 then builtHead (lengthAnswer (lengthMade row)) head
     else headDamaged row head
 
@@ -95,7 +95,7 @@ tablesThen row t =
 -- with the head and the tables as they are afterwards
 unfoldable pub changeWords : List ℕ → List ℤ → Tables → List ℤ
 changeWords row head t =
-    if eqb (callOf row) 1 then builtWords row (builtOf (cardMade row)) head t
-    else if eqb (callOf row) 2 then builtWords row (builtOf (recordsMade row)) head t
+    if eqb (callOf row) 1 then builtWords row (builtAnswer (cardMade row)) head t
+    else if eqb (callOf row) 2 then builtWords row (builtAnswer (recordsMade row)) head t
     else if eqb (callOf row) 3 then lengthOnlyWords (builtNumber (lengthAnswer (lengthMade row))) head
     else damageWords row

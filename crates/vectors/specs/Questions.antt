@@ -9,7 +9,7 @@ use Rattle.holding.specs.Holding.{Lent}
 use Rattle.entry.specs.Told.{toldGToN, toldGToC, toldNToG, toldNToC, toldCToN, toldCToG, toldInBounds, toldCoding}
 use Rattle.layout.specs.declared.lay.Answer.{Answer}
 use Rattle.layout.specs.declared.lay.Said.{Said}
-use Rattle.vectors.specs.Rows.{callOf, flagsOf, numberOf}
+use Rattle.vectors.specs.Rows.{callOf, flagsOf, recordedNumber}
 use Rattle.vectors.specs.Words.{answerWords, saidWords}
 
 -- bit 0 of the flags: bounds are strict; bits 1 and 2: start and end have a star; bits 3 and 4: which ends are missing
@@ -29,21 +29,21 @@ missingOf row = flagsOf row / 8 % 4
 
 unfoldable pub fromG : List ℕ → Lent → Answer
 fromG row x =
-    if eqb (callOf row) 6 then toldGToC x (numberOf row 0) (numberOf row 2) (missingOf row) (isStrict row)
-    else toldGToN x (numberOf row 0) (numberOf row 2) (missingOf row) (isStrict row)
+    if eqb (callOf row) 6 then toldGToC x (recordedNumber row 0) (recordedNumber row 2) (missingOf row) (isStrict row)
+    else toldGToN x (recordedNumber row 0) (recordedNumber row 2) (missingOf row) (isStrict row)
 
 unfoldable pub fromN : List ℕ → Lent → Answer
 fromN row x =
-    if eqb (callOf row) 8 then toldNToC x (numberOf row 0) (numberOf row 1) (numberOf row 2) (numberOf row 3) (isStrict row)
-    else toldNToG x (numberOf row 0) (numberOf row 1) (numberOf row 2) (numberOf row 3) (isStrict row)
+    if eqb (callOf row) 8 then toldNToC x (recordedNumber row 0) (recordedNumber row 1) (recordedNumber row 2) (recordedNumber row 3) (isStrict row)
+    else toldNToG x (recordedNumber row 0) (recordedNumber row 1) (recordedNumber row 2) (recordedNumber row 3) (isStrict row)
 
 unfoldable pub fromC : List ℕ → Lent → Answer
 fromC row x =
-    if eqb (callOf row) 9 then toldCToN x (numberOf row 0) (numberOf row 1) (startStar row) (numberOf row 2) (numberOf row 3) (endStar row) (isStrict row)
-    else toldCToG x (numberOf row 0) (numberOf row 1) (startStar row) (numberOf row 2) (numberOf row 3) (endStar row) (isStrict row)
+    if eqb (callOf row) 9 then toldCToN x (recordedNumber row 0) (recordedNumber row 1) (startStar row) (recordedNumber row 2) (recordedNumber row 3) (endStar row) (isStrict row)
+    else toldCToG x (recordedNumber row 0) (recordedNumber row 1) (startStar row) (recordedNumber row 2) (recordedNumber row 3) (endStar row) (isStrict row)
 
 unfoldable pub saidTo : List ℕ → Lent → Said
-saidTo row x = if eqb (callOf row) 11 then toldInBounds x (numberOf row 0) (numberOf row 2) (missingOf row) else toldCoding x
+saidTo row x = if eqb (callOf row) 11 then toldInBounds x (recordedNumber row 0) (recordedNumber row 2) (missingOf row) else toldCoding x
 
 -- 5 and 6 ask in g., 7 and 8 in n., 9 and 10 in c., and the others for a yes or no
 unfoldable pub questionWords : List ℕ → Lent → List ℤ

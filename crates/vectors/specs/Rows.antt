@@ -11,8 +11,8 @@ use Rattle.fields.specs.Fields.{le32, signed32}
 use Rattle.segments.specs.Tables.{allBelow}
 
 -- the bytes of a block
-abbrev pub block : ℕ
-block = 64
+abbrev pub blockSize : ℕ
+blockSize = 64
 
 -- so many bytes from the front, none where there are fewer
 unfoldable pub firstOf : List ℕ → ℕ → List ℕ
@@ -26,7 +26,7 @@ behind s p = stretch s (min p (length s)) (length s)
 
 -- a row that has no whole block has only zeros
 unfoldable pub wordAt : List ℕ → ℕ → ℕ
-wordAt row i = if ltb (length row) block then 0 else le32 row (4 * i)
+wordAt row i = if ltb (length row) blockSize then 0 else le32 row (4 * i)
 
 abbrev pub signedAt : List ℕ → ℕ → ℤ
 signedAt row i = signed32 (wordAt row i)
@@ -42,18 +42,18 @@ abbrev pub originOf : List ℕ → ℕ
 originOf row = wordAt row 0 / 65536 % 256
 
 abbrev pub payloadOf : List ℕ → List ℕ
-payloadOf row = firstOf (behind row block) (wordAt row 1)
+payloadOf row = firstOf (behind row blockSize) (wordAt row 1)
 
 -- the call's six numbers
-abbrev pub sizeOf : List ℕ → ℕ → ℕ
-sizeOf row i = wordAt row (2 + i)
+abbrev pub recordedSize : List ℕ → ℕ → ℕ
+recordedSize row i = wordAt row (2 + i)
 
-abbrev pub numberOf : List ℕ → ℕ → ℤ
-numberOf row i = signedAt row (2 + i)
+abbrev pub recordedNumber : List ℕ → ℕ → ℤ
+recordedNumber row i = signedAt row (2 + i)
 
 -- the answer's eight words
-abbrev pub answerOf : List ℕ → ℕ → ℕ
-answerOf row i = wordAt row (8 + i)
+abbrev pub recordedAnswer : List ℕ → ℕ → ℕ
+recordedAnswer row i = wordAt row (8 + i)
 
 -- one of them is this number
 unfoldable pub isWord : List ℕ → ℕ → ℤ → Bool
@@ -67,11 +67,11 @@ expected row words = allBelow (λ (i : ℕ). isWord row i (getD words i (pos 0))
 
 -- it begins with a block that makes no call and whose first number is the layout's version
 abbrev pub hasHead : List ℕ → Bool
-hasHead file = (leb block (length file) && eqb (callOf file) 0) && eqb (sizeOf file 0) 1
+hasHead file = (leb blockSize (length file) && eqb (callOf file) 0) && eqb (recordedSize file 0) 1
 
 -- the bytes of a row with so many of its own
 abbrev pub wholeSize : ℕ → ℕ
-wholeSize own = block + block * ((own + block - 1) / block)
+wholeSize own = blockSize + blockSize * ((own + blockSize - 1) / blockSize)
 
 -- those of the row that comes next, 0 where it is cut off
 unfoldable pub rowSize : List ℕ → ℕ

@@ -5,7 +5,7 @@ use mathlib.Core.List.{List}
 use lib.Dec.{ltb}
 use lib.ListN.{getD, set}
 use Rattle.whole.specs.Whole.{if_then_else_}
-use Rattle.vectors.specs.Rows.{callOf, originOf, answerOf}
+use Rattle.vectors.specs.Rows.{callOf, originOf, recordedAnswer}
 
 -- how many counts a tally has
 abbrev pub counts : ℕ
@@ -17,7 +17,7 @@ bumped tally first size i = if ltb i size then set tally (first + i) ((getD tall
 
 -- a row: all, by call, by the refusal's number that it expects, by where that comes from
 abbrev pub rowCounted : List ℕ → List ℕ → List ℕ
-rowCounted tally row = bumped (bumped (bumped (bumped tally 0 1 0) 2 21 (callOf row)) 44 32 (answerOf row 0)) 76 6 (originOf row)
+rowCounted tally row = bumped (bumped (bumped (bumped tally 0 1 0) 2 21 (callOf row)) 44 32 (recordedAnswer row 0)) 76 6 (originOf row)
 
 -- and where it agrees: all, by call
 abbrev pub counted : List ℕ → List ℕ → Bool → List ℕ

@@ -11,30 +11,30 @@ use Rattle.fields.specs.Fields.{le32, signed32}
 use Rattle.refusals.specs.Numbers.{mostSegments}
 use Rattle.cigar.specs.Text.{Reading, countedOf}
 use Rattle.cigar.specs.Read.{readText, countsAfter, lettersAfter}
-use Rattle.cigar.specs.Write.{Writing, writing, answerOf, bufferAfter}
+use Rattle.cigar.specs.Write.{Writing, writing, writtenAnswer, bufferAfter}
 use Rattle.segments.specs.Tables.{allBelow}
 use Rattle.card.specs.Layout.{recordsAt}
 use Rattle.card.specs.Writing.{cardWriting}
 use Rattle.entry.specs.Boundary.{countedLaid, writtenLaid, partLaid}
 use Rattle.entry.specs.declared.text.Part.{Part}
 use Rattle.vectors.specs.Sizes.{mostRoom}
-use Rattle.vectors.specs.Rows.{firstOf, behind, callOf, sizeOf, payloadOf, expected}
+use Rattle.vectors.specs.Rows.{firstOf, behind, callOf, recordedSize, payloadOf, expected}
 use Rattle.vectors.specs.Words.{sixWords, twoWords, sizeWord, lengthWords}
-use Rattle.vectors.specs.Changes.{numbersIn}
+use Rattle.vectors.specs.Changes.{recordedNumbers}
 
 -- ---- elements: a count of 32 bits and a letter each
 
 abbrev pub laidOut : List ℕ → ℕ
 laidOut s = length s / 5
 
-abbrev pub countAt : List ℕ → ℕ → ℤ
-countAt s i = signed32 (le32 s (5 * i))
+abbrev pub recordedCount : List ℕ → ℕ → ℤ
+recordedCount s i = signed32 (le32 s (5 * i))
 
 abbrev pub letterAt : List ℕ → ℕ → ℕ
 letterAt s i = getD s (5 * i + 4) 0
 
 unfoldable pub isElement : List ℕ → ℕ → ℤ → ℕ → Bool
-isElement s i count letter = eqZ (countAt s i) count && eqb (letterAt s i) letter
+isElement s i count letter = eqZ (recordedCount s i) count && eqb (letterAt s i) letter
 
 -- the tables begin with the elements
 unfoldable pub beginWith : List ℕ → List ℤ → List ℕ → Bool
@@ -43,7 +43,7 @@ beginWith s counts letters = allBelow (λ (i : ℕ). isElement s i (getD counts 
 -- the tables with the first n elements at their front
 unfoldable pub countsPut : List ℕ → List ℤ → ℕ → List ℤ
 countsPut s counts zero = counts
-countsPut s counts (suc i) = set (countsPut s counts i) i (countAt s i)
+countsPut s counts (suc i) = set (countsPut s counts i) i (recordedCount s i)
 
 unfoldable pub lettersPut : List ℕ → List ℕ → ℕ → List ℕ
 lettersPut s letters zero = letters
@@ -58,10 +58,10 @@ lettersTable s = lettersPut s (replicate mostSegments 0) (laidOut s)
 
 -- the elements that a row gives stand before what is to be written of them
 abbrev pub rowElements : List ℕ → List ℕ
-rowElements row = firstOf (payloadOf row) (5 * sizeOf row 1)
+rowElements row = firstOf (payloadOf row) (5 * recordedSize row 1)
 
 abbrev pub behindElements : List ℕ → List ℕ
-behindElements row = behind (payloadOf row) (5 * sizeOf row 1)
+behindElements row = behind (payloadOf row) (5 * recordedSize row 1)
 
 -- ---- a buffer that holds a text and after it only zeros
 
@@ -74,13 +74,13 @@ holdsText buffer text = holdsEach (λ (i : ℕ). getD text i 0) (length text) bu
 
 -- the words of what was written are those that the row expects, and the buffer then holds the text
 unfoldable pub textAgrees : List ℕ → Writing → List ℕ → List ℕ → Bool
-textAgrees row w buffer text = expected row (lengthWords (writtenLaid (answerOf w))) && holdsText (bufferAfter buffer w) text
+textAgrees row w buffer text = expected row (lengthWords (writtenLaid (writtenAnswer w))) && holdsText (bufferAfter buffer w) text
 
 -- the same for a card, of which the records are held to the buffer behind the card's head; a refusal leaves the buffer, which held zeros
 unfoldable pub cardAgrees : List ℕ → Writing → List ℕ → List ℕ → Bool
 cardAgrees row w buffer records =
-    if eqb (writtenLaid (answerOf w) .number) 0 then expected row (lengthWords (writtenLaid (answerOf w))) && holdsText (behind (bufferAfter buffer w) recordsAt) records
-    else expected row (lengthWords (writtenLaid (answerOf w))) && holdsText (bufferAfter buffer w) []
+    if eqb (writtenLaid (writtenAnswer w) .number) 0 then expected row (lengthWords (writtenLaid (writtenAnswer w))) && holdsText (behind (bufferAfter buffer w) recordsAt) records
+    else expected row (lengthWords (writtenLaid (writtenAnswer w))) && holdsText (bufferAfter buffer w) []
 
 -- ---- alleles
 
@@ -99,7 +99,7 @@ allelesWords call reference alternative =
 
 -- the reference stands before the alternative in the row's bytes
 abbrev pub allelesAgree : List ℕ → Bool
-allelesAgree row = expected row (allelesWords (callOf row) (firstOf (payloadOf row) (sizeOf row 0)) (behind (payloadOf row) (sizeOf row 0)))
+allelesAgree row = expected row (allelesWords (callOf row) (firstOf (payloadOf row) (recordedSize row 0)) (behind (payloadOf row) (recordedSize row 0)))
 
 -- ---- by the call's number
 
@@ -112,24 +112,24 @@ readAs row elements read =
 -- the text stands before the elements in the row's bytes
 unfoldable pub readAgrees : List ℕ → Bool
 readAgrees row =
-    if ltb mostSegments (laidOut (behind (payloadOf row) (sizeOf row 0))) then false
-    else readAs row (behind (payloadOf row) (sizeOf row 0)) (readText (firstOf (payloadOf row) (sizeOf row 0)))
+    if ltb mostSegments (laidOut (behind (payloadOf row) (recordedSize row 0))) then false
+    else readAs row (behind (payloadOf row) (recordedSize row 0)) (readText (firstOf (payloadOf row) (recordedSize row 0)))
 
 -- the text of a row's elements
 abbrev pub writtenOf : List ℕ → Writing
-writtenOf row = writing (sizeOf row 0) (countsTable (rowElements row)) (lettersTable (rowElements row)) (sizeOf row 2)
+writtenOf row = writing (recordedSize row 0) (countsTable (rowElements row)) (lettersTable (rowElements row)) (recordedSize row 2)
 
 -- the row says how many bytes are lent
 unfoldable pub writeAgrees : List ℕ → Bool
 writeAgrees row =
     if ltb mostSegments (laidOut (rowElements row)) then false
-    else if ltb mostRoom (sizeOf row 2) then false
-    else textAgrees row (writtenOf row) (replicate (sizeOf row 2) 0) (behindElements row)
+    else if ltb mostRoom (recordedSize row 2) then false
+    else textAgrees row (writtenOf row) (replicate (recordedSize row 2) 0) (behindElements row)
 
 unfoldable pub writeCardAgrees : List ℕ → Bool
 writeCardAgrees row =
-    if ltb mostRoom (sizeOf row 4) then false
-    else cardAgrees row (cardWriting (numbersIn row) (payloadOf row) (sizeOf row 4)) (replicate (sizeOf row 4) 0) (payloadOf row)
+    if ltb mostRoom (recordedSize row 4) then false
+    else cardAgrees row (cardWriting (recordedNumbers row) (payloadOf row) (recordedSize row 4)) (replicate (recordedSize row 4) 0) (payloadOf row)
 
 unfoldable pub textRowAgrees : List ℕ → Bool
 textRowAgrees row =

@@ -6,7 +6,7 @@ ghost use Rattle.cigar.specs.Read.{countsAfter, lettersAfter};
 ghost use Rattle.cigar.specs.Write.{bufferAfter};
 ghost use Rattle.words.specs.Words.{readWords, writeWords};
 ghost use Rattle.vectors.specs.Sizes.{mostWords};
-ghost use Rattle.vectors.specs.Rows.{sizeOf};
+ghost use Rattle.vectors.specs.Rows.{recordedSize};
 ghost use Rattle.vectors.specs.Bam.{wordOr, countOr, letterOr, wordsPut, holdsWords, isCount, holdsCounts, holdsLetters, elementsAgree, wordsAgree, readBamAgrees, writeBamAgrees, bamRowAgrees};
 use crate::answers;
 use crate::calls;
@@ -198,8 +198,8 @@ fn writes(
     layout: &[u8],
     words: &mut [u32],
 ) -> bool
-    ensures { λ r. ⌜ r ≡ wordsAgree (now (row .entry)) (writeWords (sizeOf (now (row .entry)) 0) (now (counts .entry)) (now (letters .entry)) (length (now (words .entry)))) (now (words .entry)) (now (layout .entry)) ⌝ }
-    ensures { λ _. ⌜ now (words .exit) ≡ bufferAfter (now (words .entry)) (writeWords (sizeOf (now (row .entry)) 0) (now (counts .entry)) (now (letters .entry)) (length (now (words .entry)))) ⌝ }
+    ensures { λ r. ⌜ r ≡ wordsAgree (now (row .entry)) (writeWords (recordedSize (now (row .entry)) 0) (now (counts .entry)) (now (letters .entry)) (length (now (words .entry)))) (now (words .entry)) (now (layout .entry)) ⌝ }
+    ensures { λ _. ⌜ now (words .exit) ≡ bufferAfter (now (words .entry)) (writeWords (recordedSize (now (row .entry)) 0) (now (counts .entry)) (now (letters .entry)) (length (now (words .entry)))) ⌝ }
 {
     let answer = entry::bam::txc_write_bam(rows::size(row, 0), counts, letters, words);
     rows::expects(row, answers::of_length(answer)) & holds_words(words, layout)

@@ -5,7 +5,7 @@ ghost use mathlib.Core.Path.{_≡_};
 ghost use Prim.Native.Nat.{_≤_, _<_};
 ghost use lib.ListN.{length, replicate};
 ghost use Rattle.vectors.specs.Sizes.{mostFile};
-ghost use Rattle.vectors.specs.Rows.{firstOf, wordAt, signedAt, callOf, flagsOf, originOf, sizeOf, numberOf, payloadOf, answerOf, isWord, expected, hasHead, rowSize};
+ghost use Rattle.vectors.specs.Rows.{firstOf, wordAt, signedAt, callOf, flagsOf, originOf, recordedSize, recordedNumber, payloadOf, recordedAnswer, isWord, expected, hasHead, rowSize};
 use crate::say;
 
 // The bytes of a block.
@@ -85,7 +85,7 @@ pub(crate) fn origin(row: &[u8]) -> usize
 // A number of the call.
 pub(crate) fn number(row: &[u8], i: usize) -> i32
     requires { ⌜ i < 6 ⌝ }
-    ensures { λ r. ⌜ r ≡ numberOf (now (row .entry)) i ⌝ }
+    ensures { λ r. ⌜ r ≡ recordedNumber (now (row .entry)) i ⌝ }
 {
     signed_word(row, FIRST_NUMBER + i)
 }
@@ -93,7 +93,7 @@ pub(crate) fn number(row: &[u8], i: usize) -> i32
 // A number of the call as 32 bits.
 pub(crate) fn bits(row: &[u8], i: usize) -> u32
     requires { ⌜ i < 6 ⌝ }
-    ensures { λ r. ⌜ r ≡ sizeOf (now (row .entry)) i ⌝ }
+    ensures { λ r. ⌜ r ≡ recordedSize (now (row .entry)) i ⌝ }
 {
     word(row, FIRST_NUMBER + i)
 }
@@ -101,7 +101,7 @@ pub(crate) fn bits(row: &[u8], i: usize) -> u32
 // A number of the call as a size.
 pub(crate) fn size(row: &[u8], i: usize) -> usize
     requires { ⌜ i < 6 ⌝ }
-    ensures { λ r. ⌜ r ≡ sizeOf (now (row .entry)) i ⌝ }
+    ensures { λ r. ⌜ r ≡ recordedSize (now (row .entry)) i ⌝ }
 {
     bits(row, i) as usize
 }
@@ -116,7 +116,7 @@ pub(crate) fn payload(row: &[u8]) -> &[u8]
 // A word of the answer that a row expects, as a size.
 pub(crate) fn answer(row: &[u8], i: usize) -> usize
     requires { ⌜ i < 8 ⌝ }
-    ensures { λ r. ⌜ r ≡ answerOf (now (row .entry)) i ⌝ }
+    ensures { λ r. ⌜ r ≡ recordedAnswer (now (row .entry)) i ⌝ }
 {
     word(row, FIRST_ANSWER + i) as usize
 }

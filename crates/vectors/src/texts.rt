@@ -6,9 +6,9 @@ ghost use Rattle.refusals.specs.Numbers.{mostSegments};
 ghost use Rattle.cigar.specs.Write.{writing, bufferAfter};
 ghost use Rattle.card.specs.Writing.{cardWriting};
 ghost use Rattle.vectors.specs.Sizes.{mostRoom};
-ghost use Rattle.vectors.specs.Rows.{sizeOf};
-ghost use Rattle.vectors.specs.Changes.{numbersIn};
-ghost use Rattle.vectors.specs.Texts.{laidOut, countAt, letterAt, isElement, beginWith, countsPut, lettersPut, holdsText, textAgrees, cardAgrees, partWords, commonWords, allelesWords, allelesAgree, readAgrees, writeAgrees, writeCardAgrees, textRowAgrees};
+ghost use Rattle.vectors.specs.Rows.{recordedSize};
+ghost use Rattle.vectors.specs.Changes.{recordedNumbers};
+ghost use Rattle.vectors.specs.Texts.{laidOut, recordedCount, letterAt, isElement, beginWith, countsPut, lettersPut, holdsText, textAgrees, cardAgrees, partWords, commonWords, allelesWords, allelesAgree, readAgrees, writeAgrees, writeCardAgrees, textRowAgrees};
 use crate::answers;
 use crate::calls;
 use crate::rows;
@@ -33,7 +33,7 @@ fn room() -> [u8; MOST_ROOM]
 // The count of the element at an index of a layout.
 pub(crate) fn count_at(elements: &[u8], i: usize) -> i32
     requires { ⌜ i < laidOut (now elements) ⌝ }
-    ensures { λ r. ⌜ r ≡ countAt (now (elements .entry)) i ⌝ }
+    ensures { λ r. ⌜ r ≡ recordedCount (now (elements .entry)) i ⌝ }
 {
     fields::i32_at(elements, ELEMENT * i)
 }
@@ -136,8 +136,8 @@ fn writes_cigar(
     text: &[u8],
     buffer: &mut [u8],
 ) -> bool
-    ensures { λ r. ⌜ r ≡ textAgrees (now (row .entry)) (writing (sizeOf (now (row .entry)) 0) (now (counts .entry)) (now (letters .entry)) (length (now (buffer .entry)))) (now (buffer .entry)) (now (text .entry)) ⌝ }
-    ensures { λ _. ⌜ now (buffer .exit) ≡ bufferAfter (now (buffer .entry)) (writing (sizeOf (now (row .entry)) 0) (now (counts .entry)) (now (letters .entry)) (length (now (buffer .entry)))) ⌝ }
+    ensures { λ r. ⌜ r ≡ textAgrees (now (row .entry)) (writing (recordedSize (now (row .entry)) 0) (now (counts .entry)) (now (letters .entry)) (length (now (buffer .entry)))) (now (buffer .entry)) (now (text .entry)) ⌝ }
+    ensures { λ _. ⌜ now (buffer .exit) ≡ bufferAfter (now (buffer .entry)) (writing (recordedSize (now (row .entry)) 0) (now (counts .entry)) (now (letters .entry)) (length (now (buffer .entry)))) ⌝ }
 {
     let answer = entry::text::txc_write_cigar(rows::size(row, 0), counts, letters, buffer);
     rows::expects(row, answers::of_length(answer)) & holds(buffer, text)
@@ -173,8 +173,8 @@ fn write_cigar(row: &[u8]) -> bool
 
 // Whether a card is written into a buffer as recorded: the records stand after its head, and a refusal leaves the buffer.
 fn writes_card(row: &[u8], records: &[u8], buffer: &mut [u8]) -> bool
-    ensures { λ r. ⌜ r ≡ cardAgrees (now (row .entry)) (cardWriting (numbersIn (now (row .entry))) (now (records .entry)) (length (now (buffer .entry)))) (now (buffer .entry)) (now (records .entry)) ⌝ }
-    ensures { λ _. ⌜ now (buffer .exit) ≡ bufferAfter (now (buffer .entry)) (cardWriting (numbersIn (now (row .entry))) (now (records .entry)) (length (now (buffer .entry)))) ⌝ }
+    ensures { λ r. ⌜ r ≡ cardAgrees (now (row .entry)) (cardWriting (recordedNumbers (now (row .entry))) (now (records .entry)) (length (now (buffer .entry)))) (now (buffer .entry)) (now (records .entry)) ⌝ }
+    ensures { λ _. ⌜ now (buffer .exit) ≡ bufferAfter (now (buffer .entry)) (cardWriting (recordedNumbers (now (row .entry))) (now (records .entry)) (length (now (buffer .entry)))) ⌝ }
 {
     let answer = entry::build::txc_write_card(
         rows::number(row, 0),

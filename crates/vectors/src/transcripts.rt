@@ -2,7 +2,7 @@
 ghost use mathlib.Core.Path.{_≡_};
 ghost use lib.ListN.{set};
 ghost use Rattle.segments.specs.Tables.{tables};
-ghost use Rattle.building.specs.Afterwards.{answerOf as builtOf, lengthAnswer, tablesAfter};
+ghost use Rattle.building.specs.Afterwards.{builtAnswer, lengthAnswer, tablesAfter};
 ghost use Rattle.entry.specs.Boundary.{builtNumber, builtHead};
 ghost use Rattle.vectors.specs.Changes.{cardMade, recordsMade, lengthMade, totalOf, recordsWords, lengthOnlyWords, builtWords, headDamaged, tablesDamaged, placesOf, damageWords, headAfter, tablesThen, changeWords};
 use crate::answers;
@@ -160,8 +160,8 @@ fn build_card(
     transcript: &mut [u32; MOST_STARTS],
     letters: &mut [u8; MOST_SEGMENTS],
 ) -> [i64; ANSWER]
-    ensures { λ r. ⌜ r ≡ builtWords (now (row .entry)) (builtOf (cardMade (now (row .entry)))) (now (head .exit)) (tables (now (genome .exit)) (now (transcript .exit)) (now (letters .exit))) ⌝ }
-    ensures { λ _. ⌜ now (head .exit) ≡ builtHead (builtOf (cardMade (now (row .entry)))) (now (head .entry)) ⌝ }
+    ensures { λ r. ⌜ r ≡ builtWords (now (row .entry)) (builtAnswer (cardMade (now (row .entry)))) (now (head .exit)) (tables (now (genome .exit)) (now (transcript .exit)) (now (letters .exit))) ⌝ }
+    ensures { λ _. ⌜ now (head .exit) ≡ builtHead (builtAnswer (cardMade (now (row .entry)))) (now (head .entry)) ⌝ }
     ensures { λ _. ⌜ tables (now (genome .exit)) (now (transcript .exit)) (now (letters .exit)) ≡ tablesAfter (cardMade (now (row .entry))) (tables (now (genome .entry)) (now (transcript .entry)) (now (letters .entry))) ⌝ }
 {
     let card = rows::payload(row);
@@ -177,8 +177,8 @@ fn build(
     transcript: &mut [u32; MOST_STARTS],
     letters: &mut [u8; MOST_SEGMENTS],
 ) -> [i64; ANSWER]
-    ensures { λ r. ⌜ r ≡ builtWords (now (row .entry)) (builtOf (recordsMade (now (row .entry)))) (now (head .exit)) (tables (now (genome .exit)) (now (transcript .exit)) (now (letters .exit))) ⌝ }
-    ensures { λ _. ⌜ now (head .exit) ≡ builtHead (builtOf (recordsMade (now (row .entry)))) (now (head .entry)) ⌝ }
+    ensures { λ r. ⌜ r ≡ builtWords (now (row .entry)) (builtAnswer (recordsMade (now (row .entry)))) (now (head .exit)) (tables (now (genome .exit)) (now (transcript .exit)) (now (letters .exit))) ⌝ }
+    ensures { λ _. ⌜ now (head .exit) ≡ builtHead (builtAnswer (recordsMade (now (row .entry)))) (now (head .entry)) ⌝ }
     ensures { λ _. ⌜ tables (now (genome .exit)) (now (transcript .exit)) (now (letters .exit)) ≡ tablesAfter (recordsMade (now (row .entry))) (tables (now (genome .entry)) (now (transcript .entry)) (now (letters .entry))) ⌝ }
 {
     let number = entry::build::txc_build(

@@ -22,7 +22,7 @@ use borrow.Author.Tests.{lt-ltb, le-ltb, eq-eqb, ne-eqb}
 use Rattle.refusals.specs.Numbers.{tooMuch, noRoom, noOperation, mostSegments}
 use Rattle.refusals.specs.Outcome.{answered, refused}
 use Rattle.cigar.specs.Text.{element}
-use Rattle.words.specs.Words.{elementOfWord, wordOf, isKnown, allKnown, readWords, faultOf, faultFrom, elementsFrom, writeWords}
+use Rattle.words.specs.Words.{elementOfWord, wordOf, isKnown, allKnown, readWords, faultOf, faultFrom, elementsAt, writeWords}
 use Rattle.words.specs.laws.RoundTrips.{fault-first}
 
 module _ (words : List ℕ) (i : ℕ) where
@@ -68,13 +68,13 @@ module _ (counts : List ℤ) (letters : List ℕ) (number i : ℕ) where
   pub fault-left : i < number → faultFrom counts letters i (number - i) ≡ 0 → (here ≡ 0) × (faultFrom counts letters (i + 1) (number - (i + 1)) ≡ 0)
   fault-left h e = fault-first counts letters i (number - (i + 1)) (ap (faultFrom counts letters i) (sym (one-more h)) ∙ e)
 
-  pub words-more : i < number → map wordOf (elementsFrom counts letters i (number - i))
-      ≡ wordOf (element (natAbs (getD counts i (pos 0))) (getD letters i 0)) ∷ map wordOf (elementsFrom counts letters (i + 1) (number - (i + 1)))
-  unfolding elementsFrom
+  pub words-more : i < number → map wordOf (elementsAt counts letters i (number - i))
+      ≡ wordOf (element (natAbs (getD counts i (pos 0))) (getD letters i 0)) ∷ map wordOf (elementsAt counts letters (i + 1) (number - (i + 1)))
+  unfolding elementsAt
   words-more h = rw (one-more h)
 
-  pub words-none : number ≤ i → map wordOf (elementsFrom counts letters i (number - i)) ≡ []
-  unfolding elementsFrom
+  pub words-none : number ≤ i → map wordOf (elementsAt counts letters i (number - i)) ≡ []
+  unfolding elementsAt
   words-none h =
       let none : number - i ≡ 0 = omega arith in
       rw none
@@ -119,7 +119,7 @@ module _ (number : ℕ) (counts : List ℤ) (letters : List ℕ) (room : ℕ) wh
     unfolding writeWords
     full-words few h = rw (eq-eqb fault 0 k, le-ltb mostSegments number few, lt-ltb room number h)
 
-    pub all-written : number ≤ mostSegments → number ≤ room → writeWords number counts letters room ≡ answered (map wordOf (elementsFrom counts letters 0 number))
+    pub all-written : number ≤ mostSegments → number ≤ room → writeWords number counts letters room ≡ answered (map wordOf (elementsAt counts letters 0 number))
     unfolding writeWords
     all-written few h = rw (eq-eqb fault 0 k, le-ltb mostSegments number few, le-ltb room number h)
 

@@ -10,7 +10,7 @@ use lib.Signed.{ltZ}
 use Rattle.whole.specs.Whole.{if_then_else_}
 use Rattle.refusals.specs.Numbers.{tooMuch, noElement, noRoom, noOperation, noWord, mostSegments, mostWordCount}
 use Rattle.refusals.specs.Outcome.{answered, refused, unless}
-use Rattle.cigar.specs.Bytes.{bytes}
+use Rattle.cigar.specs.Bytes.{ascii}
 use Rattle.cigar.specs.Elements.{Element, isLetter, letterD, letterI}
 use Rattle.cigar.specs.Text.{Reading, element}
 use Rattle.cigar.specs.Write.{Writing}
@@ -21,7 +21,7 @@ use Rattle.cigar.specs.declared.Counted.the-variants as counted
 
 -- BAM numbers its letters from 0 on
 abbrev pub bamLetters : List ℕ
-bamLetters = bytes "MIDNSHP=X"
+bamLetters = ascii "MIDNSHP=X"
 
 -- BAM's letter of a code, 0 where it has none
 abbrev pub bamLetter : ℕ → ℕ
@@ -50,20 +50,20 @@ codeOf letter = placeIn bamLetters (exchanged letter)
 -- ---- words and elements
 
 -- the lower 4 bits have room for so many codes
-abbrev pub codes : ℕ
-codes = 16
+abbrev pub codesOfWord : ℕ
+codesOfWord = 16
 
 abbrev pub lengthIn : ℕ → ℕ
-lengthIn word = word / codes
+lengthIn word = word / codesOfWord
 
 abbrev pub codeIn : ℕ → ℕ
-codeIn word = word % codes
+codeIn word = word % codesOfWord
 
 abbrev pub elementOfWord : ℕ → Element
 elementOfWord word = element (lengthIn word) (letterOf (codeIn word))
 
 abbrev pub wordOf : Element → ℕ
-wordOf x = x .count * codes + codeOf (x .letter)
+wordOf x = x .count * codesOfWord + codeOf (x .letter)
 
 -- ---- reading
 
@@ -102,9 +102,9 @@ faultFrom counts letters i (suc m) =
     if eqb here 0 then faultFrom counts letters (i + 1) m else here
 
 -- the elements at m places of the tables from place i on
-unfoldable pub elementsFrom : List ℤ → List ℕ → ℕ → ℕ → List Element
-elementsFrom counts letters i zero = []
-elementsFrom counts letters i (suc m) = element (natAbs (getD counts i (pos 0))) (getD letters i 0) ∷ elementsFrom counts letters (i + 1) m
+unfoldable pub elementsAt : List ℤ → List ℕ → ℕ → ℕ → List Element
+elementsAt counts letters i zero = []
+elementsAt counts letters i (suc m) = element (natAbs (getD counts i (pos 0))) (getD letters i 0) ∷ elementsAt counts letters (i + 1) m
 
 -- What the first elements of two tables are written as, for that many lent words: the first element's 7 or 31 of those that the tables can hold, then 3 where they
 -- are too many, then 20 where there is no room for their words.
@@ -113,7 +113,7 @@ writeWords number counts letters room =
     unless (faultFrom counts letters 0 (min number mostSegments))
     (if ltb mostSegments number then refused tooMuch
     else if ltb room number then refused noRoom
-    else answered (map wordOf (elementsFrom counts letters 0 number)))
+    else answered (map wordOf (elementsAt counts letters 0 number)))
 
 -- how many words were written
 abbrev pub countedWords : Writing → Counted

@@ -12,7 +12,7 @@ ghost use Rattle.cigar.specs.Elements.{isLetter};
 ghost use Rattle.cigar.specs.Text.{element, countedOf};
 ghost use Rattle.cigar.specs.Read.{countsAfter, lettersAfter, FullLength, Filled};
 ghost use Rattle.cigar.specs.Write.{bufferAfter};
-ghost use Rattle.words.specs.Words.{letterOf, codeOf, lengthIn, codeIn, elementOfWord, wordOf, isKnown, allKnown, readWords, faultOf, faultFrom, elementsFrom, writeWords, countedWords, Room};
+ghost use Rattle.words.specs.Words.{letterOf, codeOf, lengthIn, codeIn, elementOfWord, wordOf, isKnown, allKnown, readWords, faultOf, faultFrom, elementsAt, writeWords, countedWords, Room};
 use cigar::Counted;
 use refusals::MOST_SEGMENTS;
 use refusals::MOST_WORD_COUNT;
@@ -167,7 +167,7 @@ fn put_words(number: usize, counts: &[i32], letters: &[u8], words: &mut [u32])
     requires { ⌜ FullLength (now counts) (now letters) × (number ≤ mostSegments) ⌝ }
     requires { ⌜ faultFrom (now counts) (now letters) 0 number ≡ 0 ⌝ }
     requires { ⌜ number ≤ length (now words) ⌝ }
-    ensures { λ _. ⌜ now (words .exit) ≡ sets (now (words .entry)) 0 (map wordOf (elementsFrom (now (counts .entry)) (now (letters .entry)) 0 number)) ⌝ }
+    ensures { λ _. ⌜ now (words .exit) ≡ sets (now (words .entry)) 0 (map wordOf (elementsAt (now (counts .entry)) (now (letters .entry)) 0 number)) ⌝ }
 {
     let mut i = 0;
     while i < number {

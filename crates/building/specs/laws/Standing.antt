@@ -22,7 +22,7 @@ use Rattle.holding.specs.Holding.{Lent, isForward, isBackward, holds, headCds, 
 use Rattle.holding.specs.laws.Held.{CdsRight, Together, held-where}
 use Rattle.judging.specs.Judging.{Made, Measured, elementsMade}
 use Rattle.transcript.specs.Heads.{bitsOf, startIn, endIn, strandOf}
-use Rattle.building.specs.Afterwards.{headOf, lengthHead, answerOf}
+use Rattle.building.specs.Afterwards.{headOf, lengthHead, builtAnswer}
 use Rattle.judging.specs.laws.Accepted.{CdsInside, Sane}
 use Rattle.transcript.specs.laws.Heads.{plus-is}
 use Rattle.transcript.specs.declared.Head.{Head}
@@ -100,11 +100,11 @@ pub record Makes (j : Outcome Made) (h : Head) : Type 0 where
   pub judged : j ≡ answered made
   pub head-is : h ≡ headOf made
 
-pub makes : (j : Outcome Made) (h : Head) → answerOf j ≡ answer.Transcript h → Makes j h
+pub makes : (j : Outcome Made) (h : Head) → builtAnswer j ≡ answer.Transcript h → Makes j h
 makes (refused k) h e = let z : _≡_ {A = ℕ} 0 1 = cc in absurd (omega arith)
 makes (answered m) h e = record { made = m; judged = refl; head-is = cc }
 
 -- one that is answered by a refusal
-pub refuses : (j : Outcome Made) (k : ℕ) → answerOf j ≡ answer.Refused k → j ≡ refused k
+pub refuses : (j : Outcome Made) (k : ℕ) → builtAnswer j ≡ answer.Refused k → j ≡ refused k
 refuses (refused l) k e = let is : l ≡ k = cc in ap refused is
 refuses (answered m) k e = let z : _≡_ {A = ℕ} 0 1 = cc in absurd (omega arith)

@@ -2,12 +2,13 @@
 use mathlib.Core.Path.{_≡_, sym, ap, _∙_}
 use lib.ListN.{length}
 use Rattle.refusals.specs.Outcome.{Outcome, answered, refused}
-use Rattle.cigar.specs.Write.{Writing, answerOf, bufferAfter}
+use Rattle.refusals.specs.Numbers.{mostCard}
+use Rattle.cigar.specs.Write.{Writing, fitted, writtenAnswer, bufferAfter}
 use Rattle.judging.specs.Input.{inputOf}
 use Rattle.judging.specs.Judging.{Made, judge}
 use Rattle.judging.specs.laws.Told.{told-made, told-refused}
 use Rattle.card.specs.Card.{cardText}
-use Rattle.card.specs.Writing.{fitted, ifTaken, cardWriting}
+use Rattle.card.specs.Writing.{ifTaken, cardWriting}
 use Rattle.card.specs.laws.Taken.{taken-records, taken-few}
 use borrow.Author.Needs.{needs}
 use Rattle.card.proofs.write_card.Statement.{statement}
@@ -19,7 +20,7 @@ module _ (e : tie.Start) where
   judgment = judge (e .args .numbers) (e .args .records .now)
 
   abbrev written-if-taken : Writing
-  written-if-taken = fitted (length (e .args .buffer .now)) (cardText (inputOf (e .args .numbers) (e .args .records .now)))
+  written-if-taken = fitted mostCard (length (e .args .buffer .now)) (cardText (inputOf (e .args .numbers) (e .args .records .now)))
 
 abbrev entry : tie.After-judge → tie.Start
 entry c = c .before .before .before
@@ -47,7 +48,7 @@ returns c =
     let e = entry (c .before .before .before .before .before .before) in
     let w = writing-is e (answered (t .0)) (t .1) in
     let written = c .before .before .write-taken .ensures in
-    (written .0 ∙ sym (ap answerOf w), written .1 ∙ sym (ap (bufferAfter (e .args .buffer .now)) w))
+    (written .0 ∙ sym (ap writtenAnswer w), written .1 ∙ sym (ap (bufferAfter (e .args .buffer .now)) w))
 
 returns-2 : tie.Need-returns-2
 returns-2 c =
@@ -55,7 +56,7 @@ returns-2 c =
     let k = c .before .k .given in
     let h = told-refused (judgment e) (sym (k .1) ∙ c .before .before .before .judge .ensures .0) in
     let w = writing-is e (refused (k .0 .0)) h in
-    (sym (ap answerOf w), sym (ap (bufferAfter (e .args .buffer .now)) w))
+    (sym (ap writtenAnswer w), sym (ap (bufferAfter (e .args .buffer .now)) w))
 
 pub write-card-spec : {M : Type 1} → statement M
 write-card-spec =

@@ -18,7 +18,7 @@ use mir.Val.{SFits}
 use Rattle.fields.specs.Fields.{little, le16, le32, bytes16, bytes32, signed32, bits32}
 use Rattle.fields.specs.laws.RoundTrips.{Bytes, little-bytes, signed-bits, bits-fit, bits-signed, signed-fits, bytes16-le, bytes32-le, le16-below, le32-below}
 use Rattle.records.specs.Layout.{altStart, altEnd, txStart, txEnd, ordAt, cigarSize, cigarText}
-use Rattle.records.specs.Records.{Record, fieldAt, sizeAt, nextAt, recordAt, laid, exactly, recordsFrom}
+use Rattle.records.specs.Records.{Record, fieldAt, sizeAt, nextAt, recordAt, recordText, exactly, recordsFrom}
 use Rattle.records.specs.Walk.{Stands}
 use Rattle.records.specs.laws.Walk.{begins}
 use Rattle.card.specs.Card.{recordsText}
@@ -42,21 +42,21 @@ pub signed-back : (z : ℤ) → SFits w32 z → signed32 (little (bytes32 (bits3
 signed-back z f = ap signed32 (little-bytes 4 (bits32 z) (bits-fit z f)) ∙ signed-bits z f
 
 -- a record that stands at a place, with bytes behind it
-module _ (s : List ℕ) (at : ℕ) (r : Record) (rest : List ℕ) (stands : drop at s ≡ laid r ++ rest) (fits : RecordFits r) where
+module _ (s : List ℕ) (at : ℕ) (r : Record) (rest : List ℕ) (stands : drop at s ≡ recordText r ++ rest) (fits : RecordFits r) where
   -- what stands k bytes on
-  on : (k : ℕ) → drop (at + k) s ≡ drop k (laid r ++ rest)
+  on : (k : ℕ) → drop (at + k) s ≡ drop k (recordText r ++ rest)
   on k = sym (drop-drop k at s) ∙ ap (drop k) stands
 
   pub size-back : sizeAt s at ≡ length (r .cigar)
-  unfolding laid le16
+  unfolding recordText le16
   size-back = ap (λ (l : List ℕ). little (take 2 l)) (on cigarSize) ∙ little-bytes 2 (length (r .cigar)) (fits .cigar-fits)
 
   text-on : drop (at + cigarText) s ≡ r .cigar ++ rest
-  unfolding laid
+  unfolding recordText
   text-on = on cigarText
 
   -- the number k bytes on
-  field-back : (k : ℕ) (z : ℤ) → SFits w32 z → take 4 (drop k (laid r ++ rest)) ≡ bytes32 (bits32 z) → fieldAt s (at + k) ≡ z
+  field-back : (k : ℕ) (z : ℤ) → SFits w32 z → take 4 (drop k (recordText r ++ rest)) ≡ bytes32 (bits32 z) → fieldAt s (at + k) ≡ z
   unfolding le32
   field-back k z f e = ap (λ (l : List ℕ). signed32 (little (take 4 l))) (on k) ∙ ap (λ (l : List ℕ). signed32 (little l)) e ∙ signed-back z f
 
@@ -64,7 +64,7 @@ module _ (s : List ℕ) (at : ℕ) (r : Record) (rest : List ℕ) (stands : drop
   cigar-back = rw (size-back, text-on) (take-at (r .cigar) rest (length (r .cigar)) refl)
 
   pub record-back : recordAt s at ≡ r
-  unfolding recordAt laid
+  unfolding recordAt recordText
   record-back =
       same-record
       (field-back altStart (r .alt-start) (fits .alt-start-fits) refl)
@@ -85,9 +85,9 @@ module _ (s : List ℕ) (at : ℕ) (r : Record) (rest : List ℕ) (stands : drop
       (sym (drop-drop (length (r .cigar)) (at + cigarText) s) ∙ ap (drop (length (r .cigar))) text-on ∙ drop-at (r .cigar) rest (length (r .cigar)) refl)
 
   pub room : (at + cigarText ≤ length s) × (nextAt s at ≤ length s)
-  unfolding laid
+  unfolding recordText
   room =
-      let e : length s - at ≡ length (laid r ++ rest) = sym (length-drop at s) ∙ ap length stands in
+      let e : length s - at ≡ length (recordText r ++ rest) = sym (length-drop at s) ∙ ap length stands in
       let t : length (r .cigar ++ rest) ≡ length (r .cigar) + length rest = length-append (r .cigar) rest in
       (omega (arith, e, t), omega (arith, e, t, size-back))
 
@@ -132,8 +132,8 @@ module _ (s : List ℕ) (at : ℕ) (bs : Bytes s) (numbers : at + cigarText ≤ 
   size-laid : bytes16 (length (take (sizeAt s at) (drop (at + cigarText) s))) ≡ take 2 (drop (at + cigarSize) s)
   size-laid = ap bytes16 cigar-length ∙ bytes16-le s (at + cigarSize) bs (omega arith)
 
-  laid-at : laid (recordAt s at) ≡ take (cigarText + sizeAt s at) (drop at s)
-  unfolding recordAt laid
+  laid-at : recordText (recordAt s at) ≡ take (cigarText + sizeAt s at) (drop at s)
+  unfolding recordAt recordText
   laid-at =
       beside s at cigarText (sizeAt s at)
       (beside s at cigarSize 2
@@ -162,7 +162,7 @@ module _ (s : List ℕ) (at : ℕ) (bs : Bytes s) (numbers : at + cigarText ≤ 
   }
 
 -- what the record at a place lays out, and what follows it
-after-laid : (s : List ℕ) (at : ℕ) → Bytes s → Stands s at → laid (recordAt s at) ++ drop (nextAt s at) s ≡ drop at s
+after-laid : (s : List ℕ) (at : ℕ) → Bytes s → Stands s at → recordText (recordAt s at) ++ drop (nextAt s at) s ≡ drop at s
 after-laid s at bs h =
     let n = sizeAt s at in
     rw (laid-at s at bs (h .numbers) (h .text))
@@ -181,7 +181,7 @@ unfolding recordsFrom recordsText exactly
 laid-from zero s at bs e = sym (drop-of-length-le s {i = at} (omega (arith, eqb-true at (length s) e)))
 laid-from (suc n) s at bs e =
     let b = one-of n s at e in
-    ap (λ (l : List ℕ). laid (recordAt s at) ++ l) (laid-from n s (nextAt s at) bs (b .1)) ∙ after-laid s at bs (b .0)
+    ap (λ (l : List ℕ). recordText (recordAt s at) ++ l) (laid-from n s (nextAt s at) bs (b .1)) ∙ after-laid s at bs (b .0)
 
 pub from-fit : (n : ℕ) (s : List ℕ) (at : ℕ) → Bytes s → exactly n s at ≡ true → AllFit (recordsFrom n s at)
 unfolding recordsFrom

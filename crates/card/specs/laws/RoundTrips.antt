@@ -9,6 +9,7 @@ use mathlib.Core.Bool.{true}
 use mathlib.Core.Logic.{_⊎_, ⊎-elim}
 use mathlib.Core.List.{List, [], _∷_, _++_}
 use Prim.Native.Nat.{ℕ, _+_, _-_, _%_, _<_, _≤_}
+use Prim.Native.Char.{code}
 use native.Mathlib.Omega.{arith}
 use borrow.Author.Tests.{eq-eqb, eqb-true, eqb-false, le-leb, leb-true, leb-false, le-ltb, ltb-false}
 use lib.Dec.{eqb, leb, ltb}
@@ -29,7 +30,7 @@ use Rattle.transcript.specs.Heads.{bothBits, startOf, endOf, strandOf, numberOf
 use Rattle.judging.specs.Input.{Input}
 use Rattle.transcript.specs.declared.Bound.{Bound}
 use Rattle.transcript.specs.declared.Bound.the-variants.{Given, Absent}
-use Rattle.card.specs.Layout.{letterT, letterX, letterC, mark, version, versionAt, strandAt, cdsAt, startAt, endAt, countAt, recordsAt}
+use Rattle.card.specs.Layout.{mark, version, versionAt, strandAt, cdsAt, startAt, endAt, countAt, recordsAt}
 use Rattle.card.specs.Card.{strandByte, cdsByte, recordsText, headerText, cardText, isMarked, numbersIn, arePlain, isCard, readCard, inputIn, said, cardSays}
 use Rattle.card.specs.laws.Records.{AllFit, signed-back, from-laid, exactly-laid, field-laid, beside, laid-from}
 use Rattle.transcript.specs.declared.Numbers.{Numbers}
@@ -195,7 +196,7 @@ marked-means s e =
     let a = both _ _ (l .1) in
     let b = both _ _ (a .1) in
     three s (omega (arith, leb-true strandAt (length s) (l .0)))
-    ∙ rw (eqb-true (getD s 0 0) letterT (a .0), eqb-true (getD s 1 0) letterX (b .0), eqb-true (getD s 2 0) letterC (b .1))
+    ∙ rw (eqb-true (getD s 0 0) (code "T") (a .0), eqb-true (getD s 1 0) (code "X") (b .0), eqb-true (getD s 2 0) (code "C") (b .1))
 
 plain-means : (b : ℕ) (z w : ℤ) → arePlain b z w ≡ true → (numberOf (startOf b z) ≡ z) × (numberOf (endOf b w) ≡ w)
 unfolding arePlain

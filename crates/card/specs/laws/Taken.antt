@@ -22,6 +22,7 @@ use Rattle.refusals.specs.Numbers.{mostRecords, mostCard}
 use Rattle.refusals.specs.Outcome.{Outcome, answered, refused}
 use Rattle.refusals.specs.laws.Outcomes.{clash, same}
 use Rattle.whole.specs.laws.Whole.{by-test}
+use Rattle.cigar.specs.Write.{fitted}
 use Rattle.fields.specs.laws.RoundTrips.{Bytes}
 use Rattle.records.specs.Records.{exactly}
 use Rattle.records.specs.laws.Walk.{records-length}
@@ -31,7 +32,7 @@ use Rattle.transcript.specs.Heads.{boundOf, startOf, endOf, strandOf, numberOf}
 use Rattle.judging.specs.laws.Accepted.{Accepted, accepted-means, Sane, judged-sane}
 use Rattle.card.specs.Layout.{recordsAt}
 use Rattle.card.specs.Card.{headerText, cardText, readCard, inputIn, cardSays}
-use Rattle.card.specs.Writing.{judgeRead, judgeCard, fitted, ifTaken, cardWriting}
+use Rattle.card.specs.Writing.{judgeRead, judgeCard, ifTaken, cardWriting}
 use Rattle.transcript.specs.declared.Numbers.{Numbers}
 use Rattle.card.specs.declared.ReadCard.{ReadCard}
 use Rattle.card.specs.declared.ReadCard.the-variants as read
@@ -101,7 +102,7 @@ record Fitting (text : List ℕ) (j : Outcome Made) (card : List ℕ) : Type 0 w
   is : text ≡ card
   small : length card ≤ mostCard
 
-fits-in : (j : Outcome Made) (room : ℕ) (card text : List ℕ) → ifTaken j (fitted room card) ≡ answered text → Fitting text j card
+fits-in : (j : Outcome Made) (room : ℕ) (card text : List ℕ) → ifTaken j (fitted mostCard room card) ≡ answered text → Fitting text j card
 fits-in (refused k) room card text e = absurd (let z : _≡_ {A = ℕ} 0 1 = cc in omega arith)
 fits-in (answered m) room card text e =
     by-test (ltb mostCard (length card))

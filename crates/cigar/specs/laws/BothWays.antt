@@ -25,7 +25,7 @@ use Rattle.cigar.specs.Text.{Reading, before, element, readAll}
 use Rattle.cigar.specs.laws.Sound.{Sound, AllSound, read-sound, read-room}
 use Rattle.cigar.specs.Lent.{atFront}
 use Rattle.cigar.specs.Read.{readText, countsOf, lettersOf}
-use Rattle.cigar.specs.Write.{elementsText, givenFrom, given, textOf, writing}
+use Rattle.cigar.specs.Write.{elementsText, givenFrom, elementsGiven, textOf, writing}
 use Rattle.cigar.specs.laws.RoundTrip.{read-back, shorter}
 
 -- elements that stand after some others in both tables
@@ -45,7 +45,7 @@ given-after (x ∷ es) cs ls counts letters i p q h =
     (ap (before x) rest)
 
 pub given-back : (es : List Element) (counts : List ℤ) (letters : List ℕ) → AllSound es
-    → given (atFront (countsOf es) counts) (atFront (lettersOf es) letters) (length es) ≡ answered es
+    → elementsGiven (atFront (countsOf es) counts) (atFront (lettersOf es) letters) (length es) ≡ answered es
 given-back es counts letters h = given-after es [] [] (drop (length (countsOf es)) counts) (drop (length (lettersOf es)) letters) 0 refl refl h
 
 -- a text that was read has no more bytes than a text may have
@@ -91,11 +91,11 @@ module _ (counts : List ℤ) (letters : List ℕ) (fit : (i : ℕ) → SFits w32
       (record { small = count-small (getD counts i (pos 0)) b (fit i); lettered = l }) (given-sound m (i + 1)))))
       (λ l. rw l tt)
 
-  pub write-read : (number room : ℕ) {text : List ℕ} → writing number counts letters room ≡ answered text → readText text ≡ given counts letters number
+  pub write-read : (number room : ℕ) {text : List ℕ} → writing number counts letters room ≡ answered text → readText text ≡ elementsGiven counts letters number
   unfolding writing readText
   write-read number room {text} e =
       by-test (ltb mostSegments number) (λ t. absurd (clash (rw t at e)))
-      (λ t. go (given counts letters number) (given-sound number 0) (ltb-false mostSegments number t) (rw t at e))
+      (λ t. go (elementsGiven counts letters number) (given-sound number 0) (ltb-false mostSegments number t) (rw t at e))
     where
       go : (r : Reading) → Given number r → number ≤ mostSegments → textOf room r ≡ answered text → readText text ≡ r
       go (answered es) g few p =

@@ -21,7 +21,7 @@ use Rattle.whole.specs.Whole.{if_then_else_}
 use Rattle.whole.specs.laws.Whole.{by-test}
 use Rattle.refusals.specs.Numbers.{mostCount}
 use Rattle.refusals.specs.Outcome.{answered, refused}
-use Rattle.cigar.specs.Bytes.{bytes}
+use Rattle.cigar.specs.Bytes.{ascii}
 use Rattle.cigar.specs.Elements.{Element, isLetter}
 use Rattle.cigar.specs.laws.Letters.{digit-bounds, digit-yes, letter-no-digit}
 use Rattle.cigar.specs.Text.{isDigit, countOf, Reading, before, element, taken, readFrom, readAll}
@@ -159,7 +159,7 @@ pub shorter : (room : ℕ) (text : List ℕ) {es : List Element} → readAll roo
 unfolding soFar
 shorter room text e = omega (arith, subst (Short (length text + 0)) e (short-read text room false 0 (λ _. refl)))
 
-pub p14 : (let text : List ℕ = bytes "M0X3=" in let es : List Element = element 1 (code "M") ∷ element 0 (code "X") ∷ element 3 (code "=") ∷ [] in
+pub p14 : (let text : List ℕ = ascii "M0X3=" in let es : List Element = element 1 (code "M") ∷ element 0 (code "X") ∷ element 3 (code "=") ∷ [] in
     (readText text ≡ answered es) × (elementsText es ≡ text))
 unfolding isLetter readText readFrom digitsBy decimal elementText elementsText
 p14 = (refl, refl)

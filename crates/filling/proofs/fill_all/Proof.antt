@@ -6,7 +6,7 @@ use Rattle.cigar.specs.Text.{elementsIn}
 use Rattle.reading.specs.Reading.{genomeEndOf, readFirst, exonsAfter}
 use Rattle.reading.specs.Tallies.{nothing, BoundedTally, tallied, talliedAfter}
 use Rattle.segments.specs.Tables.{tables}
-use Rattle.filling.specs.Filling.{fill, ordered, elementsPast, Small, SmallTally}
+use Rattle.filling.specs.Filling.{fill, ordered, elementsPast, SmallSums, SmallTally}
 use Rattle.reading.specs.declared.Sums.{Sums}
 use Rattle.reading.specs.declared.Tally.the-variants as tally
 use Rattle.reading.specs.laws.Tallied.{first-sums, first-refused}
@@ -31,7 +31,7 @@ module _ (c : tie.After-known-told) where
       SmallTally (talliedAfter (genomeEndOf (recordAt s 0)) first (exonsAfter (first .count) (recordsFrom (begin .args .count - 1) s (nextAt s 0))))
   small-rest = subst SmallTally (first-sums (begin .args .s .now) (begin .args .count) 0 (begin .pre .1 .0 .some) (sym told)) (begin .pre .1 .1)
 
-  small-first : Small first
+  small-first : SmallSums first
   small-first = let s = begin .args .s .now in small-so-far (genomeEndOf (recordAt s 0)) first (exonsAfter (first .count) (recordsFrom (begin .args .count - 1) s (nextAt s 0))) small-rest
 
 fill-first-requires : tie.Need-fill-first-requires

@@ -9,7 +9,7 @@ use Rattle.records.specs.laws.Walk.{turn}
 use Rattle.reading.specs.Reading.{genomeEndOf, between, readNext, exonsAfter}
 use Rattle.reading.specs.Tallies.{oneOn, Bounded, BoundedTally, tallied, talliedAfter}
 use Rattle.segments.specs.Tables.{tables}
-use Rattle.filling.specs.Filling.{Long, fill, nextElements, elementsPast, Small, SmallTally}
+use Rattle.filling.specs.Filling.{Long, fill, nextElements, elementsPast, SmallSums, SmallTally}
 use Rattle.reading.specs.declared.Sums.{Sums}
 use Rattle.reading.specs.declared.Tally.the-variants as tally
 use Rattle.reading.specs.laws.Tallied.{rest-sums, rest-refused}
@@ -82,7 +82,7 @@ module _ (c : tie.After-known-told Inv-loop μ-loop) where
   small-rest : SmallTally (talliedAfter (genomeEndOf here) to (exonsAfter (to .count) (recordsFrom (left - 1) bytes (nextAt bytes place))))
   small-rest = subst SmallTally (rest-sums bytes left place some there sums (sym told)) (c .before .before .before .before .before .loop .inv .3)
 
-  small-to : Small to
+  small-to : SmallSums to
   small-to = small-so-far (genomeEndOf here) to (exonsAfter (to .count) (recordsFrom (left - 1) bytes (nextAt bytes place))) small-rest
 
 fill-next-requires : tie.Need-fill-next-requires Inv-loop μ-loop

@@ -8,7 +8,7 @@ use Rattle.records.specs.Records.{recordsFrom}
 use Rattle.reading.specs.Reading.{exonsOf}
 use Rattle.reading.specs.Tallies.{nothing}
 use Rattle.segments.specs.Tables.{tables}
-use Rattle.filling.specs.Filling.{finished, elementsAll, SmallTally}
+use Rattle.filling.specs.Filling.{tablesFinished, elementsAll, SmallTally}
 use Rattle.reading.specs.declared.Sums.{Sums}
 use Rattle.filling.proofs.Fills.{long-after}
 use Rattle.filling.proofs.Past.{all-end}
@@ -41,7 +41,7 @@ returns c =
     let es = elementsAll (a .forward) x in
     let ends = all-end (a .forward) x (a .to) (s .pre .1 .1) in
     let few : length es ≤ mostSegments = omega (arith, ap (λ (t : Sums). t .count) ends, s .pre .1 .0 .1 .few) in
-    finished-at .finish .ensures ∙ ap₂ finished (filled .fill-all .ensures) ends ∙ fill-finished es few was (s .pre .0)
+    finished-at .finish .ensures ∙ ap₂ tablesFinished (filled .fill-all .ensures) ends ∙ fill-finished es few was (s .pre .0)
 
 pub write-tables-spec : {M : Type 1} → statement M
 write-tables-spec =

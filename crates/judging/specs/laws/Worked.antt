@@ -10,7 +10,7 @@ use Rattle.refusals.specs.Outcome.{Outcome, answered, refused}
 use Rattle.fields.specs.Fields.{le16, le32}
 use Rattle.cigar.specs.Elements.{isLetter, kindOf, genome, transcript, total, letterD, letterEqual, letterM, letterN}
 use Rattle.cigar.specs.Text.{element, readFrom}
-use Rattle.records.specs.Records.{Record, laid, exactly, recordAt, recordsFrom}
+use Rattle.records.specs.Records.{Record, recordText, exactly, recordAt, recordsFrom}
 use Rattle.records.specs.Faults.{faults, faultsAfter, ownFault, pairFault, followFault, spanFault, startFault, riseFault, joinFault}
 use Rattle.transcript.specs.Transcript.{Cds}
 use Rattle.transcript.specs.Transcript.Cds.{noCds, cds}
@@ -27,7 +27,7 @@ row a b c d o text = record { alt-start = a; alt-end = b; tx-start = c; tx-end =
 
 abbrev pub bytesOf : List Record → List ℕ
 bytesOf [] = []
-bytesOf (r ∷ rs) = laid r ++ bytesOf rs
+bytesOf (r ∷ rs) = recordText r ++ bytesOf rs
 
 -- records on a strand, with the CDS bits, start and end
 abbrev judged : ℤ → ℕ → ℤ → ℤ → List Record → Outcome Made
@@ -80,7 +80,7 @@ exonsAB = record { alt-start = 10; alt-end = 20; parts = element 10 letterM ∷ 
 
 -- what a judgment is computed by, named once: to unfold this is to unfold all of it
 unfoldable pub computing : Unit {0}
-unfolding judge judgeInput judgeOn lastFault rangeFault exactly recordsFrom recordAt laid le16 le32 faults faultsAfter ownFault pairFault followFault spanFault startFault riseFault joinFault exonsOf exonsAfter readFirst readNext readFrom isLetter elementsOf elementsAfter partsOf firstStart total genome transcript kindOf
+unfolding judge judgeInput judgeOn lastFault rangeFault exactly recordsFrom recordAt recordText le16 le32 faults faultsAfter ownFault pairFault followFault spanFault startFault riseFault joinFault exonsOf exonsAfter readFirst readNext readFrom isLetter elementsOf elementsAfter partsOf firstStart total genome transcript kindOf
 computing = tt
 
 -- A; B; A with a start and an end that are not given; two records with empty CIGARs; `0M` alone

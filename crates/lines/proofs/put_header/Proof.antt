@@ -6,7 +6,7 @@ use Prim.Native.Nat.{ℕ}
 use native.Mathlib.Omega.{arith}
 use lib.ListN.{set, length-set}
 use Rattle.card.specs.Layout.{mark}
-use Rattle.lines.specs.Listing.{signOf, headerText}
+use Rattle.lines.specs.Listing.{signOf, listingHeader}
 use Rattle.card.specs.Putting.{Put}
 use Rattle.card.specs.laws.Putting.{then-put, put-length}
 use borrow.Author.Needs.{needs}
@@ -29,8 +29,8 @@ module _ (c : tie.After-slice-known3) where
   five = record { past = refl; stored = ap₂ (λ (b : List ℕ) (x : ℕ). set (set b 3 32) 4 x) (c .before .before .before .before .before .before .before .put-mark .ensures) (c .before .before .before .before .sign .ensures) }
 
   whole : Put (start .args .buffer .now) (c .before .before .put-numbers .last .0) 0 (c .before .before .put-numbers .result)
-      (headerText (start .args .forward) (start .args .count) (start .args .genome) (start .args .transcript))
-  unfolding headerText
+      (listingHeader (start .args .forward) (start .args .count) (start .args .genome) (start .args .transcript))
+  unfolding listingHeader
   whole = then-put five (c .before .before .put-numbers .ensures .0)
 
 same-length : tie.Need-same-length

@@ -7,7 +7,7 @@ use native.Mathlib.Omega.{arith}
 use lib.ListN.{getD}
 use Rattle.segments.specs.Tables.{Tables, Holds, elementsFrom, read}
 use Rattle.segments.specs.laws.Reading.{read-length, genome-step, transcript-step, last-genome, last-transcript}
-use Rattle.lines.specs.Listing.{headerText, linesText, listingText}
+use Rattle.lines.specs.Listing.{listingHeader, linesText, listingText}
 use Rattle.lines.specs.Tables.{lineAt, linesFrom}
 
 module _ (a : Tables) (n : ℕ) (holds : Holds a n) where
@@ -22,10 +22,10 @@ module _ (a : Tables) (n : ℕ) (holds : Holds a n) where
       (genome-step a n holds i (omega arith))
       (transcript-step a n holds i (omega arith))))
 
-  pub listing-is : (forward : Bool) → headerText forward n (getD (a .genome) n 0) (getD (a .transcript) n 0) ++ linesFrom a 0 n ≡ listingText forward (read a n)
+  pub listing-is : (forward : Bool) → listingHeader forward n (getD (a .genome) n 0) (getD (a .transcript) n 0) ++ linesFrom a 0 n ≡ listingText forward (read a n)
   unfolding listingText
   listing-is forward =
       rw (read-length a n, last-genome a n holds, last-transcript a n holds)
-      (ap (λ (s : List ℕ). headerText forward n (getD (a .genome) n 0) (getD (a .transcript) n 0) ++ s)
+      (ap (λ (s : List ℕ). listingHeader forward n (getD (a .genome) n 0) (getD (a .transcript) n 0) ++ s)
       (lines-are 0 n (omega arith)
       ∙ ap₂ (λ (x y : ℕ). linesText x y (read a n)) (holds .genome-from-0) (holds .transcript-from-0)))

@@ -7,7 +7,7 @@ use Rattle.cigar.specs.Elements.{letterM, letterN, kindOf, genome, transcript, 
 use Rattle.cigar.specs.Text.{element}
 use Rattle.cigar.specs.Write.{digitsBy, decimal}
 use Rattle.card.specs.Layout.{letterT, letterX, letterC}
-use Rattle.lines.specs.Listing.{numbersText, headerText, linesText, listingText, refusalText}
+use Rattle.lines.specs.Listing.{numbersText, listingHeader, linesText, listingText, refusalText}
 
 -- `TXC + 3 23 18`
 abbrev firstLine : List ℕ
@@ -21,7 +21,7 @@ otherLines =
     ++ letterM ∷ 32 ∷ 49 ∷ 53 ∷ 32 ∷ 49 ∷ 48 ∷ 32 ∷ 56 ∷ 10 ∷ []
 
 a-listed : listingText true (element 10 letterM ∷ element 5 letterN ∷ element 8 letterM ∷ []) ≡ firstLine ++ otherLines
-unfolding listingText headerText linesText numbersText decimal digitsBy total genome transcript kindOf
+unfolding listingText listingHeader linesText numbersText decimal digitsBy total genome transcript kindOf
 a-listed = refl
 
 -- `refused 7`

@@ -13,7 +13,8 @@ use Rattle.whole.specs.laws.Whole.{by-test}
 use Rattle.numbering.specs.Numbers.{placeOfN}
 use Rattle.cigar.specs.Elements.{Element, Side, Kind, kindOf, genome, transcript}
 use Rattle.cigar.specs.Elements.Kind.{matches, inserts, deletes, skips}
-use Rattle.segments.specs.Tables.{entriesOf, lettersOf}
+use Rattle.cigar.specs.Read.{lettersOf}
+use Rattle.segments.specs.Tables.{entriesOf}
 use Rattle.segments.specs.Places.{End, leftNearer, indexOf, nearer, spotIn, mapByTables, mapPlace}
 use Rattle.segments.specs.Places.End.{start, stop}
 use Rattle.transcript.specs.Transcript.{Transcript, genomeLength, transcriptLength}

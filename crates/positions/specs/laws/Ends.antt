@@ -6,13 +6,13 @@ use Rattle.refusals.specs.Outcome.{Outcome, answered, refused, through}
 use Rattle.refusals.specs.laws.Outcomes.{clash, same}
 use Rattle.whole.specs.Whole.{if_then_else_}
 use Rattle.positions.specs.Positions.{Interval, each}
-use Rattle.positions.specs.Answers.{Mark, certain, uncertain, unmarked, markOf, Marked, Answer, ends, inARow, after, chain, fitted, fitting}
+use Rattle.positions.specs.Answers.{Mark, certain, uncertain, unmarked, markOf, Marked, Answer, ends, inARow, after, chain, ifFits, fitting}
 
 module _ {P : Type 0} where
   abbrev joined : Mark → P → P → Marked P
   joined m a b = record { mark = m; interval = record { from = a; to = b } }
 
-  pub ends-fit : (fit : P → Bool) (m : Mark) (a b : P) → fitting fit (answered (joined m a b)) ≡ ends m (fitted fit a) (fitted fit b)
+  pub ends-fit : (fit : P → Bool) (m : Mark) (a b : P) → fitting fit (answered (joined m a b)) ≡ ends m (ifFits fit a) (ifFits fit b)
   ends-fit fit m a b = go (fit a) (fit b)
     where
       go : (s t : Bool) → (if s && t then answered (joined m a b) else refused tooWide) ≡ ends m (if s then answered a else refused tooWide) (if t then answered b else refused tooWide)

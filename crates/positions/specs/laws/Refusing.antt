@@ -9,7 +9,7 @@ use Rattle.refusals.specs.Refusing.{oneOf, Only}
 use Rattle.refusals.specs.laws.Refusing.{only-through, only-both, only-then}
 use Rattle.whole.specs.Whole.{if_then_else_}
 use Rattle.positions.specs.Positions.{Interval, each}
-use Rattle.positions.specs.Answers.{Mark, Marked, Answer, ends, after, chain, fitted, fitting}
+use Rattle.positions.specs.Answers.{Mark, Marked, Answer, ends, after, chain, ifFits, fitting}
 
 module _ (ks : List ℕ) where
   -- a refusal where a test fails, and where one passes
@@ -21,7 +21,7 @@ module _ (ks : List ℕ) where
   only-unless true k o h n = record { only = n refl }
   only-unless false k o h n = h
 
-  pub only-fitted : {A : Type 0} (fit : A → Bool) (a : A) → oneOf tooWide ks ≡ true → Only ks (fitted fit a)
+  pub only-fitted : {A : Type 0} (fit : A → Bool) (a : A) → oneOf tooWide ks ≡ true → Only ks (ifFits fit a)
   only-fitted fit a w = only-if (fit a) tooWide (answered a) (record { only = tt }) (λ e. w)
 
   pub only-fitting : {P : Type 0} (fit : P → Bool) (a : Answer P) → oneOf tooWide ks ≡ true → Only ks a → Only ks (fitting fit a)

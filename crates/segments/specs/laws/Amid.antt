@@ -12,7 +12,8 @@ use borrow.Author.Tests.{ltb-true, ltb-false, lt-ltb, le-ltb}
 use Rattle.whole.specs.laws.Whole.{by-test, order, sum, dif}
 use Rattle.cigar.specs.Elements.{Element, Side, Kind, kind, kindOf, total}
 use Rattle.cigar.specs.Elements.Kind.{matches, inserts, deletes, skips}
-use Rattle.segments.specs.Tables.{entriesFrom, entriesOf, lettersOf}
+use Rattle.cigar.specs.Read.{lettersOf}
+use Rattle.segments.specs.Tables.{entriesFrom, entriesOf}
 use Rattle.segments.specs.Places.{Spot, End, beside, leftNearer, nearer, spotIn, firstBelow, endsAbove, indexOf, mapByTables, mapPlace}
 use Rattle.segments.specs.Places.End.{start, stop}
 use Rattle.segments.specs.laws.Totals.{total-append}

@@ -11,7 +11,8 @@ use borrow.Author.Tests.{eq-eqb}
 use Rattle.refusals.specs.Numbers.{mostStarts}
 use Rattle.cigar.specs.Elements.{Element, Side, Kind, isLetter, kindOf, alongGenome, alongTranscript, genome, transcript, total}
 use Rattle.cigar.specs.Elements.Kind.{matches, inserts, deletes, skips}
-use Rattle.segments.specs.Tables.{stepsOf, Holds, elementAt, elementsFrom, read, entriesFrom, entriesOf, lettersOf, padded, tablesOf}
+use Rattle.cigar.specs.Read.{lettersOf}
+use Rattle.segments.specs.Tables.{stepsOf, Holds, elementAt, elementsFrom, read, entriesFrom, entriesOf, padded, tablesOf}
 
 -- each element's letter is one of the six
 abbrev pub Lettered : List Element → Type 0

@@ -9,7 +9,8 @@ use lib.ListN.{getD, length}
 use borrow.Author.Tests.{eqb-true}
 use Rattle.cigar.specs.Elements.{Side, Kind, kindOf, alongGenome, alongTranscript, genome, transcript, total}
 use Rattle.cigar.specs.Elements.Kind.{matches, inserts, deletes, skips}
-use Rattle.segments.specs.Tables.{Tables, stepsOf, Holds, elementAt, elementsFrom, read, entriesFrom, entriesOf, lettersOf}
+use Rattle.cigar.specs.Read.{lettersOf}
+use Rattle.segments.specs.Tables.{Tables, stepsOf, Holds, elementAt, elementsFrom, read, entriesFrom, entriesOf}
 use Rattle.segments.specs.Places.{End, indexOf, mapByTables, mapPlace}
 use Rattle.segments.specs.laws.Made.{entry-total}
 use Rattle.segments.specs.laws.Finding.{index-says, same-index}

@@ -3,7 +3,7 @@ use Prim.Native.Nat.{_≤_, _-_}
 use mathlib.Core.Path.{_≡_}
 use borrow.Author.Needs.{needs}
 use Rattle.segments.specs.Tables.{tables, allBelow, rightAt}
-use Rattle.together.proofs.All.{all-none, all-more, all-done}
+use Rattle.segments.specs.laws.Gathering.{all-none, all-more, all-done}
 use Rattle.together.proofs.all_right.Statement.{statement}
 use Rattle.together.proofs.all_right.Tie as tie
 

@@ -4,7 +4,8 @@ use mathlib.Core.Path.{_≡_}
 use borrow.Author.Needs.{needs}
 use Rattle.segments.specs.Tables.{allBelow}
 use Rattle.together.specs.Steps.{commonAt, from}
-use Rattle.together.proofs.All.{all-done, from-none, from-more}
+use Rattle.segments.specs.laws.Gathering.{all-done}
+use Rattle.together.proofs.All.{from-none, from-more}
 use Rattle.together.proofs.common_in.Statement.{statement}
 use Rattle.together.proofs.common_in.Tie as tie
 

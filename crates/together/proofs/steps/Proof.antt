@@ -4,7 +4,7 @@ use mathlib.Core.Path.{_≡_, refl, _∙_}
 use borrow.Author.Needs.{needs}
 use Rattle.segments.specs.Tables.{tables, allBelow}
 use Rattle.together.specs.Steps.{sameAt, lowAt, low}
-use Rattle.together.proofs.All.{all-none, all-more, all-done}
+use Rattle.segments.specs.laws.Gathering.{all-none, all-more, all-done}
 use Rattle.together.proofs.steps.Statement.{statement}
 use Rattle.together.proofs.steps.Tie as tie
 

@@ -10,7 +10,7 @@ use lib.Seq.{sets}
 use mir.Syntax.{w32}
 use Rattle.whole.specs.laws.Whole.{told}
 use Rattle.cigar.specs.Text.{element}
-use Rattle.words.specs.Words.{wordOf, faultOf, faultFrom, elementsFrom}
+use Rattle.words.specs.Words.{wordOf, faultOf, faultFrom, elementsAt}
 use Rattle.words.proofs.Words.{fault-left, words-more, words-none}
 use borrow.Author.Needs.{needs}
 use Rattle.words.proofs.put_words.Statement.{statement}
@@ -19,7 +19,7 @@ use Rattle.words.proofs.put_words.Tie as tie
 abbrev Inv-loop : tie.InvT-loop
 Inv-loop number counts letters words₀ i₀ words i =
     (i ≤ number) × (length words ≡ length words₀) × (faultFrom counts letters i (number - i) ≡ 0)
-    × (sets words i (map wordOf (elementsFrom counts letters i (number - i))) ≡ sets words₀ 0 (map wordOf (elementsFrom counts letters 0 number)))
+    × (sets words i (map wordOf (elementsAt counts letters i (number - i))) ≡ sets words₀ 0 (map wordOf (elementsAt counts letters 0 number)))
 
 abbrev μ-loop : tie.MeasureT-loop
 μ-loop number counts letters words₀ i₀ words i = number - i

@@ -5,7 +5,7 @@ use native.Mathlib.Omega.{arith}
 use lib.IntN.{natAbs}
 use Rattle.whole.specs.laws.Whole.{read}
 use Rattle.refusals.specs.Numbers.{mostWordCount}
-use Rattle.words.specs.Words.{codes}
+use Rattle.words.specs.Words.{codesOfWord}
 use Rattle.words.specs.laws.RoundTrips.{Held, fault-none}
 use Rattle.words.proofs.word_of.Statement.{statement}
 use Rattle.words.proofs.word_of.Tie as tie
@@ -34,7 +34,7 @@ add-result : tie.Need-add-result
 add-result c = let s = short c in omega arith
 
 returns : tie.Need-returns
-returns c = ap₂ (λ (n k : ℕ). n * codes + k) (length-is c) (c .code-of .ensures .0)
+returns c = ap₂ (λ (n k : ℕ). n * codesOfWord + k) (length-is c) (c .code-of .ensures .0)
 
 pub word-of-spec : {M : Type 1} → statement M
 word-of-spec = tie.close (tie.spec unsigned-requires code-of-requires mul-result add-result returns)

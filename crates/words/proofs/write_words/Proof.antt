@@ -7,7 +7,7 @@ use lib.IntN.{ℤ}
 use lib.ListN.{length, length-map}
 use Rattle.refusals.specs.Numbers.{mostSegments}
 use Rattle.cigar.specs.laws.Lent.{sets-front}
-use Rattle.words.specs.Words.{wordOf, faultFrom, elementsFrom}
+use Rattle.words.specs.Words.{wordOf, faultFrom, elementsAt}
 use Rattle.words.specs.laws.RoundTrips.{from-length}
 use Rattle.cigar.specs.declared.Counted.the-variants as counted
 use Rattle.words.proofs.Words.{fault-written, many-words, full-words, all-written, all-held}
@@ -56,7 +56,7 @@ returns-3 : tie.Need-returns-3
 returns-3 c =
     let e = c .before .before .before .before .before .before in
     let a = e .before .before .before in
-    let es = elementsFrom (counts a) (letters a) 0 (number a) in
+    let es = elementsAt (counts a) (letters a) 0 (number a) in
     let long : length (map wordOf es) ≡ number a = length-map es wordOf ∙ from-length (counts a) (letters a) (number a) 0 in
     rw (all-written (number a) (counts a) (letters a) (length (words a)) (none (e .before .before)) (e .before .if2 .left) (e .if3 .left))
     (ap counted.Count (sym long), c .before .before .put-words .ensures ∙ sets-front (map wordOf es) (words a) (rw long (e .if3 .left)))

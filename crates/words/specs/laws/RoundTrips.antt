@@ -25,7 +25,7 @@ use Rattle.cigar.specs.Elements.{Element, isLetter, letterEqual, letterD, lette
 use Rattle.cigar.specs.Text.{element}
 use Rattle.cigar.specs.Lent.{atFront}
 use Rattle.cigar.specs.Read.{countsOf, lettersOf}
-use Rattle.words.specs.Words.{letterOf, codeOf, lengthIn, codeIn, elementOfWord, wordOf, isKnown, allKnown, readWords, faultOf, faultFrom, elementsFrom, writeWords}
+use Rattle.words.specs.Words.{letterOf, codeOf, lengthIn, codeIn, elementOfWord, wordOf, isKnown, allKnown, readWords, faultOf, faultFrom, elementsAt, writeWords}
 
 -- ---- one element, one word
 
@@ -175,23 +175,23 @@ fault-first counts letters i m h =
     let here = faultOf (getD counts i (pos 0)) (getD letters i 0) in
     by-test (eqb here 0) (λ e. (eqb-true here 0 e, rw e at h)) (λ e. absurd (eqb-false here 0 e (rw e at h)))
 
-from-wordable : (counts : List ℤ) (letters : List ℕ) (m i : ℕ) → faultFrom counts letters i m ≡ 0 → AllWordable (elementsFrom counts letters i m)
-unfolding elementsFrom
+from-wordable : (counts : List ℤ) (letters : List ℕ) (m i : ℕ) → faultFrom counts letters i m ≡ 0 → AllWordable (elementsAt counts letters i m)
+unfolding elementsAt
 from-wordable counts letters zero i h = tt
 from-wordable counts letters (suc m) i h =
     let f = fault-first counts letters i m h in
     (fault-none (getD counts i (pos 0)) (getD letters i 0) (f .0) .wordable, from-wordable counts letters m (i + 1) (f .1))
 
-pub from-length : (counts : List ℤ) (letters : List ℕ) (m i : ℕ) → length (elementsFrom counts letters i m) ≡ m
-unfolding elementsFrom
+pub from-length : (counts : List ℤ) (letters : List ℕ) (m i : ℕ) → length (elementsAt counts letters i m) ≡ m
+unfolding elementsAt
 from-length counts letters zero i = refl
 from-length counts letters (suc m) i = ap suc (from-length counts letters m (i + 1))
 
 -- elements that stand after some others in both tables: none is refused, and they are those that the tables hold
 after-others : (es : List Element) (cs : List ℤ) (ls : List ℕ) (counts : List ℤ) (letters : List ℕ) (i : ℕ) → length cs ≡ i → length ls ≡ i → AllWordable es
     → (faultFrom (cs ++ (countsOf es ++ counts)) (ls ++ (lettersOf es ++ letters)) i (length es) ≡ 0)
-    × (elementsFrom (cs ++ (countsOf es ++ counts)) (ls ++ (lettersOf es ++ letters)) i (length es) ≡ es)
-unfolding faultFrom elementsFrom
+    × (elementsAt (cs ++ (countsOf es ++ counts)) (ls ++ (lettersOf es ++ letters)) i (length es) ≡ es)
+unfolding faultFrom elementsAt
 after-others [] cs ls counts letters i p q h = (refl, refl)
 after-others (x ∷ es) cs ls counts letters i p q h =
     let n = pos (x .count) in
@@ -241,7 +241,7 @@ read-write words c l {es} counts letters room f e h =
 record WereWritten (number : ℕ) (counts : List ℤ) (letters : List ℕ) (words : List ℕ) : Type 0 where
   few : number ≤ mostSegments
   held : faultFrom counts letters 0 number ≡ 0
-  is : map wordOf (elementsFrom counts letters 0 number) ≡ words
+  is : map wordOf (elementsAt counts letters 0 number) ≡ words
 
 write-says : (number : ℕ) (counts : List ℤ) (letters : List ℕ) (room : ℕ) {words : List ℕ} → writeWords number counts letters room ≡ answered words
     → WereWritten number counts letters words
@@ -256,11 +256,11 @@ write-says number counts letters room {words} e =
     record { few = few; held = rw (min-eq-left few) at (p .0); is = same (rw (m, r) at (p .1)) }))
 
 pub write-read : (number : ℕ) (counts : List ℤ) (letters : List ℕ) (room c l : ℕ) {words : List ℕ} → writeWords number counts letters room ≡ answered words
-    → number ≤ c → number ≤ l → readWords words c l ≡ answered (elementsFrom counts letters 0 number)
+    → number ≤ c → number ≤ l → readWords words c l ≡ answered (elementsAt counts letters 0 number)
 unfolding readWords
 write-read number counts letters room c l {words} e hc hl =
     let w = write-says number counts letters room e in
-    let es = elementsFrom counts letters 0 number in
+    let es = elementsAt counts letters 0 number in
     let good = from-wordable counts letters number 0 (w .held) in
     let few = w .few in
     let long : length (map wordOf es) ≡ number = length-map es wordOf ∙ from-length counts letters number 0 in

@@ -9,7 +9,7 @@ use mir.Syntax.{w32}
 use Rattle.refusals.specs.Outcome.{answered}
 use Rattle.whole.specs.laws.Whole.{told}
 use Rattle.cigar.specs.Text.{Reading}
-use Rattle.cigar.specs.Write.{judged, given, sizeOf, AtMost}
+use Rattle.cigar.specs.Write.{judged, elementsGiven, sizeOf, AtMost}
 use Rattle.cigar.proofs.Writing.{leftOf, left-all, left-more, left-none, sizeFrom, size-all, size-none, size-more, size-refused}
 use borrow.Author.Needs.{needs}
 use Rattle.cigar.proofs.write.text_size.Statement.{statement}
@@ -17,7 +17,7 @@ use Rattle.cigar.proofs.write.text_size.Tie as tie
 
 abbrev Inv-loop : tie.InvT-loop
 Inv-loop number counts letters total₀ i₀ total i =
-    (i ≤ number) × (total ≤ 11 * i) × (sizeOf (given counts letters number) ≡ sizeFrom total (leftOf counts letters number i))
+    (i ≤ number) × (total ≤ 11 * i) × (sizeOf (elementsGiven counts letters number) ≡ sizeFrom total (leftOf counts letters number i))
 
 abbrev μ-loop : tie.MeasureT-loop
 μ-loop number counts letters total₀ i₀ total i = number - i
@@ -42,14 +42,14 @@ module _ (c : tie.After-element-size Inv-loop μ-loop) where
   sized : c .element-size .result ≡ sizeOf (judged count letter (answered []))
   sized = c .element-size .ensures .0 ∙ ap (λ (z : ℤ). sizeOf (judged z letter (answered []))) (told w32 count (c .before .before .element-size-arg .given))
 
-  left : sizeOf (given (start .args .counts .now) (start .args .letters .now) (start .args .number))
+  left : sizeOf (elementsGiven (start .args .counts .now) (start .args .letters .now) (start .args .number))
       ≡ sizeFrom (c .before .before .before .before .loop .total) (judged count letter (rest (place + 1)))
   left = c .before .before .before .before .loop .inv .2 ∙ ap (sizeFrom _) (left-more _ _ (start .args .number) place (omega arith))
 
 loop-holds : tie.Need-loop-holds Inv-loop μ-loop
 loop-holds c =
     let a = c .before .args in
-    let all = given (a .counts .now) (a .letters .now) (a .number) in
+    let all = elementsGiven (a .counts .now) (a .letters .now) (a .number) in
     (omega arith, omega arith, size-all all ∙ ap (sizeFrom 0) (left-all (a .counts .now) (a .letters .now) (a .number)))
 
 mul-element-size : tie.Need-mul-element-size Inv-loop μ-loop

@@ -6,7 +6,7 @@ use lib.ListN.{length}
 use Rattle.refusals.specs.Numbers.{mostSegments}
 use Rattle.cigar.specs.Text.{Reading, elementsIn}
 use Rattle.cigar.specs.laws.Lent.{sets-front}
-use Rattle.cigar.specs.Write.{elementsText, given, sizeOf}
+use Rattle.cigar.specs.Write.{elementsText, elementsGiven, sizeOf}
 use Rattle.cigar.specs.declared.write.Written.the-variants as answer
 use Rattle.cigar.proofs.Writing.{sized, many-written, refused-written, large-written, full-written, text-written}
 use borrow.Author.Needs.{needs}
@@ -27,7 +27,7 @@ module _ (c : tie.After-size) where
   start = c .before .before .before .before .before .before .before
 
   abbrev all : Reading
-  all = given (start .args .counts .now) (start .args .letters .now) (start .args .number)
+  all = elementsGiven (start .args .counts .now) (start .args .letters .now) (start .args .number)
 
   measured : sizeOf all ≡ answer.Text (c .size .given .0 .0)
   measured = sym (c .before .before .text-size .ensures) ∙ c .size .given .1

@@ -8,7 +8,7 @@ use lib.ListN.{length, getD}
 use mir.Syntax.{w32}
 use Rattle.whole.specs.laws.Whole.{told}
 use Rattle.segments.specs.Tables.{allBelow}
-use Rattle.vectors.proofs.Below.{all-none, all-more, all-done}
+use Rattle.segments.specs.laws.Gathering.{all-none, all-more, all-done}
 use Rattle.vectors.specs.Texts.{laidOut}
 use Rattle.vectors.specs.Bam.{isCount, holdsCounts}
 use borrow.Author.Needs.{needs}

@@ -6,7 +6,7 @@ use lib.ListN.{getD}
 use mir.Syntax.{w32}
 use Rattle.whole.specs.laws.Whole.{told}
 use Rattle.segments.specs.Tables.{allBelow}
-use Rattle.vectors.proofs.Below.{all-none, all-more, all-done}
+use Rattle.segments.specs.laws.Gathering.{all-none, all-more, all-done}
 use Rattle.vectors.specs.Texts.{laidOut, isElement, beginWith}
 use borrow.Author.Needs.{needs}
 use Rattle.vectors.proofs.texts.begin_with.Statement.{statement}

@@ -5,7 +5,7 @@ use mathlib.Core.Bool.{Bool, _&&_}
 use lib.Dec.{eqb, leb}
 use lib.ListN.{length, getD}
 use Rattle.segments.specs.Tables.{allBelow}
-use Rattle.vectors.proofs.Below.{all-none, all-more, all-done}
+use Rattle.segments.specs.laws.Gathering.{all-none, all-more, all-done}
 use Rattle.vectors.specs.Texts.{holdsText}
 use borrow.Author.Needs.{needs}
 use Rattle.vectors.proofs.texts.holds.Statement.{statement}

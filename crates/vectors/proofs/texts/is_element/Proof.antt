@@ -4,7 +4,7 @@ use mathlib.Core.Bool.{true, false}
 use lib.IntN.{ℤ}
 use Rattle.whole.specs.Whole.{eqZ}
 use Rattle.whole.specs.laws.Machine.{same-32, other-32}
-use Rattle.vectors.specs.Texts.{countAt, isElement}
+use Rattle.vectors.specs.Texts.{recordedCount, isElement}
 use borrow.Author.Needs.{needs}
 use Rattle.vectors.proofs.texts.is_element.Statement.{statement}
 use Rattle.vectors.proofs.texts.is_element.Tie as tie
@@ -14,7 +14,7 @@ unfolding isElement
 returns c =
     let k = c .before .before in
     let a = k .before .before in
-    let e : eqZ (countAt (a .args .elements .now) (a .args .i)) (a .args .count) ≡ true =
+    let e : eqZ (recordedCount (a .args .elements .now) (a .args .i)) (a .args .count) ≡ true =
     ap (λ (z : ℤ). eqZ z (a .args .count)) (sym (k .count-at .ensures))
     ∙ same-32 {a = k .count-at .result} {b = a .args .count} (record { sfits = k .count-at .ok }) (a .fits .count) (c .before .if1 .taken) in
     rw (e, c .letter-at .ensures)
@@ -24,7 +24,7 @@ unfolding isElement
 returns-2 c =
     let k = c .before in
     let a = k .before .before in
-    let e : eqZ (countAt (a .args .elements .now) (a .args .i)) (a .args .count) ≡ false =
+    let e : eqZ (recordedCount (a .args .elements .now) (a .args .i)) (a .args .count) ≡ false =
     ap (λ (z : ℤ). eqZ z (a .args .count)) (sym (k .count-at .ensures))
     ∙ other-32 (k .count-at .result) (a .args .count) (c .if1 .left) in
     rw e

@@ -8,14 +8,14 @@ use Rattle.whole.specs.laws.Whole.{told}
 use borrow.Author.Tests.{eq-eqb, ne-eqb}
 use lib.ListN.{length}
 use Rattle.sequences.specs.Slices.{Slice}
-use Rattle.cigar.specs.Write.{answerOf, bufferAfter}
+use Rattle.cigar.specs.Write.{writtenAnswer, bufferAfter}
 use Rattle.card.specs.Layout.{recordsAt}
 use Rattle.card.specs.Writing.{cardWriting}
 use Rattle.layout.specs.declared.lay.Length.{Length}
 use Rattle.entry.specs.Boundary.{writtenLaid}
 use Rattle.vectors.specs.Rows.{behind, expected}
 use Rattle.vectors.specs.Words.{lengthWords}
-use Rattle.vectors.specs.Changes.{numbersIn}
+use Rattle.vectors.specs.Changes.{recordedNumbers}
 use Rattle.vectors.specs.Texts.{holdsText, cardAgrees}
 use borrow.Author.Needs.{needs}
 use Rattle.vectors.proofs.texts.writes_card.Statement.{statement}
@@ -24,8 +24,8 @@ use Rattle.vectors.proofs.texts.writes_card.Tie as tie
 -- what the row's input is written as
 written : (c : tie.After-txc-write-card) →
     let a = c .before .before .before .before .before .before .before .before .before .before .args in
-    let w = cardWriting (numbersIn (a .row .now)) (a .records .now) (length (a .buffer .now)) in
-    (c .txc-write-card .result ≡ writtenLaid (answerOf w)) × (c .txc-write-card .last .1 .1 .1 .1 .1 .1 .0 ≡ bufferAfter (a .buffer .now) w)
+    let w = cardWriting (recordedNumbers (a .row .now)) (a .records .now) (length (a .buffer .now)) in
+    (c .txc-write-card .result ≡ writtenLaid (writtenAnswer w)) × (c .txc-write-card .last .1 .1 .1 .1 .1 .1 .0 ≡ bufferAfter (a .buffer .now) w)
 written c =
     let n = c .before .before .before in
     let end = told w32 (n .number3 .result) (n .number3 .ok) ∙ n .number3 .ensures in
