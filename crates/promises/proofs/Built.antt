@@ -24,7 +24,7 @@ use Rattle.records.specs.laws.Walk.{own-sound, ordered}
 use Rattle.transcript.specs.Transcript.{Transcript, transcriptLength}
 use Rattle.transcript.specs.Transcript.Source.{aligned}
 use Rattle.transcript.specs.Building.{Exon, build}
-use Rattle.transcript.specs.Heads.{strandOf}
+use Rattle.transcript.specs.laws.Heads.{plus-is}
 use Rattle.reading.specs.Reading.{exonOf, Exons, followedBy, readFirst, readNext, exonsAfter, exonsOf}
 use Rattle.judging.specs.Input.{Input}
 use Rattle.judging.specs.Judging.{Made, elementsMade, cdsOf, judgeInput}
@@ -100,11 +100,6 @@ pub record From (x : Input) (t : Transcript) : Type 0 where
   pub held : holds lent ≡ true
   pub stands : sourceOf lent ≡ aligned t
 
--- whether a strand is 1
-forward-is : (forward : Bool) → eqZ (strandOf forward) (pos 1) ≡ forward
-forward-is true = refl
-forward-is false = refl
-
 pub built-from : (x : Input) (t : Transcript) → Builds x t → From x t
 unfolding build
 built-from x t h = go (judgeInput x) refl h
@@ -116,7 +111,7 @@ built-from x t h = go (judgeInput x) refl h
         let last = last-pass (x .start) (x .end) _ _ _ (total transcript (elementsMade m)) (pass .on .last) in
         record {
           some = pass .some;
-          is = rw (pass .strand-is, forward-is (m .forward), exons, pass .on .coding-is);
+          is = rw (pass .strand-is, plus-is (m .forward), exons, pass .on .coding-is);
           in-order = rw exons at (s .in-order);
           spans = all-span (m .forward) (x .records) (pass .on .sound);
           bounds = cds-pass (x .start) (x .end) (total transcript (elementsMade m)) (pass .on .both-or-none) (last .cds-fits);

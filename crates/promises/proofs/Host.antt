@@ -1,29 +1,29 @@
 -- What a host sees. No judgment refuses with 0 (`refusals`), so that 0 tells that something was made; the memory that building wrote holds together and stands for it, and then every question is the mapper's. Assumes nothing.
 use Prim.Native.Nat.{ℕ}
 use native.Mathlib.Omega.{arith}
-use mathlib.Core.Bool.{Bool, true, false}
+use mathlib.Core.Bool.{Bool, true, false, false≢true}
 use mathlib.Core.List.{List}
 use mathlib.Core.Path.{_≡_, refl, sym, ap, _∙_, subst}
 use lib.IntN.{ℤ}
 use lib.ListN.{drop}
 use Rattle.refusals.specs.Numbers.{noGenome}
 use Rattle.refusals.specs.Outcome.{Outcome, answered, refused, Answered, andThen}
-use Rattle.refusals.specs.laws.Outcomes.{same}
+use Rattle.refusals.specs.laws.Outcomes.{clash, same}
 use Rattle.refusals.specs.Refusing.{oneOf, Only}
 use Rattle.segments.specs.Tables.{Tables, tablesOf}
 use Rattle.transcript.specs.Transcript.{Transcript, Source, Cds}
 use Rattle.transcript.specs.Transcript.Source.{aligned, lengthOnly}
-use Rattle.transcript.specs.declared.Numbers.{Numbers}
 use Rattle.holding.specs.Holding.{Lent, holds, sourceOf, checked}
 use Rattle.holding.specs.laws.Held.{checked-held}
 use Rattle.judging.specs.Judging.{Made, Measured, elementsMade, judge, judgeLength}
-use Rattle.judging.specs.laws.Accepted.{judged-sane, measured-means, measured-inside}
+use Rattle.judging.specs.laws.Accepted.{Sane, judged-sane, measured-means, measured-inside}
 use Rattle.building.specs.Afterwards.{headOf, lengthHead, builtAnswer, lengthAnswer, tablesAfter}
 use Rattle.building.specs.laws.Standing.{beside, built-holds, built-stands, measured-holds, measured-stands}
 use Rattle.card.specs.Layout.{recordsAt}
 use Rattle.card.specs.Card.{readCard, numbersIn}
 use Rattle.card.specs.Writing.{judgeRead, judgeCard}
 use Rattle.card.specs.laws.RoundTrips.{read-means}
+use Rattle.card.specs.laws.Taken.{card-sane}
 use Rattle.card.specs.declared.ReadCard.{ReadCard}
 use Rattle.card.specs.declared.ReadCard.the-variants as read
 use Rattle.positions.specs.Positions.{Interval, NAsked, NPosition, GPosition, asksN}
@@ -45,10 +45,7 @@ use Rattle.promises.proofs.Promises.{host-builds, demand-2-built, deman
 -- ---- 0 is no refusal
 
 not-0 : (ks : List ℕ) (k : ℕ) → oneOf 0 ks ≡ false → oneOf k ks ≡ true → k ≡ 0 → ⊥
-not-0 ks k none h e =
-    let there : oneOf 0 ks ≡ true = subst (λ (n : ℕ). oneOf n ks ≡ true) e h in
-    let z : _≡_ {A = Bool} false true = sym none ∙ there in
-    let q : _≡_ {A = ℕ} 0 1 = cc in omega arith
+not-0 ks k none h e = false≢true (sym none ∙ subst (λ (n : ℕ). oneOf n ks ≡ true) e h)
 
 made-of : (ks : List ℕ) (j : Outcome Made) → oneOf 0 ks ≡ false → Only ks j → builtNumber (builtAnswer j) ≡ 0 → (m : Made) × (j ≡ answered m)
 made-of ks (answered m) none h z = (m, refl)
@@ -71,24 +68,13 @@ card-judged s m h = go (readCard s) refl h
   where
     go : (r : ReadCard) → readCard s ≡ r → judgeRead s r ≡ answered m → judge (numbersIn s) (drop recordsAt s) ≡ answered m
     go (read.Card n) e h = rw (read-means s n e .1) at h
-    go (read.Refused k) e h = let z : _≡_ {A = ℕ} 0 1 = cc in absurd (omega arith)
+    go (read.Refused k) e h = absurd (clash h)
 
--- the numbers and the bytes that were judged in the end
-numbersBy : Way → Numbers
-numbersBy (of-records n bytes) = n
-numbersBy (of-card bytes) = numbersIn bytes
-
-bytesBy : Way → List ℕ
-bytesBy (of-records n bytes) = bytes
-bytesBy (of-card bytes) = drop recordsAt bytes
-
-way-judged : (w : Way) (m : Made) → judgment w ≡ answered m → judge (numbersBy w) (bytesBy w) ≡ answered m
-unfolding numbersBy bytesBy
-way-judged (of-records n bytes) m h = h
-way-judged (of-card bytes) m h = card-judged bytes m h
+way-sane : (w : Way) (m : Made) → judgment w ≡ answered m → Sane m
+way-sane (of-records n bytes) m h = judged-sane n bytes m h
+way-sane (of-card bytes) m h = card-sane bytes m h
 
 way-builds : (w : Way) (m : Made) → judgment w ≡ answered m → Builds (input w) (madeOf m)
-unfolding numbersBy bytesBy
 way-builds (of-records n bytes) m h = host-builds n bytes m h
 way-builds (of-card bytes) m h = host-builds (numbersIn bytes) (drop recordsAt bytes) m (card-judged bytes m h)
 
@@ -132,7 +118,7 @@ module _ (w : Way) (head : List ℤ) (was : Tables) where
 
   seen : (m : Made) → judgment w ≡ answered m → Sees ours memory (madeOf m)
   seen m h =
-      let sane = judged-sane (numbersBy w) (bytesBy w) m (way-judged w m h) in
+      let sane = way-sane w m h in
       rw (written-is m h) (sees (beside (headOf m) (tablesOf (elementsMade m))) (madeOf m) (built-holds m sane) (built-stands m sane))
 
   -- of the one transcript that builds
@@ -221,7 +207,7 @@ pub host-3 : Host-3
 host-3 w v head was head′ was′ t z z′ builds l spans =
     let (m, judged) = way-made w z in
     let (n, judged′) = way-made v z′ in
-    let sane = judged-sane (numbersBy w) (bytesBy w) m (way-judged w m judged) in
+    let sane = way-sane w m judged in
     let is : madeOf m ≡ t = same (sym (way-builds w m judged) ∙ builds) in
     rw (written-is w head was m judged)
     (keeps-so (beside (headOf m) (tablesOf (elementsMade m))) (writtenBy v head′ was′) t (madeOf n) (built-holds m sane) (built-stands m sane ∙ ap aligned is)

@@ -1,7 +1,7 @@
 -- The table of refusals holds: each judgment is a chain of tests, and a test gives one number of its row or lets the rest decide. Assumes nothing.
 use Prim.Native.Nat.{ℕ, zero, suc, _+_, _-_, _*_, min}
 use native.Mathlib.Omega.{arith}
-use mathlib.Core.Bool.{Bool, true, false, not, _&&_}
+use mathlib.Core.Bool.{Bool, true, false, not, _&&_, false≢true}
 use mathlib.Core.List.{List, [], _∷_}
 use mathlib.Core.Path.{_≡_, refl}
 use lib.Dec.{eqb, ltb}
@@ -48,10 +48,7 @@ allOf [] ls = true
 allOf (k ∷ ks) ls = oneOf k ls && allOf ks ls
 
 in-wider : (ks ls : List ℕ) → allOf ks ls ≡ true → (k : ℕ) → oneOf k ks ≡ true → oneOf k ls ≡ true
-in-wider [] ls all k h = absurd (no h)
-  where
-    no : false ≡ true → ⊥
-    no e = let z : _≡_ {A = ℕ} 0 1 = cc in omega arith
+in-wider [] ls all k h = absurd (false≢true h)
 in-wider (x ∷ xs) ls all k h =
     let (first, others) = both (oneOf x ls) (allOf xs ls) all in
     by-test (eqb k x)

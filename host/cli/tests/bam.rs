@@ -566,7 +566,7 @@ fn all_writes_a_card_for_each_and_counts_the_rest() {
         line("m1/2/ccs", 0, 11, "10M"),
         line("..", 0, 11, "10M"),
         line("../../out", 0, 11, "10M"),
-        line("/tmp/out", 0, 11, "10M"),
+        line("/out", 0, 11, "10M"),
         line("A", 256, 500, "10M"),
         line("A", 2048, 900, "3H10M"),
         line("twice", 0, 11, "10M"),
@@ -601,15 +601,8 @@ fn all_writes_a_card_for_each_and_counts_the_rest() {
         assert!(complaints.contains(said), "{said}: {complaints}");
     }
     assert_eq!(complaints.lines().count(), 9);
-    let expected = [
-        "%2E.%2F..%2Fout.card",
-        "%2E..card",
-        "%2Ftmp%2Fout.card",
-        "A.card",
-        "B.card",
-        "lost.card",
-        "m1%2F2%2Fccs.card",
-    ];
+    let expected =
+        ["%2E.%2F..%2Fout.card", "%2E..card", "%2Fout.card", "A.card", "B.card", "lost.card", "m1%2F2%2Fccs.card"];
     assert_eq!(names(&cards), expected);
     assert_eq!(names(&folder), ["all.bam", "some"]);
     assert_eq!(names(&folder.join("some")), ["cards"]);

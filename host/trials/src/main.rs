@@ -7,7 +7,7 @@ use clap::Parser;
 use pulindraxi::{
     boundary::{self, Cds, Laid, Length},
     limits::MOST_SEGMENTS,
-    Refusal,
+    Element, Refusal,
 };
 use rand::{seq::SliceRandom, Rng, SeedableRng};
 use rand_xorshift::XorShiftRng;
@@ -39,6 +39,16 @@ struct Trial {
     calls: u64,
     /// Calls by entry and refusal number.
     tally: BTreeMap<(&'static str, u32), u64>,
+}
+
+/// The tables of elements. What stands past the elements would be refused.
+fn apart(elements: &[Element]) -> (Box<[i32; MOST_SEGMENTS]>, Box<[u8; MOST_SEGMENTS]>) {
+    let mut counts = Box::new([-7; MOST_SEGMENTS]);
+    let mut letters = Box::new([b'?'; MOST_SEGMENTS]);
+    for (place, element) in elements.iter().take(MOST_SEGMENTS).enumerate() {
+        (counts[place], letters[place]) = (element.count, element.letter);
+    }
+    (counts, letters)
 }
 
 fn number_of<T>(result: &Result<T, Refusal>) -> u32 {
@@ -194,12 +204,7 @@ impl Trial {
     fn write_cigar(&mut self) {
         let (elements, room) = draw::elements(&mut self.rng);
         let number = elements.len();
-        // What stands past the elements would be refused.
-        let mut counts = Box::new([-7; MOST_SEGMENTS]);
-        let mut letters = Box::new([b'?'; MOST_SEGMENTS]);
-        for (place, element) in elements.iter().take(MOST_SEGMENTS).enumerate() {
-            (counts[place], letters[place]) = (element.count, element.letter);
-        }
+        let (counts, letters) = apart(&elements);
         let expected = paper::write_cigar(number, &counts[..], &letters[..], room);
         let mut buffer = vec![b'.'; room];
         let written = boundary::write_cigar(number, &counts, &letters, &mut buffer);
@@ -228,12 +233,7 @@ impl Trial {
     fn write_bam(&mut self) {
         let (elements, room) = draw::worded(&mut self.rng);
         let number = elements.len();
-        // What stands past the elements would be refused.
-        let mut counts = Box::new([-7; MOST_SEGMENTS]);
-        let mut letters = Box::new([b'?'; MOST_SEGMENTS]);
-        for (place, element) in elements.iter().take(MOST_SEGMENTS).enumerate() {
-            (counts[place], letters[place]) = (element.count, element.letter);
-        }
+        let (counts, letters) = apart(&elements);
         let expected = paper::write_bam(number, &counts[..], &letters[..], room);
         let mut words = vec![0xa5a5_a5a5; room];
         let written = boundary::write_bam(number, &counts, &letters, &mut words);
