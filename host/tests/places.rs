@@ -47,7 +47,7 @@ fn p1_to_p9_on_a() {
         ("g.23", "n.10+3", "c.7+3"),
         ("g.24", "n.11-2", "c.8-2"),
         ("g.33", "n.18", "c.*3"),
-        ("g.34", "n.19", "15"),
+        ("g.34", "14", "14"),
         ("g.35", "14", "14"),
         ("g.10", "14", "14"),
     ] {
@@ -102,8 +102,16 @@ fn p14_and_p15() {
 fn questions_of_yes_and_no() {
     let a = transcript(1);
     assert_eq!(a.is_coding(), Ok(true));
-    assert_eq!(a.is_in_bounds("g.11_34".parse().unwrap()), Ok(true));
-    assert_eq!(a.is_in_bounds("g.10_33".parse().unwrap()), Ok(false));
+    for (g, is_in) in [
+        ("g.11_33", true),
+        ("g.33_11", true),
+        ("g.11_34", false),
+        ("g.34_11", false),
+        ("g.10_33", false),
+        ("g.33_10", false),
+    ] {
+        assert_eq!(a.is_in_bounds(g.parse().unwrap()), Ok(is_in), "{g}");
+    }
     assert_eq!(a.is_in_bounds("g.?_33".parse().unwrap()), Err(Refusal::MissingEnd));
     assert_eq!(alone(0, 1, 1, b"M").is_coding(), Ok(false));
 }

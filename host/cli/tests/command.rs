@@ -36,7 +36,7 @@ fn from_records_to_the_table_of_places() {
     assert!(mapped.status.success());
     let output = String::from_utf8(mapped.stdout).unwrap();
     let names: Vec<_> = output.lines().map(|line| line.split_whitespace().nth(2).unwrap()).collect();
-    assert_eq!(names, ["c.-3", "c.-1", "c.1", "c.7+1", "c.7+3", "c.8-2", "c.*3", "refused", "14:", "14:"]);
+    assert_eq!(names, ["c.-3", "c.-1", "c.1", "c.7+1", "c.7+3", "c.8-2", "c.*3", "14:", "14:", "14:"]);
 }
 
 #[test]

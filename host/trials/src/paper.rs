@@ -278,7 +278,12 @@ fn judge_record(strand: i32, before: Option<&Exon<'_>>, exon: &Exon<'_>) -> Resu
     Ok(())
 }
 
-/// The elements of all records in genomic order: per record 3 for the CIGAR's size, 3 for the gap, its elements.
+/// How far elements go along the genome.
+pub fn span(elements: &[Counted]) -> i64 {
+    elements.iter().filter(|(_, letter)| along_genome(*letter)).map(|(count, _)| count).sum()
+}
+
+/// The elements of all records in genomic order: per record 3 for the CIGAR's size, 3 for the gap, its elements, 32.
 fn elements(strand: i32, exons: &[Exon<'_>]) -> Result<Vec<Counted>, Refusal> {
     let mut all: Vec<Counted> = Vec::new();
     let mut before: Option<&Exon<'_>> = None;
@@ -293,6 +298,9 @@ fn elements(strand: i32, exons: &[Exon<'_>]) -> Result<Vec<Counted>, Refusal> {
             all.push((i64::from(exon.alt_start_i) - i64::from(before.alt_end_i), b'N'));
         }
         let mut own = read_cigar(exon.cigar, MOST_SEGMENTS - all.len())?;
+        if span(&own) != i64::from(exon.alt_end_i) - i64::from(exon.alt_start_i) {
+            return Err(Refusal::BadSpan);
+        }
         if strand == -1 {
             own.reverse();
         }
@@ -482,8 +490,9 @@ fn map_place(from: &[i64], to: &[i64], letters: &[u8], p: i64, is_start: bool, f
     }
 }
 
+/// Strict: a place is below the last entry.
 fn inside(strict: bool, from: &[i64], p: i64) -> Result<(), Refusal> {
-    if strict && !(0..=last(from)).contains(&p) {
+    if strict && !(0..last(from)).contains(&p) {
         return Err(Refusal::Outside);
     }
     Ok(())
@@ -593,10 +602,11 @@ impl Source {
         Ok(answer(mark(&a, &b), g(&a, a_offset)?, g(&b, b_offset)?))
     }
 
-    /// n. to c.: 13, 15, 17.
+    /// n. to c.: 13, 15, 17. Strict: both numbers are those of a base.
     pub fn n_to_c(&self, start: Asked, end: Asked, strict: bool) -> Result<Answer, Refusal> {
         let (s, e) = self.cds().ok_or(Refusal::NotCoding)?;
-        if strict && (start.base <= 0 || i64::from(end.base) > self.length()) {
+        let is_base = |n: Asked| (1..=self.length()).contains(&i64::from(n.base));
+        if strict && !(is_base(start) && is_base(end)) {
             return Err(Refusal::NOutside);
         }
         let c = |n: Asked| {
@@ -639,11 +649,11 @@ impl Source {
         self.n_to_g(n.start.into(), n.end.into(), strict)
     }
 
-    /// In bounds: 18, 19.
+    /// In bounds: 18, 19. Both places are below the length, and neither is below 0.
     pub fn in_bounds(&self, g: AskedG) -> Result<Said, Refusal> {
         let t = self.aligned()?;
         let (start, end) = t.places(g)?;
-        let yes = start >= 0 && end <= last(&t.genome);
+        let yes = [start, end].iter().all(|place| (0..last(&t.genome)).contains(place));
         Ok(Said { number: 0, yes: u32::from(yes) })
     }
 
