@@ -82,4 +82,4 @@ last_line $emulator $programs/compare small --elements 1
 last_line $emulator $programs/compare differences --check ../docs/DIFFERENCES.md
 $emulator $programs/compare record "$log" 2>/dev/null
 cmp "$log" ../crates/vectors/stdin
-say "the recorded answers are the crate's"
+say "the recorded answers are the crate's, or the documents' where the row says so"

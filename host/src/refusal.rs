@@ -86,7 +86,7 @@ refusals! {
     23 NotTogether "a transcript that doesn't hold together"
     30 NoOperation "a BAM word whose operation is none of M, I, D, N, = and X"
     31 NoWord "in writing BAM words, a count below 0 or above 268,435,455"
-    32 BadSpan "a CIGAR whose genome length differs from its bounds"
+    32 NotSpanning "a CIGAR whose genome length differs from its bounds"
 }
 
 impl Refusal {

@@ -251,7 +251,6 @@ fn departures() -> Vec<Row> {
         asking_case("14", &plain, &between(Kind::GToC, 2, 2)),
         asking_case("14", &coding, &between(Kind::GToC, 2, 2)),
         asking_case("14", &coding_backwards, &between(Kind::GToC, 2, 2)),
-        asking_case("14", &coding, &between(Kind::GToC, 1, 2)),
         asking_case("14", &plain, &between(Kind::NToG, 2, 2)),
         asking_case("14", &backwards, &between(Kind::NToG, -1, -1)),
         asking_case("15", &coding, &between(Kind::NToC, 2, 1)),

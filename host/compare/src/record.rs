@@ -501,8 +501,8 @@ const ENDS: [(Kind, [i32; 2], &str); 26] = [
     (Kind::InBounds, [33, 10], "no"),
 ];
 
-/// The same ends, asked leniently.
-const LENIENT_ENDS: [Place; 10] = [
+/// The same ends, and n.0, asked leniently.
+const LENIENT_ENDS: [Place; 11] = [
     (0, Kind::GToN, [10, 10], "n.-1"),
     (0, Kind::GToC, [10, 10], "c.-4"),
     (0, Kind::GToN, [34, 34], "n.19"),
@@ -513,6 +513,7 @@ const LENIENT_ENDS: [Place; 10] = [
     (1, Kind::GToC, [10, 10], "c.*4"),
     (1, Kind::NToG, [-1, -1], "g.34"),
     (1, Kind::NToG, [19, 19], "g.10"),
+    (4, Kind::NToC, [0, 0], "c.0"),
 ];
 
 /// The worked questions, each with whether it is strict.
@@ -588,6 +589,11 @@ fn draw_all(recorder: &mut Recorder) -> Result<(), String> {
     for (index, case) in worked().iter().enumerate() {
         recorder.places(index, case)?;
     }
+    // P14 and P15.
+    let elements = settle::read_cigar(b"M0X3=")?.0.unwrap_or_default();
+    recorder.read_cigar(b"M0X3=")?;
+    recorder.write_cigar(&elements, elements.len(), 5)?;
+    recorder.trim(b"ACGT", b"ACT")?;
     for (case, number) in spans() {
         recorder.span(&case, number)?;
     }

@@ -108,7 +108,7 @@ fn due(narrowed: bool) -> Due {
 /// adjacent to the one before it. The crate holds no CIGAR to its bounds.
 fn due_to<T>(case: &Case, paper: &Result<T, Refusal>) -> Due {
     match paper {
-        Err(Refusal::BadSpan) => Due::Requested,
+        Err(Refusal::NotSpanning) => Due::Requested,
         Err(Refusal::NotAdjacent) => due(!is_in_order(case)),
         Err(refusal) => due(NARROWING.contains(refusal)),
         Ok(_) => Due::Crates,
