@@ -16,7 +16,7 @@ use Rattle.refusals.specs.laws.Refusing.{only-through, only-both, only-then}
 use Rattle.whole.specs.Whole.{if_then_else_, eqZ}
 use Rattle.whole.specs.laws.Whole.{by-test, both}
 use Rattle.fields.specs.Fields.{le16}
-use Rattle.cigar.specs.Elements.{isLetter, genome, total}
+use Rattle.cigar.specs.Elements.{isLetter}
 use Rattle.cigar.specs.Text.{Reading, isDigit, countOf, readFrom}
 use Rattle.cigar.specs.Read.{readText}
 use Rattle.cigar.specs.Write.{elementsText, givenFrom, elementsGiven, fitted, textOf, writing}
@@ -28,7 +28,7 @@ use Rattle.transcript.specs.laws.Heads.{plus-is}
 use Rattle.transcript.specs.declared.Bound.{Bound}
 use Rattle.transcript.specs.declared.Bound.the-variants.{Given, Absent}
 use Rattle.transcript.specs.declared.Numbers.{Numbers}
-use Rattle.reading.specs.Reading.{Exons, spans, spanning, followedBy, readFirst, readNext, exonsAfter, exonsOf}
+use Rattle.reading.specs.Reading.{Exons, isSpanned, spanning, followedBy, readFirst, readNext, exonsAfter, exonsOf}
 use Rattle.judging.specs.Input.{Input, inputOf}
 use Rattle.judging.specs.Judging.{Made, halfFault, rangeFault, cdsFault, lastFault, lengthFault, judgeExons, judgeOn, judgeInput, judge, judgeLength}
 use Rattle.positions.specs.laws.Refusing.{only-if, only-unless}
@@ -209,7 +209,7 @@ followed-only : (r : Record) (p : Reading) (next : ℕ → Exons) → Only R p �
 unfolding spanning
 followed-only r p next own others =
     only-then R p _ own
-    (λ es e. only-both R _ _ _ (only-if R (spans (r .alt-start) (r .alt-end) (total genome es)) notSpanning _ (done es) (λ e. refl)) (others (length es)))
+    (λ es e. only-both R _ _ _ (only-if R (isSpanned r es) notSpanning _ (done es) (λ e. refl)) (others (length es)))
 
 after-only : (used : ℕ) (rs : List Record) → Only R (exonsAfter used rs)
 unfolding exonsAfter

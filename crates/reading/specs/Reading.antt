@@ -43,11 +43,12 @@ beforeAll x = through (λ (xs : List Exon). x ∷ xs)
 abbrev pub spans : ℤ → ℤ → ℕ → Bool
 spans start end n = eqZ (start +ℤ pos n) end
 
+abbrev pub isSpanned : Record → List Element → Bool
+isSpanned r es = spans (r .alt-start) (r .alt-end) (total genome es)
+
 -- a record's elements, or 32 where its CIGAR's genome length differs from its bounds
 unfoldable pub spanning : Record → List Element → Reading
-spanning r es =
-    if spans (r .alt-start) (r .alt-end) (total genome es) then answered es
-    else refused notSpanning
+spanning r es = if isSpanned r es then answered es else refused notSpanning
 
 abbrev pub spanned : Record → Reading → Reading
 spanned r read = andThen read (spanning r)

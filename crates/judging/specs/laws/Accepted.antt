@@ -32,8 +32,8 @@ use Rattle.transcript.specs.Transcript.{Cds}
 use Rattle.transcript.specs.Transcript.Cds.{noCds, cds}
 use Rattle.transcript.specs.Building.{Exon, partsOf, elementsAfter, elementsOf, firstStart}
 use Rattle.judging.specs.Input.{Input, inputOf}
-use Rattle.reading.specs.Reading.{genomeEndOf as genomeEnd, exonOf, Exons, beforeAll, spanned, followedBy, readFirst, readNext, exonsAfter, exonsOf}
-use Rattle.reading.specs.laws.Spans.{Passes, ahead, followed, spanned-is}
+use Rattle.reading.specs.Reading.{genomeEndOf as genomeEnd, exonOf, Exons, beforeAll, isSpanned, spanned, followedBy, readFirst, readNext, exonsAfter, exonsOf}
+use Rattle.reading.specs.laws.Spans.{ahead, followed, spanned-is}
 use Rattle.judging.specs.Judging.{Made, Measured, halfFault, rangeFault, cdsFault, cdsOf, lastFault, judgeExons, judgeOn, judgeInput, judge, lengthFault, judgeLength, elementsMade}
 use Rattle.transcript.specs.Heads.{bothBits, startOf, endOf, numberOf, bitsOf, startIn, endIn, strandOf}
 use Rattle.transcript.specs.declared.Bound.{Bound}
@@ -202,7 +202,7 @@ pub record Split (r : Record) (p : Reading) (next : ℕ → Exons) (xs : List Ex
   pub own : List Element
   pub rest : List Exon
   pub was-read : p ≡ answered own
-  pub spans : Passes r own
+  pub spans : isSpanned r own ≡ true
   pub others : next (length own) ≡ answered rest
   pub is : xs ≡ exonOf r own ∷ rest
 
@@ -307,7 +307,7 @@ AllSpanning [] xs = Unit {0}
 AllSpanning (r ∷ rs) [] = ⊥
 AllSpanning (r ∷ rs) (x ∷ xs) = (r .alt-start +ℤ pos (total genome (x .parts)) ≡ r .alt-end) × AllSpanning rs xs
 
-own-span : (r : Record) (es : List Element) → Passes r es → r .alt-start +ℤ pos (total genome es) ≡ r .alt-end
+own-span : (r : Record) (es : List Element) → isSpanned r es ≡ true → r .alt-start +ℤ pos (total genome es) ≡ r .alt-end
 own-span r es h = let z = r .alt-start +ℤ pos (total genome es) in eq-by z (r .alt-end) (eq-yes-says z (r .alt-end) h)
 
 after-spanning : (used : ℕ) (rs : List Record) (xs : List Exon) → exonsAfter used rs ≡ answered xs → AllSpanning rs xs

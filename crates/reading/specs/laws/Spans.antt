@@ -12,7 +12,7 @@ use Rattle.whole.specs.laws.Whole.{by-test}
 use Rattle.cigar.specs.Elements.{Element, genome, total}
 use Rattle.cigar.specs.Text.{Reading}
 use Rattle.records.specs.Records.{Record}
-use Rattle.reading.specs.Reading.{Exons, beforeAll, exonOf, spans, spanning, spanned, followedBy}
+use Rattle.reading.specs.Reading.{Exons, beforeAll, exonOf, spans, isSpanned, spanning, spanned, followedBy}
 use Rattle.reading.specs.Tallies.{sumsOn, tallied}
 use Rattle.reading.specs.declared.Sums.{Sums}
 use Rattle.reading.specs.declared.Tally.the-variants as tally
@@ -22,21 +22,17 @@ abbrev pub ahead : Record → (ℕ → Exons) → List Element → Exons
 ahead r next es = beforeAll (exonOf r es) (next (length es))
 
 module _ (r : Record) where
-  -- the elements pass 32
-  abbrev pub Passes : List Element → Type 0
-  Passes es = spans (r .alt-start) (r .alt-end) (total genome es) ≡ true
-
   -- where 32 refuses, what follows is not looked at
   pub followed : (read : Reading) (next : ℕ → Exons) → followedBy r read next ≡ andThen (spanned r read) (ahead r next)
   unfolding spanning
-  followed (answered es) next = by-test (spans (r .alt-start) (r .alt-end) (total genome es)) (λ t. rw t) (λ t. rw t)
+  followed (answered es) next = by-test (isSpanned r es) (λ t. rw t) (λ t. rw t)
   followed (refused k) next = refl
 
   -- a reading that was not refused is the text's own, and passed 32
-  pub spanned-is : (read : Reading) {es : List Element} → spanned r read ≡ answered es → (read ≡ answered es) × Passes es
+  pub spanned-is : (read : Reading) {es : List Element} → spanned r read ≡ answered es → (read ≡ answered es) × (isSpanned r es ≡ true)
   unfolding spanning
   spanned-is (answered xs) {es} =
-      by-test (spans (r .alt-start) (r .alt-end) (total genome xs))
+      by-test (isSpanned r xs)
       (λ t. rw t (λ h. (h, rw (← same h) t)))
       (λ t. rw t (λ h. absurd (clash h)))
   spanned-is (refused k) = λ h. absurd (clash h)
@@ -52,12 +48,12 @@ module _ (r : Record) where
 
     pub tallied-passes : (read : Reading) {to : Sums} → tallied from read ≡ tally.Sums to → spans (r .alt-start) (r .alt-end) (to .genome - from .genome) ≡ true → tallied from (spanned r read) ≡ tally.Sums to
     unfolding spanning
-    tallied-passes (answered es) e h = rw (rw (sum-is es e) at h) e
+    tallied-passes (answered es) e h = let is : isSpanned r es ≡ true = rw (sum-is es e) at h in rw is e
     tallied-passes (refused k) e h = e
 
     pub tallied-short : (read : Reading) {to : Sums} → tallied from read ≡ tally.Sums to → spans (r .alt-start) (r .alt-end) (to .genome - from .genome) ≡ false → tallied from (spanned r read) ≡ tally.Refused notSpanning
     unfolding spanning
-    tallied-short (answered es) e h = rw (rw (sum-is es e) at h) refl
+    tallied-short (answered es) e h = let is : isSpanned r es ≡ false = rw (sum-is es e) at h in rw is refl
     tallied-short (refused k) e h = let z : _≡_ {A = ℕ} 0 1 = cc in absurd (omega arith)
 
     pub tallied-refused : (read : Reading) {k : ℕ} → tallied from read ≡ tally.Refused k → tallied from (spanned r read) ≡ tally.Refused k
@@ -68,7 +64,7 @@ module _ (r : Record) where
     pub spanned-own : (read : Reading) {to : Sums} → tallied from (spanned r read) ≡ tally.Sums to → spanned r read ≡ read
     unfolding spanning
     spanned-own (answered es) {to} =
-        by-test (spans (r .alt-start) (r .alt-end) (total genome es))
+        by-test (isSpanned r es)
         (λ t. rw t (λ h. refl))
         (λ t. rw t (λ h. let z : _≡_ {A = ℕ} 0 1 = cc in absurd (omega arith)))
     spanned-own (refused k) = λ h. refl
