@@ -27,7 +27,7 @@ use Rattle.layout.specs.Layout.{headAt, gAsked as asked, nAsked, cAsked, gLaid,
 use Rattle.entry.specs.Boundary.{builtNumber, builtHead}
 use Rattle.entry.specs.Told.{toldGToN, toldGToC, toldNToG, toldNToC, toldCToN, toldCToG, toldInBounds, toldCoding}
 use Rattle.promises.specs.Bases.{Name, nName, cName}
-use Rattle.promises.specs.Demands.{Mapper, strict, Builds, gNumber, gAt, nAt, cAt, BasesNamed, Lengthens, AllSpan, BaseOf}
+use Rattle.promises.specs.Demands.{Mapper, strict, Builds, gNumber, gAt, nAt, cAt, BasesNamed, Lengthens, BaseOf}
 
 -- ---- building
 
@@ -115,4 +115,4 @@ pub record KeepsTold (x y : Lent) (t : Transcript) : Type 0 where
 
 abbrev pub Host-3 : Type 0
 Host-3 = (w v : Way) (head : List ℤ) (was : Tables) (head′ : List ℤ) (was′ : Tables) (t : Transcript) → toldBuilding w ≡ 0 → toldBuilding v ≡ 0
-    → Builds (input w) t → Lengthens (input w) (input v) → AllSpan (input v .records) → KeepsTold (writtenBy w head was) (writtenBy v head′ was′) t
+    → Builds (input w) t → Lengthens (input w) (input v) → KeepsTold (writtenBy w head was) (writtenBy v head′ was′) t
