@@ -1,12 +1,13 @@
 -- The turn of strand -1, the strict bounds, and n. numbers of places that are not negative. Assumes nothing.
-use Prim.Native.Nat.{ℕ, _+_, _-_, _≤_, _<_}
+use Prim.Native.Nat.{ℕ, _+_, _-_, _<_}
 use native.Mathlib.Omega.{arith}
-use mathlib.Core.Bool.{Bool, true, false, cond}
+use mathlib.Core.Bool.{Bool, true, false, cond, false≢true}
 use mathlib.Core.Path.{_≡_, refl}
 use lib.Dec.{leb·zero}
-use lib.IntN.{ℤ, pos, negℤ-negℤ, _-ℤ_}
-use borrow.Author.Tests.{le-leb}
-use Rattle.whole.specs.laws.Whole.{order, dif}
+use lib.IntN.{ℤ, pos, negsuc, negℤ-negℤ, _-ℤ_}
+use lib.Signed.{leZ, ltZ}
+use borrow.Author.Tests.{lt-ltb}
+use Rattle.whole.specs.laws.Whole.{both, order, dif}
 use Rattle.numbering.specs.Numbers.{nOfPlace}
 use Rattle.places.specs.Mapping.{inside, turned, signed, placeOfG}
 
@@ -32,9 +33,15 @@ pub across-within : (forward : Bool) (len q : ℕ) → q < len → across forwar
 across-within true len q h = h
 across-within false len q h = omega arith
 
-pub inside-within : (len p : ℕ) → p ≤ len → inside true len (pos p) ≡ true
+-- a place is inside in strict mode exactly where it is a natural number below the length
+pub inside-within : (len p : ℕ) → p < len → inside true len (pos p) ≡ true
 unfolding inside
-inside-within len p h = rw (leb·zero p, le-leb p len h)
+inside-within len p h = rw (leb·zero p, lt-ltb p len h)
+
+pub inside-means : (len : ℕ) (z : ℤ) → inside true len z ≡ true → (p : ℕ) × (z ≡ pos p) × (p < len)
+unfolding inside
+inside-means len (pos p) h = let (low, high) = both (leZ (pos 0) (pos p)) (ltZ (pos p) (pos len)) h in (p, refl, omega order)
+inside-means len (negsuc p) h = absurd (false≢true h)
 
 pub n-of-place : (p : ℕ) → nOfPlace (pos p) ≡ pos (p + 1)
 unfolding nOfPlace
