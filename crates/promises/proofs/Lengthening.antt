@@ -1,10 +1,10 @@
 -- Demand 3 over elements: with elements xs before and zs after, along the genome, and the CDS moved up by the transcript bases that stand upstream, each answer stays. Assumes nothing.
-use Prim.Native.Nat.{ℕ, zero, suc, _+_, _≤_, _<_}
+use Prim.Native.Nat.{ℕ, _+_, _≤_, _<_}
 use native.Mathlib.Omega.{arith}
 use mathlib.Core.Bool.{Bool, true, false, cond, _&&_, _||_}
 use mathlib.Core.List.{List, _++_}
 use mathlib.Core.Path.{_≡_, refl, ap, _∙_}
-use lib.IntN.{ℤ, pos, negsuc, _+ℤ_, _-ℤ_}
+use lib.IntN.{ℤ, pos, _+ℤ_, _-ℤ_}
 use lib.ListN.{length}
 use lib.Signed.{leZ, ltZ}
 use Rattle.refusals.specs.Numbers.{mostBases}
@@ -27,14 +27,10 @@ use Rattle.positions.specs.laws.Fits.{fits-by}
 use Rattle.coding.specs.Coding.{beyond, cPosition, cOfInterval, nToC, nPosition, cToN}
 use Rattle.places.specs.Mapping.{inside, turned, signed, earlier, later, placeOfG, nOfSpot, wholeN, gToN, gOfSpot, gOfEnds, nToG}
 use Rattle.mapper.specs.Chains.{gToC, cToG}
-use Rattle.promises.proofs.Turns.{inside-within, inside-means, turned-within, across, across-within, n-of-place}
+use Rattle.promises.proofs.Turns.{inside-within, inside-means, beyond-means, either, turned-within, across, across-within, n-of-place}
 use Rattle.promises.proofs.Shifts.{c-stays, place-goes-up, n-goes-up, turn-there, turn-back}
 
--- of two, on either strand: what both are like the chosen one is like, and a change of both is a change of the chosen one
-either : {A : Type 0} (P : A → Type 0) (forward : Bool) (a b : A) → P a → P b → P (cond forward a b)
-either P true a b h k = h
-either P false a b h k = k
-
+-- a change of two is a change of the chosen one
 either-way : {A B : Type 0} (f : A → B) (forward : Bool) (a b : A) → cond forward (f a) (f b) ≡ f (cond forward a b)
 either-way f true a b = refl
 either-way f false a b = refl
@@ -47,19 +43,10 @@ raised n a = record { base = pos n +ℤ a .base; offset = a .offset }
 abbrev Below : ℕ → NPosition → Type 0
 Below len a = (r : ℕ) × (a .base ≡ pos (r + 1)) × (r < len)
 
--- where neither 15 nor 16 refuses a number
+-- where neither 15 nor 16 refuses
 above : (len : ℕ) (n : ℤ) → beyond true len n ≡ false → leZ n (pos 0) ≡ false
 unfolding beyond
 above len n h = neither (leZ n (pos 0)) (ltZ (pos len) n) h .0
-
-below : (len : ℕ) (n o : ℤ) → beyond true len n ≡ false → Below len (record { base = n; offset = o })
-unfolding beyond
-below len n o h = let (low, high) = neither (leZ n (pos 0)) (ltZ (pos len) n) h in go n low high
-  where
-    go : (n : ℤ) → leZ n (pos 0) ≡ false → ltZ (pos len) n ≡ false → Below len (record { base = n; offset = o })
-    go (pos zero) low high = absurd (omega order)
-    go (pos (suc r)) low high = (r, ap pos (omega arith), omega order)
-    go (negsuc r) low high = absurd (omega order)
 
 place-of-number : (r : ℕ) → placeOfN (pos (r + 1)) ≡ pos r
 place-of-number r = rw (← n-of-place r) (place-back (pos r))
@@ -195,7 +182,7 @@ module _ (forward : Bool) (first : ℕ) (xs ys zs : List Element) (s e : ℕ) wh
         by-test (fits n && fits (c .offset))
         (λ f. rw (t, f) (λ h.
         let (n-long, n-fits) = number-kept n t in
-        rw (← same h) (rw (n-goes-up up s e (c .base) (above len n t), n-long, n-fits, both (fits n) (fits (c .offset)) f .1) refl, below len n (c .offset) t)))
+        rw (← same h) (rw (n-goes-up up s e (c .base) (above len n t), n-long, n-fits, both (fits n) (fits (c .offset)) f .1) refl, beyond-means len n t)))
         (λ f. rw (t, f) (λ h. absurd (clash h))))
 
   g-same : (a : Spot) (o : ℤ) → gOfSpot long (slid (length xs) (total genome xs) a) o ≡ gOfSpot short a o
