@@ -23,7 +23,7 @@ use Rattle.transcript.specs.Heads.{bothBits}
 use Rattle.transcript.specs.declared.Numbers.{Numbers}
 use Rattle.transcript.specs.declared.Bound.{Bound}
 use Rattle.transcript.specs.declared.Bound.the-variants.{Given, Absent}
-use Rattle.promises.specs.Demands.{Mapper, ours, madeOf, Builds, basesOf, addedUpstream, movedUp, KeptOfRecord, kept, Lengthens, Keeps, Demand-2, Demand-2-built, Built-spans, Demand-3, Demand-3-spanning}
+use Rattle.promises.specs.Demands.{Mapper, ours, madeOf, Builds, basesOf, addedUpstream, movedUp, KeptOfRecord, kept, Lengthens, Keeps, Demand-2, Demand-2-built, Built-spans, Demand-3, Demand-3-narrow}
 use Rattle.promises.proofs.InRange.{InRange, held-in-range}
 use Rattle.promises.proofs.Records.{Spans, exonBases}
 use Rattle.promises.proofs.Built.{exonIn, From, built-from}
@@ -128,9 +128,11 @@ demand-3 x y t u builds-x builds-y l = kept-all x y t u (built-from x t builds-x
 pub built-spans : Built-spans
 built-spans x t builds = built-from x t builds .all-spanning
 
--- a premise more asks for less
-pub spanning-too : (m : Mapper) → Demand-3 m → Demand-3-spanning m
-spanning-too m d x y t u builds-x builds-y l spans = d x y t u builds-x builds-y l
+-- the narrower words follow, of any mapper: premises more ask for less
+pub narrower : (m : Mapper) → Demand-3 m → Demand-3-narrow m
+narrower m d x y t u builds-x builds-y l spans =
+    let k = d x y t u builds-x builds-y l in
+    record { g-to-c = λ i from to. k .g-to-c i; c-to-g = k .c-to-g }
 
-pub demand-3-spanning : Demand-3-spanning ours
-demand-3-spanning = spanning-too ours demand-3
+pub demand-3-narrow : Demand-3-narrow ours
+demand-3-narrow = narrower ours demand-3
