@@ -183,6 +183,6 @@ Demand-3 m = (x y : Input) (t u : Transcript) → Builds x t → Builds y u → 
 abbrev pub Demand-3-spanning : Mapper → Type 0
 Demand-3-spanning m = (x y : Input) (t u : Transcript) → Builds x t → Builds y u → Lengthens x y → AllSpan (y .records) → Keeps m t u
 
--- of every transcript that builds they do
+-- and of every transcript that builds they do
 abbrev pub Built-spans : Type 0
 Built-spans = (x : Input) (t : Transcript) → Builds x t → AllSpan (x .records)
