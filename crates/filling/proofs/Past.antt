@@ -11,14 +11,14 @@ use Rattle.cigar.specs.Text.{Reading, elementsIn}
 use Rattle.records.specs.Records.{Record, nextAt, recordAt, recordsFrom}
 use Rattle.records.specs.laws.Walk.{records-one, records-none}
 use Rattle.transcript.specs.Building.{partsOf, elementsAfter, elementsOf}
-use Rattle.reading.specs.Reading.{Exons, beforeAll, exonOf, spanned, genomeEndOf, between, readFirst, readNext, exonsAfter, exonsOf}
+use Rattle.reading.specs.Reading.{Exons, exonOf, spanned, genomeEndOf, between, readFirst, readNext, exonsAfter, exonsOf}
 use Rattle.reading.specs.Tallies.{nothing, sumsOf, oneOn, sumsOn, tallied, talliedAfter, talliedAll}
 use Rattle.segments.specs.Tables.{Tables}
 use Rattle.filling.specs.Filling.{fill, ordered, nextElements, elementsPast, elementsAll, SmallSums, SmallTally}
 use Rattle.reading.specs.declared.Sums.{Sums}
 use Rattle.reading.specs.declared.Tally.the-variants as tally
 use Rattle.reading.specs.laws.Texts.{on-one}
-use Rattle.reading.specs.laws.Spans.{ahead, followed, spanned-own, tallied-own}
+use Rattle.reading.specs.laws.Spans.{beforeAll, ahead, followed, spanned-own, tallied-own}
 use Rattle.reading.specs.laws.Tallied.{either-strand}
 use Rattle.filling.proofs.Fills.{sums-reverse, fill-append}
 use Rattle.filling.proofs.Taken.{never, ends-at}

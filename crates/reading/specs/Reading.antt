@@ -6,7 +6,7 @@ use lib.Dec.{eqb, ltb}
 use lib.IntN.{ℤ, pos, natAbs, _+ℤ_}
 use lib.ListN.{length}
 use Rattle.refusals.specs.Numbers.{tooMuch, notSpanning, mostText, mostSegments}
-use Rattle.refusals.specs.Outcome.{Outcome, answered, refused, andThen, through, both}
+use Rattle.refusals.specs.Outcome.{Outcome, answered, refused, andThen, both}
 use Rattle.whole.specs.Whole.{if_then_else_, eqZ}
 use Rattle.cigar.specs.Elements.{Element, letterN, genome, total}
 use Rattle.cigar.specs.Text.{Reading, readAll}
@@ -35,11 +35,7 @@ exonOf r es = record { alt-start = genomeStartOf r; alt-end = genomeEndOf r; par
 abbrev pub Exons : Type 0
 Exons = Outcome (List Exon)
 
--- one record more in front
-abbrev pub beforeAll : Exon → Exons → Exons
-beforeAll x = through (λ (xs : List Exon). x ∷ xs)
-
--- a length along the genome is that of the bounds
+-- a length along the genome is that of the bounds, and a record's elements have that length
 abbrev pub spans : ℤ → ℤ → ℕ → Bool
 spans start end n = eqZ (start +ℤ pos n) end
 
@@ -53,7 +49,7 @@ spanning r es = if isSpanned r es then answered es else refused notSpanning
 abbrev pub spanned : Record → Reading → Reading
 spanned r read = andThen read (spanning r)
 
--- after a record's elements are read 32, and then what follows it: the first refusal counts
+-- after a record's elements are read comes 32, and then what follows it: the first refusal counts
 abbrev pub followedBy : Record → Reading → (ℕ → Exons) → Exons
 followedBy r read next = andThen read (λ es. both (λ own others. exonOf r own ∷ others) (spanning r es) (next (length es)))
 

@@ -32,8 +32,8 @@ use Rattle.transcript.specs.Transcript.{Cds}
 use Rattle.transcript.specs.Transcript.Cds.{noCds, cds}
 use Rattle.transcript.specs.Building.{Exon, partsOf, elementsAfter, elementsOf, firstStart}
 use Rattle.judging.specs.Input.{Input, inputOf}
-use Rattle.reading.specs.Reading.{genomeEndOf as genomeEnd, exonOf, Exons, beforeAll, isSpanned, spanned, followedBy, readFirst, readNext, exonsAfter, exonsOf}
-use Rattle.reading.specs.laws.Spans.{ahead, followed, spanned-is}
+use Rattle.reading.specs.Reading.{genomeEndOf as genomeEnd, exonOf, Exons, isSpanned, spanned, followedBy, readFirst, readNext, exonsAfter, exonsOf}
+use Rattle.reading.specs.laws.Spans.{beforeAll, ahead, followed, spanned-is}
 use Rattle.judging.specs.Judging.{Made, Measured, halfFault, rangeFault, cdsFault, cdsOf, lastFault, judgeExons, judgeOn, judgeInput, judge, lengthFault, judgeLength, elementsMade}
 use Rattle.transcript.specs.Heads.{bothBits, startOf, endOf, numberOf, bitsOf, startIn, endIn, strandOf}
 use Rattle.transcript.specs.declared.Bound.{Bound}

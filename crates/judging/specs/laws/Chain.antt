@@ -15,12 +15,12 @@ use Rattle.records.specs.Faults.{faults}
 use Rattle.records.specs.laws.Walk.{records-one}
 use Rattle.transcript.specs.Building.{Exon, elementsOf, firstStart}
 use Rattle.judging.specs.Input.{Input}
-use Rattle.reading.specs.Reading.{Exons, beforeAll, spanned, genomeStartOf, exonOf, readFirst, exonsAfter, exonsOf}
+use Rattle.reading.specs.Reading.{Exons, spanned, genomeStartOf, exonOf, readFirst, exonsAfter, exonsOf}
 use Rattle.judging.specs.Judging.{halfFault, lastFault, judgeExons, judgeOn, toldOf}
 use Rattle.reading.specs.Tallies.{sumsOf, talliedAll}
 use Rattle.reading.specs.declared.Sums.{Sums}
 use Rattle.reading.specs.declared.Tally.the-variants as tally
-use Rattle.reading.specs.laws.Spans.{ahead, followed}
+use Rattle.reading.specs.laws.Spans.{beforeAll, ahead, followed}
 use Rattle.reading.specs.laws.Tallied.{either-strand}
 
 -- ---- a test in the chain

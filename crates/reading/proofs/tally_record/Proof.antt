@@ -49,7 +49,7 @@ module _ (c : tie.After-known-told) where
   bounded = subst BoundedTally (c .before .to .given .1) (text .tally-text .ensures .1)
 
   grows : begin text .args .from .genome ≤ to .genome
-  grows = tallied-grows (here text) (begin text .args .from) (read text) told
+  grows = tallied-grows (begin text .args .from) (read text) told
 
 sub-length : tie.Need-sub-length
 sub-length c = grows (c .before .before .before .before)

@@ -12,13 +12,13 @@ use Rattle.records.specs.Records.{Record, nextAt, recordAt, recordsFrom}
 use Rattle.records.specs.laws.Walk.{records-one, records-none}
 use Rattle.segments.specs.laws.Totals.{total-append, total-reverse}
 use Rattle.transcript.specs.Building.{Exon, partsOf, gap, elementsAfter, elementsOf}
-use Rattle.reading.specs.Reading.{Exons, beforeAll, spanned, genomeEndOf, between, exonOf, readFirst, readNext, exonsAfter, exonsOf}
+use Rattle.reading.specs.Reading.{Exons, spanned, genomeEndOf, between, exonOf, readFirst, readNext, exonsAfter, exonsOf}
 use Rattle.reading.specs.Tallies.{nothing, sumsOf, oneOn, sumsOn, tallied, talliedAfter, talliedAll}
 use Rattle.reading.specs.declared.Sums.{Sums}
 use Rattle.reading.specs.declared.Tally.{Tally}
 use Rattle.reading.specs.declared.Tally.the-variants as tally
 use Rattle.reading.specs.laws.Texts.{sums-eq, on-one, on-none}
-use Rattle.reading.specs.laws.Spans.{ahead, followed}
+use Rattle.reading.specs.laws.Spans.{beforeAll, ahead, followed}
 
 -- ---- the strand changes the order of a record's elements alone
 
