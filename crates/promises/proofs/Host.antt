@@ -191,12 +191,12 @@ host-2 w head was t z builds =
 there : {P : Type 0} (place : P → Position) (ks : List ℕ) {a b : Answer P} → oneOf 0 ks ≡ false → Only ks a → laid place a .number ≡ 0 → a ≡ b → Answered b
 there place ks {a} none h z e = subst Answered e (answered-at place ks a none h z)
 
-keeps-so : (x y : Lent) (t u : Transcript) → holds x ≡ true → sourceOf x ≡ aligned t → Sees ours y u → Keeps ours t u → KeepsTold x y t
+keeps-so : (x y : Lent) (t u : Transcript) → holds x ≡ true → sourceOf x ≡ aligned t → Sees ours y u → Keeps ours t u → KeepsTold x y
 unfolding asked askGToC askGToN askNToC askCToG askCToN askNToG gToC cToG
 keeps-so x y t u held stands r k = record {
-  g-to-c = λ a b from to z.
+  g-to-c = λ a b z.
       let is = reached x (aligned t) held stands (askGToC strict (asked a b 0)) in
-      r .g-to-c a b 0 strict ∙ ap (laid cLaid) (k .g-to-c _ from to (there cLaid gToCRefusals refl (g-to-c-refuses x strict (asked a b 0)) z is) ∙ sym is);
+      r .g-to-c a b 0 strict ∙ ap (laid cLaid) (k .g-to-c _ (there cLaid gToCRefusals refl (g-to-c-refuses x strict (asked a b 0)) z is) ∙ sym is);
   c-to-g = λ a o star b e starred z.
       let q = cAsked a o star b e starred in
       let is = reached x (aligned t) held stands (askCToG strict q) in
@@ -204,11 +204,11 @@ keeps-so x y t u held stands r k = record {
 }
 
 pub host-3 : Host-3
-host-3 w v head was head′ was′ t z z′ builds l spans =
+host-3 w v head was head′ was′ t z z′ builds l =
     let (m, judged) = way-made w z in
     let (n, judged′) = way-made v z′ in
     let sane = way-sane w m judged in
     let is : madeOf m ≡ t = same (sym (way-builds w m judged) ∙ builds) in
     rw (written-is w head was m judged)
     (keeps-so (beside (headOf m) (tablesOf (elementsMade m))) (writtenBy v head′ was′) t (madeOf n) (built-holds m sane) (built-stands m sane ∙ ap aligned is)
-    (seen v head′ was′ n judged′) (demand-3 (input w) (input v) t (madeOf n) builds (way-builds v n judged′) l spans))
+    (seen v head′ was′ n judged′) (demand-3 (input w) (input v) t (madeOf n) builds (way-builds v n judged′) l))

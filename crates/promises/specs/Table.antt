@@ -5,7 +5,7 @@ use mathlib.Core.List.{List, [], _∷_, map}
 use mathlib.Core.Path.{_≡_}
 use lib.IntN.{ℤ, pos, negℤ}
 use lib.ListN.{drop}
-use Rattle.refusals.specs.Numbers.{notCoding, outside, nOutside, cOutside, tooWide, noGenome, missingEnd}
+use Rattle.refusals.specs.Numbers.{notCoding, outside, nOutside, cOutside, tooWide, noGenome, missingEnd, notSpanning}
 use Rattle.refusals.specs.Outcome.{Outcome, answered, refused}
 use Rattle.sequences.specs.Alleles.{prefixLen, changedOf}
 use Rattle.numbering.specs.Numbers.{plainC, starC}
@@ -21,9 +21,11 @@ use Rattle.transcript.specs.Building.{Exon, build}
 use Rattle.positions.specs.Positions.{Interval, each, GAsked, at, missing, NAsked, CAsked, GPosition, NPosition, CPosition, asksN, asksC}
 use Rattle.positions.specs.Answers.{Answer, certainly, uncertainly, plainly}
 use Rattle.mapper.specs.Asking.{askGToN, askInBounds}
-use Rattle.promises.specs.Demands.{Mapper, strict, single}
+use Rattle.judging.specs.Input.{Input}
+use Rattle.transcript.specs.declared.Bound.the-variants.{Given}
+use Rattle.promises.specs.Demands.{Mapper, building, strict, single}
 
--- a question to a mapper, to a transcript of either kind, to the CIGAR's reader and writer, or to the trimmers; and the answer
+-- a question to a mapper, to a transcript of either kind, to the CIGAR's reader and writer, to the trimmers, or to building; and the answer
 pub data Row : Type 0 where
   g-n : Bool → Transcript → Interval ℤ → Answer NPosition → Row
   n-g : Bool → Transcript → Interval NAsked → Answer GPosition → Row
@@ -35,6 +37,7 @@ pub data Row : Type 0 where
   in-bounds : Interval GAsked → Source → Outcome Bool → Row
   cigar : List ℕ → List Element → Row
   alleles : List ℕ → List ℕ → ℕ → List ℕ → List ℕ → List ℕ → Row
+  builds : Input → Outcome Transcript → Row
 
 -- an answer to any question
 pub data Reply : Type 0 where
@@ -44,6 +47,7 @@ pub data Reply : Type 0 where
   a-yes : Outcome Bool → Reply
   a-reading : Reading → List ℕ → Reply
   a-trimming : ℕ → List ℕ → List ℕ → List ℕ → Reply
+  a-transcript : Outcome Transcript → Reply
 
 -- what is answered to a row's question: a CIGAR is read, and its elements are written; of two alleles the common prefix is counted and removed, and the changed part is found
 abbrev pub replyGiven : Mapper → Row → Reply
@@ -57,6 +61,7 @@ replyGiven m (asked-g-n strict i x a) = in-n (askGToN strict i x)
 replyGiven m (in-bounds i x a) = a-yes (askInBounds i x)
 replyGiven m (cigar text es) = a-reading (readText text) (elementsText es)
 replyGiven m (alleles r a prefix r-left a-left changed) = a-trimming (prefixLen r a) (drop (prefixLen r a) r) (drop (prefixLen r a) a) (changedOf r a)
+replyGiven m (builds x t) = a-transcript (building x)
 
 -- what the row says
 abbrev pub due : Row → Reply
@@ -70,6 +75,7 @@ due (asked-g-n strict i x a) = in-n a
 due (in-bounds i x a) = a-yes a
 due (cigar text es) = a-reading (answered es) text
 due (alleles r a prefix r-left a-left changed) = a-trimming prefix r-left a-left changed
+due (builds x t) = a-transcript t
 
 -- ---- short ways to write rows
 
@@ -160,12 +166,27 @@ del = build strand1 (exon 100 108 (4 of letterM ∷ 2 of letterD ∷ 4 of letter
 abbrev pub A+ : Transcript
 A+ = build strand1 (exon 10 20 (10 of letterM ∷ []) ∷ exon 25 33 (8 of letterM ∷ []) ∷ exon 40 44 (4 of letterM ∷ []) ∷ []) (cds 3 15)
 
--- one exon; and the same with a record before it whose elements do not span its bounds, and the CDS moved up
+-- the genome goes on behind the transcript's last base
+abbrev pub ending : Transcript
+ending = build strand1 (exon 0 6 (4 of letterM ∷ 2 of letterI ∷ []) ∷ []) (cds 0 4)
+
+-- one exon
 abbrev pub lone : Transcript
 lone = build strand1 (exon 10 14 (4 of letterM ∷ []) ∷ []) (cds 0 4)
 
-abbrev pub unspanned : Transcript
-unspanned = build strand1 (exon 2 5 (2 of letterM ∷ []) ∷ exon 10 14 (4 of letterM ∷ []) ∷ []) (cds 2 6)
+-- the same with the record 2..5 before it, its CIGAR given, and the CDS moved up as if that were `2M`
+abbrev withLeft : List ℕ → Input
+withLeft text = record {
+  strand = pos 1;
+  start = Given (pos 2);
+  end = Given (pos 6);
+  records = record { alt-start = pos 2; alt-end = pos 5; tx-start = pos 0; tx-end = pos 2; ord = pos 0; cigar = text }
+      ∷ record { alt-start = pos 10; alt-end = pos 14; tx-start = pos 2; tx-end = pos 6; ord = pos 1; cigar = digit 4 ∷ letterM ∷ [] }
+      ∷ [];
+}
+
+abbrev pub spanned : Transcript
+spanned = build strand1 (exon 2 5 (2 of letterM ∷ 1 of letterI ∷ []) ∷ exon 10 14 (4 of letterM ∷ []) ∷ []) (cds 2 6)
 
 -- ---- the rows
 
@@ -186,9 +207,9 @@ rows =
     ∷ g-c strict A (g 24) (certainly (c (plainC (pos 8)) (minus 2)))
     -- P7: A g.33 = c.*3
     ∷ g-c strict A (g 33) (certainly (c (starC (pos 3)) (pos 0)))
-    -- P8: A g.34 = n.19, but c. refuses 15
-    ∷ g-n strict A (g 34) (certainly (n (pos 19) (pos 0)))
-    ∷ g-c strict A (g 34) (refused nOutside)
+    -- P8: A g.34 refuses 14
+    ∷ g-n strict A (g 34) (refused outside)
+    ∷ g-c strict A (g 34) (refused outside)
     -- P9: A g.35 and g.10 refuse 14; lenient g.10 = n.-1 = c.-4
     ∷ g-n strict A (g 35) (refused outside)
     ∷ g-n strict A (g 10) (refused outside)
@@ -212,13 +233,22 @@ rows =
     ∷ g-n strict B (gs 11 33) (certainly (ns (pos 1) (pos 0) (pos 18) (pos 0)))
     ∷ n-g strict B (asked-n (ns (pos 1) (pos 0) (pos 18) (pos 0))) (certainly (answered-g (gs 11 33)))
     ∷ g-n strict B (gs 22 33) (certainly (ns (pos 1) (pos 0) (pos 9) (minus 2)))
-    -- the strict bound looks at the turned place: B n.-1 is g.34 and n.19 refuses 14, and on A the other way round
-    ∷ n-g strict B (asked-n (n (minus 1) (pos 0))) (certainly (answered-g (g 34)))
+    -- the numbers beside the transcript's first and last refuse 14 on either strand
+    ∷ n-g strict B (asked-n (n (minus 1) (pos 0))) (refused outside)
     ∷ n-g strict B (asked-n (n (pos 19) (pos 0))) (refused outside)
     ∷ n-g strict A (asked-n (n (minus 1) (pos 0))) (refused outside)
-    ∷ n-g strict A (asked-n (n (pos 19) (pos 0))) (certainly (answered-g (g 34)))
-    -- n. to c. does not test its end low: n.1_0 is c.1_c.0
-    ∷ n-c strict lone (asked-n (ns (pos 1) (pos 0) (pos 0) (pos 0))) (plainly (cs (plainC (pos 1)) (pos 0) (plainC (pos 0)) (pos 0)))
+    ∷ n-g strict A (asked-n (n (pos 19) (pos 0))) (refused outside)
+    -- lenient they have answers, and so has g.34
+    ∷ n-g lenient B (asked-n (n (minus 1) (pos 0))) (certainly (answered-g (g 34)))
+    ∷ n-g lenient A (asked-n (n (pos 19) (pos 0))) (certainly (answered-g (g 34)))
+    ∷ g-c lenient A (g 34) (certainly (c (starC (pos 4)) (pos 0)))
+    -- n. to c. tests both ends on both sides: n.1_0 and n.5_1 refuse 15; lenient n.1_0 is c.1_c.0
+    ∷ n-c strict lone (asked-n (ns (pos 1) (pos 0) (pos 0) (pos 0))) (refused nOutside)
+    ∷ n-c strict lone (asked-n (ns (pos 5) (pos 0) (pos 1) (pos 0))) (refused nOutside)
+    ∷ n-c lenient lone (asked-n (ns (pos 1) (pos 0) (pos 0) (pos 0))) (plainly (cs (plainC (pos 1)) (pos 0) (plainC (pos 0)) (pos 0)))
+    -- g. to n. has 14 alone: 4M2I g.5 = n.4_5 on 4 bases, uncertain, but c. refuses 15
+    ∷ g-n strict ending (g 5) (uncertainly (ns (pos 4) (pos 0) (pos 5) (pos 0)))
+    ∷ g-c strict ending (g 5) (refused nOutside)
     -- c.7+3 comes back; 16; 13; 17
     ∷ c-g strict A (asked-c (c (plainC (pos 7)) (pos 3))) (certainly (answered-g (g 23)))
     ∷ c-n strict A (asked-c (c (starC (pos 4)) (pos 0))) (refused cOutside)
@@ -227,17 +257,23 @@ rows =
     -- 18 and 19
     ∷ asked-g-n strict (asked 11 11) (lengthOnly 18 noCds) (refused noGenome)
     ∷ asked-g-n strict (record { from = at (pos 11); to = missing }) (aligned A) (refused missingEnd)
-    -- A g.11_34 is in bounds and g.11_35 is not; 18 and 19
-    ∷ in-bounds (asked 11 34) (aligned A) (answered true)
-    ∷ in-bounds (asked 11 35) (aligned A) (answered false)
-    ∷ in-bounds (asked 11 34) (lengthOnly 18 noCds) (refused noGenome)
+    -- A g.11_33 is in bounds, g.33_11 too; g.11_34, g.34_11, g.10_33 and g.33_10 are not; 18 and 19
+    ∷ in-bounds (asked 11 33) (aligned A) (answered true)
+    ∷ in-bounds (asked 33 11) (aligned A) (answered true)
+    ∷ in-bounds (asked 11 34) (aligned A) (answered false)
+    ∷ in-bounds (asked 34 11) (aligned A) (answered false)
+    ∷ in-bounds (asked 10 33) (aligned A) (answered false)
+    ∷ in-bounds (asked 33 10) (aligned A) (answered false)
+    ∷ in-bounds (asked 11 33) (lengthOnly 18 noCds) (refused noGenome)
     ∷ in-bounds (record { from = missing; to = at (pos 33) }) (aligned A) (refused missingEnd)
-    -- why demand 3 asks for bases of the span: A g.34_33 is c.*4_*3, and with an exon added c.*3+1_*3
-    ∷ g-c strict A (gs 34 33) (certainly (cs (starC (pos 4)) (pos 0) (starC (pos 3)) (pos 0)))
+    -- demand 3 speaks of answers: A g.34_33 refuses 14, and with an exon added it is c.*3+1_*3
+    ∷ g-c strict A (gs 34 33) (refused outside)
     ∷ g-c strict A+ (gs 34 33) (certainly (cs (starC (pos 3)) (pos 1) (starC (pos 3)) (pos 0)))
-    -- and for records that span their bounds: g.11 moves from c.1 to c.2
+    -- 32: with `2M` on 2..5 added g.11 would move from c.1 to c.2; with `2MI` it stays
     ∷ g-c strict lone (g 11) (certainly (c (plainC (pos 1)) (pos 0)))
-    ∷ g-c strict unspanned (g 11) (certainly (c (plainC (pos 2)) (pos 0)))
+    ∷ builds (withLeft (digit 2 ∷ letterM ∷ [])) (refused notSpanning)
+    ∷ builds (withLeft (digit 2 ∷ letterM ∷ letterI ∷ [])) (answered spanned)
+    ∷ g-c strict spanned (g 11) (certainly (c (plainC (pos 1)) (pos 0)))
     ∷ []
 
 -- each row's question has the answer that is due
