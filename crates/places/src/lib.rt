@@ -40,7 +40,7 @@ pub fn last(starts: &[u32; MOST_STARTS], count: usize) -> u32
 }
 
 // The place of a g. number. g. numbers are counted from 1 and run through 0, so this 1 is not the missing zero's.
-fn place_of_g(first: u32, g: i32) -> Place
+pub fn place_of_g(first: u32, g: i32) -> Place
     ensures { λ r. ⌜ (r .0 ≡ placeOfG first g) × Within 36 (r .0) ⌝ }
 {
     let number = g as i64;
@@ -50,7 +50,7 @@ fn place_of_g(first: u32, g: i32) -> Place
 }
 
 // Whether a place lies in 0 to the last entry, which is asked in strict mode alone.
-fn is_inside(strict: bool, len: u32, p: Place) -> bool
+pub fn is_inside(strict: bool, len: u32, p: Place) -> bool
     ensures { λ r. ⌜ r ≡ inside strict len (p .0) ⌝ }
 {
     if strict {

@@ -101,6 +101,10 @@ noOperation = 30
 abbrev pub noWord : ℕ
 noWord = 31
 
+-- a worklist's positions fall somewhere
+abbrev pub falling : ℕ
+falling = 33
+
 -- the most exon records of a transcript
 abbrev pub mostRecords : ℕ
 mostRecords = 512
