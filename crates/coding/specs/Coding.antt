@@ -11,15 +11,15 @@ use Rattle.positions.specs.Positions.{Interval, each, NAsked, CAsked, NPosition
 use Rattle.positions.specs.Answers.{unmarked, Answer, plainly, ends, nFits, cFits, ifFits, fitting}
 use Rattle.transcript.specs.Transcript.{Cds, noCds, cds}
 
--- strict: the one number is 0 or less, or the other is above the length
-unfoldable pub beyond : Bool → ℕ → ℤ → ℤ → Bool
-beyond strict len low high = strict && (leZ low (pos 0) || ltZ (pos len) high)
+-- strict: the number is 0 or less, or above the length
+unfoldable pub beyond : Bool → ℕ → ℤ → Bool
+beyond strict len n = strict && (leZ n (pos 0) || ltZ (pos len) n)
 
 -- ---- n. to c.: 13, 15, 17
 
--- 15 looks at the start number from below and at the end number from above; no other test
+-- 15: either number is beyond
 abbrev pub refuses15 : Bool → ℕ → Interval NAsked → Bool
-refuses15 strict len i = beyond strict len (i .from .base) (i .to .base)
+refuses15 strict len i = beyond strict len (i .from .base) || beyond strict len (i .to .base)
 
 -- the number crosses over, the offset stays
 unfoldable pub cPosition : ℕ → ℕ → NAsked → CPosition
@@ -37,14 +37,10 @@ nToC strict len coding i = fitting cFits (cOfInterval strict len coding i)
 
 -- ---- c. to n.: 13, then the start's 16 and 17, then the end's
 
--- 16 looks at each number from both sides
-abbrev pub refuses16 : Bool → ℕ → ℤ → Bool
-refuses16 strict len n = beyond strict len n n
-
 unfoldable pub nPosition : Bool → ℕ → ℕ → ℕ → CAsked → Outcome NPosition
 nPosition strict len s e a =
     let n = nOfC (pos s) (pos e) (a .base) in
-    if refuses16 strict len n then refused cOutside
+    if beyond strict len n then refused cOutside
     else ifFits nFits (record { base = n; offset = a .offset })
 
 unfoldable pub cToN : Bool → ℕ → Cds → Interval CAsked → Answer NPosition

@@ -18,18 +18,17 @@ use positions::fitting;
 use positions::fitting::CEnd;
 use positions::fitting::NEnd;
 
-// Strict: whether the one number is 0 or less, or the other above the length.
-fn is_beyond(strict: bool, len: u32, low: NNumber, high: NNumber) -> bool
-    ensures { λ r. ⌜ r ≡ beyond strict len (low .0) (high .0) ⌝ }
+// Strict: whether the number is 0 or less, or above the length.
+fn is_beyond(strict: bool, len: u32, n: NNumber) -> bool
+    ensures { λ r. ⌜ r ≡ beyond strict len (n .0) ⌝ }
 {
     if strict {
-        let least = low.0;
-        let most = high.0;
+        let number = n.0;
         let end = len as i64;
-        if least <= 0 {
+        if number <= 0 {
             return true;
         }
-        return end < most;
+        return end < number;
     }
     false
 }
@@ -59,7 +58,7 @@ fn n_position(strict: bool, len: u32, s: u32, e: u32, c: CAsked) -> NEnd
     ensures { λ r. ⌜ paperNEnd r ≡ nPosition strict len s e (paperCAsked c) ⌝ }
 {
     let n = n_number(s, e, c);
-    if is_beyond(strict, len, n, n) {
+    if is_beyond(strict, len, n) {
         return NEnd::Refused(refusals::C_OUTSIDE);
     }
     let offset = c.offset as i64;
@@ -74,7 +73,7 @@ pub fn to_c(strict: bool, len: u32, s: u32, e: u32, q: NQuestion) -> CPlain
     let to = q.to;
     let a = fitting::whole_n(from.base);
     let b = fitting::whole_n(to.base);
-    if is_beyond(strict, len, a, b) {
+    if is_beyond(strict, len, a) | is_beyond(strict, len, b) {
         return CPlain::Refused(refusals::N_OUTSIDE);
     }
     fitting::c_both(

@@ -2,7 +2,7 @@
 use Prim.Native.Nat.{ℕ}
 use mathlib.Core.Bool.{Bool, true, false, cond, not, _&&_, _||_}
 use lib.IntN.{ℤ, pos, negℤ, _+ℤ_, _-ℤ_}
-use lib.Signed.{leZ}
+use lib.Signed.{leZ, ltZ}
 use Rattle.refusals.specs.Numbers.{outside}
 use Rattle.refusals.specs.Outcome.{answered, refused}
 use Rattle.whole.specs.Whole.{if_then_else_}
@@ -14,9 +14,9 @@ use Rattle.transcript.specs.Transcript.{Transcript, genomeLength, transcriptLen
 use Rattle.positions.specs.Positions.{Interval, NAsked, GPosition, NPosition}
 use Rattle.positions.specs.Answers.{Answer, markOf, gFits, nFits, fitting}
 
--- in strict mode a place lies in 0 to the last entry, inclusive
+-- in strict mode a place lies at or above 0 and below the last entry
 unfoldable pub inside : Bool → ℕ → ℤ → Bool
-inside strict len p = not strict || (leZ (pos 0) p && leZ p (pos len))
+inside strict len p = not strict || (leZ (pos 0) p && ltZ p (pos len))
 
 -- the turn of strand -1: a place becomes length - 1 - place, an offset changes its sign, start and end change places
 unfoldable pub turned : Bool → ℕ → ℤ → ℤ
@@ -80,6 +80,6 @@ nToG strict t i = fitting gFits (gOfEnds strict t (earlier (t .forward) (i .from
 
 -- ---- in bounds
 
--- the start place is at 0 or above, and the end place at most the genome length
+-- both places lie inside as in strict mode, whichever comes first
 abbrev pub inBounds : ℕ → ℕ → Interval ℤ → Bool
-inBounds first len i = leZ (pos 0) (placeOfG first (i .from)) && leZ (placeOfG first (i .to)) (pos len)
+inBounds first len i = inside true len (placeOfG first (i .from)) && inside true len (placeOfG first (i .to))

@@ -49,7 +49,7 @@ pub fn place_of_g(first: u32, g: i32) -> Place
     Place(place)
 }
 
-// Whether a place lies in 0 to the last entry, which is asked in strict mode alone.
+// Whether a place lies at or above 0 and below the last entry, which is asked in strict mode alone.
 pub fn is_inside(strict: bool, len: u32, p: Place) -> bool
     ensures { λ r. ⌜ r ≡ inside strict len (p .0) ⌝ }
 {
@@ -57,7 +57,7 @@ pub fn is_inside(strict: bool, len: u32, p: Place) -> bool
         let z = p.0;
         let end = len as i64;
         if 0 <= z {
-            return z <= end;
+            return z < end;
         }
         return false;
     }
@@ -234,7 +234,7 @@ pub fn to_g(
     }
 }
 
-// Whether the start place is at 0 or above, and the end place at most the genome length.
+// Whether both places lie inside as in strict mode, whichever comes first.
 pub fn is_in_bounds(at: Alignment, genome: &[u32; MOST_STARTS], from: i32, to: i32) -> bool
     requires { ⌜ at .count ≤ mostSegments ⌝ }
     ensures { λ r. ⌜ r ≡ inBounds (at .first) (getD (now (genome .entry)) (at .count) 0) (record { from = from; to = to }) ⌝ }
@@ -242,11 +242,5 @@ pub fn is_in_bounds(at: Alignment, genome: &[u32; MOST_STARTS], from: i32, to: i
     let count = at.count;
     let p = place_of_g(at.first, from);
     let q = place_of_g(at.first, to);
-    let start = p.0;
-    let stop = q.0;
-    let end = last(genome, count) as i64;
-    if 0 <= start {
-        return stop <= end;
-    }
-    false
+    are_inside(true, last(genome, count), p, q)
 }

@@ -10,18 +10,17 @@ use Rattle.coding.proofs.is_beyond.Tie as tie
 returns : tie.Need-returns
 unfolding beyond
 returns c =
-    let t = c .before .before in
-    let low = told w64 (t .before .before .args .low .0) (t .struct-told .given .0 .1) in
-    simp (t .before .if1 .taken, simp low at (c .if2 .taken))
+    let t = c .before in
+    let n = told w64 (t .before .before .args .n .0) (t .struct-told .given .0 .1) in
+    simp (t .before .if1 .taken, simp n at (c .if2 .taken))
 
 returns-2 : tie.Need-returns-2
 unfolding beyond
 returns-2 c =
-    let t = c .before .before in
+    let t = c .before in
     let a = t .before .before in
-    let low = told w64 (a .args .low .0) (t .struct-told .given .0 .1) in
-    let high = told w64 (a .args .high .0) (c .before .struct-told2 .given .0 .1) in
-    simp (t .before .if1 .taken, simp low at (c .if2 .left), high, entry (a .fits .len))
+    let n = told w64 (a .args .n .0) (t .struct-told .given .0 .1) in
+    simp (t .before .if1 .taken, simp n at (c .if2 .left), n, entry (a .fits .len))
 
 returns-3 : tie.Need-returns-3
 unfolding beyond

@@ -5,7 +5,7 @@ use mir.Val.{SFits}
 use lib.IntN.{pos}
 use Rattle.whole.specs.laws.Whole.{read, widened, fits-wider}
 use Rattle.numbering.specs.Numbers.{nOfC}
-use Rattle.coding.specs.Coding.{nPosition, refuses16}
+use Rattle.coding.specs.Coding.{beyond, nPosition}
 use Rattle.positions.specs.Paper.{paperCAsked}
 use borrow.Author.Needs.{needs, sfits-of}
 use Rattle.coding.proofs.n_position.Statement.{statement}
@@ -14,7 +14,7 @@ use Rattle.coding.proofs.n_position.Tie as tie
 -- the test that was made is 16's
 test-is : (c : tie.After-is-beyond) →
     let a = c .before .before .args in
-    refuses16 (a .strict) (a .len) (nOfC (pos (a .s)) (pos (a .e)) (paperCAsked (a .c) .base)) ≡ c .is-beyond .result
+    beyond (a .strict) (a .len) (nOfC (pos (a .s)) (pos (a .e)) (paperCAsked (a .c) .base)) ≡ c .is-beyond .result
 test-is c = sym (rw (c .before .n-number .ensures) at (c .is-beyond .ensures))
 
 offset-fits : (c : tie.After-struct-told) → SFits w32 (c .before .before .before .before .before .args .c .offset)

@@ -1,4 +1,5 @@
 -- 15's test is made on the numbers of the question; then 17 of an interval is 17 of its ends. Assumes nothing.
+use mathlib.Core.Bool.{_||_}
 use mathlib.Core.Path.{_≡_, sym, _∙_}
 use mir.Syntax.{w32}
 use Rattle.whole.specs.laws.Whole.{told}
@@ -21,10 +22,14 @@ to-is c =
     simp (told w32 (t .before .before .before .before .before .args .q .to .base) (t .struct-told2 .given .0 .1)) at (c .whole-n2 .ensures .0)
 
 -- the test that was made is 15's
-test-is : (c : tie.After-is-beyond) →
-    let a = c .before .before .before .before .before .before .before .args in
-    refuses15 (a .strict) (a .len) (paperNQuestion (a .q)) ≡ c .is-beyond .result
-test-is c = sym (simp (from-is (c .before .before .before), to-is (c .before)) at (c .is-beyond .ensures))
+test-is : (c : tie.After-is-beyond2) →
+    let a = c .before .before .before .before .before .before .before .before .args in
+    refuses15 (a .strict) (a .len) (paperNQuestion (a .q)) ≡ (c .before .is-beyond .result || c .is-beyond2 .result)
+test-is c =
+    let b = c .before .before in
+    let from = simp (from-is (b .before .before)) at (c .before .is-beyond .ensures) in
+    let to = simp (to-is b) at (c .is-beyond2 .ensures) in
+    simp (from, to)
 
 returns : tie.Need-returns
 unfolding nToC cOfInterval
@@ -34,7 +39,7 @@ returns-2 : tie.Need-returns-2
 unfolding nToC cOfInterval
 returns-2 c =
     let e = c .before .before .before .before .before in
-    let b = e .before .before in
+    let b = e .before .before .before in
     let a = b .before .before in
     let s = a .before .before .before .before in
     let from = simp (from-is a, told w32 (s .args .q .from .offset) (c .before .before .before .before .struct-told3 .given .1 .0 .1)) at (c .before .before .before .c-position .ensures) in
@@ -45,6 +50,7 @@ pub to-c-spec : {M : Type 1} → statement M
 to-c-spec =
     tie.close
     (tie.spec
+    (λ c κs. search needs)
     (λ c κs. search needs)
     (λ c κs. search needs)
     (λ c κs. search needs)

@@ -13,25 +13,25 @@ use Rattle.positions.specs.Positions.{Interval, each, NAsked, CAsked, NPosition
 use Rattle.positions.specs.Answers.{unmarked, Marked, plainly, nFits, cFits}
 use Rattle.positions.specs.laws.Ends.{ends-answered, fitting-is}
 use Rattle.transcript.specs.Transcript.{Cds, noCds, cds}
-use Rattle.coding.specs.Coding.{refuses15, cPosition, cOfInterval, nToC, refuses16, nPosition, cToN}
+use Rattle.coding.specs.Coding.{beyond, refuses15, cPosition, cOfInterval, nToC, nPosition, cToN}
 
 -- the n. position n is that of the c. position a, and 16 does not refuse it
 pub record Crossed (strict : Bool) (len s e : ℕ) (a : CAsked) (n : NPosition) : Type 0 where
   pub is : record { base = nOfC (pos s) (pos e) (a .base); offset = a .offset } ≡ n
-  pub taken : refuses16 strict len (n .base) ≡ false
+  pub taken : beyond strict len (n .base) ≡ false
 
 module _ (strict : Bool) (len : ℕ) where
   position-crossed : (s e : ℕ) (a : CAsked) (n : NPosition) → nPosition strict len s e a ≡ answered n → Crossed strict len s e a n
   unfolding nPosition
   position-crossed s e a n h =
       let there : NPosition = record { base = nOfC (pos s) (pos e) (a .base); offset = a .offset } in
-      by-test (refuses16 strict len (there .base))
+      by-test (beyond strict len (there .base))
       (λ t. absurd (clash (simp t at h)))
       (λ t.
       by-test (nFits there)
       (λ f.
       let is : there ≡ n = same (simp (t, f) at h) in
-      record { is = is; taken = subst (λ (x : NPosition). refuses16 strict len (x .base) ≡ false) is t })
+      record { is = is; taken = subst (λ (x : NPosition). beyond strict len (x .base) ≡ false) is t })
       (λ f. absurd (clash (simp (t, f) at h))))
 
   pub c-to-n-crossed : (s e : ℕ) (i : Interval CAsked) (n : Marked NPosition) → cToN strict len (cds s e) i ≡ answered n → Crossed strict len s e (i .from) (n .interval .from) × Crossed strict len s e (i .to) (n .interval .to)

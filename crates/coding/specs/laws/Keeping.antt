@@ -10,7 +10,7 @@ use Rattle.positions.specs.Positions.{Interval, NAsked, CAsked}
 use Rattle.positions.specs.Answers.{unmarked, cFits}
 use Rattle.positions.specs.laws.Keeping.{kept-unless, kept-fitting, kept-ends}
 use Rattle.transcript.specs.Transcript.{Cds, noCds, cds}
-use Rattle.coding.specs.Coding.{beyond, refuses15, cOfInterval, nToC, refuses16, nPosition, cToN}
+use Rattle.coding.specs.Coding.{beyond, refuses15, cOfInterval, nToC, nPosition, cToN}
 
 pub n-to-c-kept : (len : ℕ) (c : Cds) (i : Interval NAsked) → Kept (nToC true len c i) (nToC false len c i)
 unfolding nToC cOfInterval beyond
@@ -19,7 +19,7 @@ n-to-c-kept len (cds s e) i = kept-fitting cFits (cOfInterval true len (cds s e)
 
 n-position-kept : (len s e : ℕ) (a : CAsked) → Kept (nPosition true len s e a) (nPosition false len s e a)
 unfolding nPosition beyond
-n-position-kept len s e a = kept-unless (refuses16 true len (nOfC (pos s) (pos e) (a .base))) cOutside (nPosition false len s e a)
+n-position-kept len s e a = kept-unless (beyond true len (nOfC (pos s) (pos e) (a .base))) cOutside (nPosition false len s e a)
 
 pub c-to-n-kept : (len : ℕ) (c : Cds) (i : Interval CAsked) → Kept (cToN true len c i) (cToN false len c i)
 unfolding cToN

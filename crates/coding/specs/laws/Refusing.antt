@@ -11,13 +11,18 @@ use Rattle.positions.specs.Positions.{Interval, NAsked, CAsked}
 use Rattle.positions.specs.Answers.{unmarked, nFits, cFits}
 use Rattle.positions.specs.laws.Refusing.{only-unless, only-fitted, only-fitting, only-ends}
 use Rattle.transcript.specs.Transcript.{Cds, noCds, cds}
-use Rattle.coding.specs.Coding.{beyond, refuses15, cOfInterval, nToC, refuses16, nPosition, cToN}
+use Rattle.coding.specs.Coding.{beyond, refuses15, cOfInterval, nToC, nPosition, cToN}
 
 -- only strict mode finds a number beyond
-beyond-strict : (strict : Bool) (len : ℕ) (low high : ℤ) → beyond strict len low high ≡ true → strict ≡ true
+beyond-strict : (strict : Bool) (len : ℕ) (n : ℤ) → beyond strict len n ≡ true → strict ≡ true
 unfolding beyond
-beyond-strict true len low high e = refl
-beyond-strict false len low high e = e
+beyond-strict true len n e = refl
+beyond-strict false len n e = e
+
+either-strict : (strict : Bool) (len : ℕ) (i : Interval NAsked) → refuses15 strict len i ≡ true → strict ≡ true
+unfolding beyond
+either-strict true len i e = refl
+either-strict false len i e = e
 
 module _ (ks : List ℕ) (strict : Bool) where
   pub n-to-c-only : oneOf notCoding ks ≡ true → (strict ≡ true → oneOf nOutside ks ≡ true) → oneOf tooWide ks ≡ true → (len : ℕ) (c : Cds) (i : Interval NAsked) → Only ks (nToC strict len c i)
@@ -25,13 +30,13 @@ module _ (ks : List ℕ) (strict : Bool) where
   n-to-c-only m o w len noCds i = record { only = m }
   n-to-c-only m o w len (cds s e) i =
       only-fitting ks cFits (cOfInterval strict len (cds s e) i) w
-      (only-unless ks (refuses15 strict len i) nOutside _ (record { only = tt }) (λ t. o (beyond-strict strict len _ _ t)))
+      (only-unless ks (refuses15 strict len i) nOutside _ (record { only = tt }) (λ t. o (either-strict strict len i t)))
 
   n-position-only : (strict ≡ true → oneOf cOutside ks ≡ true) → oneOf tooWide ks ≡ true → (len s e : ℕ) (a : CAsked) → Only ks (nPosition strict len s e a)
   unfolding nPosition
   n-position-only o w len s e a =
       let n = nOfC (pos s) (pos e) (a .base) in
-      only-unless ks (refuses16 strict len n) cOutside _ (only-fitted ks nFits (record { base = n; offset = a .offset }) w) (λ t. o (beyond-strict strict len n n t))
+      only-unless ks (beyond strict len n) cOutside _ (only-fitted ks nFits (record { base = n; offset = a .offset }) w) (λ t. o (beyond-strict strict len n t))
 
   pub c-to-n-only : oneOf notCoding ks ≡ true → (strict ≡ true → oneOf cOutside ks ≡ true) → oneOf tooWide ks ≡ true → (len : ℕ) (c : Cds) (i : Interval CAsked) → Only ks (cToN strict len c i)
   unfolding cToN

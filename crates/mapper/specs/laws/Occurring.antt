@@ -6,7 +6,7 @@ use lib.IntN.{ℤ, pos, negsuc}
 use Rattle.refusals.specs.Outcome.{refused}
 use Rattle.whole.specs.Fits.{fits, fitOf}
 use Rattle.numbering.specs.Numbers.{nOfPlace, placeOfN, plainC, cOfN, nOfC, skipZero}
-use Rattle.cigar.specs.Elements.{letterM, letterN, isLetter, kindOf, genome, transcript, total}
+use Rattle.cigar.specs.Elements.{letterI, letterM, letterN, isLetter, kindOf, genome, transcript, total}
 use Rattle.segments.specs.Tables.{stepRight, allBelow, segmentsHold, elementsFrom, entriesFrom}
 use Rattle.segments.specs.Places.{firstBelow, indexOf, nearer, spotIn, mapByTables, mapPlace}
 use Rattle.holding.specs.Holding.{Lent, lent, cdsHolds, recordsHold, lengthHolds, holds, sourceOf, checked}
@@ -32,6 +32,12 @@ noncoding = lentA (pos 0) (pos 0)
 
 abbrev ofLength : Lent
 ofLength = lentA (pos 1) (pos 3)
+
+-- 4M 2I, whose last genome base lies behind the transcript's last, all of it CDS
+abbrev longer : Lent
+longer =
+    lent (record { kind = pos 0; strand = pos 1; first = pos 0; count = pos 2; bits = pos 3; start = pos 0; end = pos 4; length = pos 4 })
+    (0 ∷ 4 ∷ 6 ∷ []) (0 ∷ 4 ∷ 4 ∷ []) (letterM ∷ letterI ∷ [])
 
 -- of no kind, which does not hold together
 abbrev broken : Lent
@@ -65,9 +71,9 @@ computing : Unit {0}
 unfolding checked holds sourceOf recordsHold lengthHolds cdsHolds segmentsHold allBelow stepRight isLetter kindOf elementsFrom entriesFrom genome transcript total firstBelow indexOf nearer spotIn mapByTables mapPlace nOfPlace placeOfN cOfN nOfC skipZero fits fitOf beyond cPosition cOfInterval nToC nPosition cToN inside turned nOfSpot wholeN gToN gOfSpot gOfEnds nToG askGToN askNToG askNToC askCToN askGToC askCToG askCoding askInBounds
 computing = tt
 
--- g.10 is outside; a number far below the genome; no genome; no end; no kind
+-- g.34, behind the last base, is outside; a number far below the genome; no genome; no end; no kind
 pub g-to-n-occurs :
-    checked coding (askGToN true (g (pos 10)))
+    checked coding (askGToN true (g (pos 34)))
     ∷ checked coding (askGToN false (g least))
     ∷ checked ofLength (askGToN true (g (pos 11)))
     ∷ checked coding (askGToN true noEnd)
@@ -76,9 +82,9 @@ pub g-to-n-occurs :
 unfolding computing
 g-to-n-occurs = refl
 
--- n.20 is outside; n.1 with an offset that leads out of 32 bits; no genome; no kind
+-- n.19, behind the last base, is outside; n.1 with an offset that leads out of 32 bits; no genome; no kind
 pub n-to-g-occurs :
-    checked coding (askNToG true (n (pos 20) (pos 0)))
+    checked coding (askNToG true (n (pos 19) (pos 0)))
     ∷ checked coding (askNToG true (n (pos 1) most))
     ∷ checked ofLength (askNToG true (n (pos 1) (pos 0)))
     ∷ checked broken (askNToG true (n (pos 1) (pos 0)))
@@ -106,11 +112,11 @@ pub c-to-n-occurs :
 unfolding computing
 c-to-n-occurs = refl
 
--- no CDS; g.10 is outside; g.34 is n.19, behind the transcript; a number far below the genome; no genome; no end; no kind
+-- no CDS; g.10 is outside; g.5 of 4M2I is n.4_5, whose end is behind the transcript; a number far below the genome; no genome; no end; no kind
 pub g-to-c-occurs :
     checked noncoding (askGToC true (g (pos 11)))
     ∷ checked coding (askGToC true (g (pos 10)))
-    ∷ checked coding (askGToC true (g (pos 34)))
+    ∷ checked longer (askGToC true (g (pos 5)))
     ∷ checked coding (askGToC false (g least))
     ∷ checked ofLength (askGToC true (g (pos 11)))
     ∷ checked coding (askGToC true noEnd)

@@ -19,7 +19,7 @@ use Rattle.holding.specs.Holding.{Lent, holds, sourceOf, checked}
 use Rattle.positions.specs.Positions.{Interval, each, GAsked, at, missing, NAsked, CAsked, NPosition, asksN}
 use Rattle.positions.specs.Answers.{Marked}
 use Rattle.positions.specs.laws.Refusing.{only-if, only-chain}
-use Rattle.coding.specs.Coding.{beyond, refuses16, cToN}
+use Rattle.coding.specs.Coding.{beyond, cToN}
 use Rattle.coding.specs.laws.Answered.{c-to-n-crossed}
 use Rattle.coding.specs.laws.Refusing.{n-to-c-only, c-to-n-only}
 use Rattle.places.specs.Mapping.{inside, turned, inBounds, gToN}
@@ -29,24 +29,24 @@ use Rattle.mapper.specs.Asking.{givenEnds, given, askGToN, askNToG, askN
 -- ---- a number that strict c. to n. gives lies in 1 to the length, so that its place is inside
 
 module _ (len : ℕ) where
-  taken-inside : (strict forward : Bool) (n : ℤ) → refuses16 strict len n ≡ false → inside strict len (turned forward len (placeOfN n)) ≡ true
+  taken-inside : (strict forward : Bool) (n : ℤ) → beyond strict len n ≡ false → inside strict len (turned forward len (placeOfN n)) ≡ true
   unfolding beyond inside turned placeOfN
   taken-inside false forward n h = refl
   taken-inside true true n h =
       let (low, high) = neither (leZ n (pos 0)) (ltZ (pos len) n) h in
       let up : leZ (pos 1) n ≡ true = omega order in
       let above : leZ (pos 0) (n -ℤ pos 1) ≡ true = omega (order, dif n (pos 1)) in
-      let below : leZ (n -ℤ pos 1) (pos len) ≡ true = omega (order, dif n (pos 1)) in
+      let below : ltZ (n -ℤ pos 1) (pos len) ≡ true = omega (order, dif n (pos 1)) in
       simp (up, above, below)
   taken-inside true false n h =
       let (low, high) = neither (leZ n (pos 0)) (ltZ (pos len) n) h in
       let up : leZ (pos 1) n ≡ true = omega order in
       let back = pos len -ℤ pos 1 -ℤ (n -ℤ pos 1) in
       let above : leZ (pos 0) back ≡ true = omega (order, dif n (pos 1), dif (pos len) (pos 1), dif (pos len -ℤ pos 1) (n -ℤ pos 1)) in
-      let below : leZ back (pos len) ≡ true = omega (order, dif n (pos 1), dif (pos len) (pos 1), dif (pos len -ℤ pos 1) (n -ℤ pos 1)) in
+      let below : ltZ back (pos len) ≡ true = omega (order, dif n (pos 1), dif (pos len) (pos 1), dif (pos len -ℤ pos 1) (n -ℤ pos 1)) in
       simp (up, above, below)
 
-  c-to-n-taken : (strict : Bool) (c : Cds) (i : Interval CAsked) (n : Marked NPosition) → cToN strict len c i ≡ answered n → (refuses16 strict len (n .interval .from .base) ≡ false) × (refuses16 strict len (n .interval .to .base) ≡ false)
+  c-to-n-taken : (strict : Bool) (c : Cds) (i : Interval CAsked) (n : Marked NPosition) → cToN strict len c i ≡ answered n → (beyond strict len (n .interval .from .base) ≡ false) × (beyond strict len (n .interval .to .base) ≡ false)
   unfolding cToN
   c-to-n-taken strict noCds i n h = absurd (clash h)
   c-to-n-taken strict (cds s e) i n h = let (from, to) = c-to-n-crossed strict len s e i n h in (from .taken, to .taken)
