@@ -1,0 +1,7 @@
+-- The root of the crate's specs.
+--     Worklist    what a list is answered with: each slot, the steps, the refusals
+--     Walking     where the walk stands at a slot
+--     laws        what is shown of them
+pub mod Worklist
+pub mod Walking
+pub mod laws
