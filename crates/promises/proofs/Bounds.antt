@@ -1,4 +1,4 @@
--- How far off a spot can be: a place of the elements goes to -1 at the least and to the other side's length at the most. Assumes nothing.
+-- How far off a spot can be: a place of the elements goes to -1 at the least and to the other side's length at the most, with an offset of at most its own side's length. Assumes nothing.
 use Prim.Native.Nat.{ℕ, _+_, _≤_, _<_}
 use native.Mathlib.Omega.{arith}
 use mathlib.Core.Bool.{Bool}
@@ -6,7 +6,7 @@ use mathlib.Core.List.{List}
 use mathlib.Core.Path.{_≡_, refl, sym, ap, _∙_}
 use lib.IntN.{ℤ, pos, _+ℤ_, _-ℤ_}
 use lib.ListN.{getD, length, take, drop, take-append-drop}
-use Rattle.whole.specs.laws.Whole.{by-test, order, sum, dif, up, dn}
+use Rattle.whole.specs.laws.Whole.{by-test, order, sum, dif, neg, up, dn}
 use Rattle.cigar.specs.Elements.{Element, Side, Kind, kindOf, kind, total}
 use Rattle.cigar.specs.Elements.Kind.{matches, inserts, deletes, skips}
 use Rattle.cigar.specs.Read.{lettersOf}
@@ -16,6 +16,7 @@ use Rattle.segments.specs.Places.End.{start, stop}
 use Rattle.segments.specs.laws.Totals.{total-append}
 use Rattle.segments.specs.laws.Made.{nowhere, letter-at, entry-at, entry-next}
 use Rattle.segments.specs.laws.Finding.{inside}
+use Rattle.promises.proofs.Fits.{Within}
 
 pub record Near (limit : ℕ) (z : ℤ) : Type 0 where
   pub high : up z ≤ limit + dn z
@@ -36,6 +37,19 @@ near-spot i skips f h t k limit e forward begun goes-on in-limit m =
     (λ n. rw n (record { high = omega (order, dif (pos t) (pos 1)); low = omega (order, dif (pos t) (pos 1)) }))
     (λ n. rw n (record { high = omega arith; low = omega arith }))
 
+-- and its offset, where the segment ends at `most` or before
+offset-spot : (i : ℕ) (c : Kind) (f h t k most : ℕ) (e : End) (forward : Bool) → f ≤ k → k < h → h ≤ most → Within most ((spotIn i c f h t (pos k) e forward) .offset)
+unfolding spotIn nearer
+offset-spot i matches f h t k most e forward begun goes-on in-most = record { high = omega arith; low = omega arith }
+offset-spot i inserts f h t k most e forward begun goes-on in-most = record { high = omega arith; low = omega arith }
+offset-spot i deletes f h t k most e forward begun goes-on in-most = record { high = omega arith; low = omega arith }
+offset-spot i skips f h t k most e forward begun goes-on in-most =
+    let left = pos k -ℤ pos f +ℤ pos 1 in
+    let right = pos h -ℤ pos k in
+    by-test (leftNearer forward left right)
+    (λ n. rw n (record { high = omega (order, dif (pos k) (pos f), sum (pos k -ℤ pos f) (pos 1)); low = omega (order, dif (pos k) (pos f), sum (pos k -ℤ pos f) (pos 1)) }))
+    (λ n. rw n (record { high = omega (order, dif (pos h) (pos k), neg right); low = omega (order, dif (pos h) (pos k), neg right) }))
+
 -- no entry is past the total
 entry-within : (side : Side) (es : List Element) (k : ℕ) → k ≤ length es → getD (entriesOf side es) k 0 ≤ total side es
 entry-within side es k h =
@@ -53,3 +67,10 @@ module _ (from to : Side) (even : (x : Element) → kind x ≡ matches → from 
       near-spot i (kindOf (getD (lettersOf ys) i 0)) _ _ _ k (total to ys) e forward (lies .begun) (lies .goes-on)
       (omega (arith, entry-next to ys i (lies .below)))
       (λ m. omega (arith, entry-next from ys i (lies .below), entry-next to ys i (lies .below), even x (sym (ap kindOf (letter-at ys i)) ∙ m)))
+
+pub near-offset : (from to : Side) (ys : List Element) (k : ℕ) (e : End) (forward : Bool) → k < total from ys → Within (total from ys) ((mapPlace from to ys (pos k) e forward) .offset)
+unfolding mapPlace mapByTables
+near-offset from to ys k e forward h =
+    let i = indexOf (entriesOf from ys) (length ys) (pos k) in
+    let lies = inside from ys k h in
+    offset-spot i (kindOf (getD (lettersOf ys) i 0)) _ _ _ k (total from ys) e forward (lies .begun) (lies .goes-on) (entry-within from ys (i + 1) (omega (arith, lies .below)))

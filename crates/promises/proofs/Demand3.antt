@@ -1,12 +1,10 @@
--- Demand 3: records added at either end, or both, with the CDS moved up by the bases added upstream, change no c. answer to a g. interval on bases of the shorter span and no g. answer to a c. interval, in strict mode, on either strand. Assumes nothing.
+-- Demand 3: records added at either end, or both, with the CDS moved up by the bases added upstream, change no c. answer to a g. interval and no g. answer to a c. interval, in strict mode, on either strand. Assumes nothing.
 use Prim.Native.Nat.{ℕ, _+_}
-use native.Mathlib.Omega.{arith}
 use mathlib.Core.Bool.{Bool, true, cond}
 use mathlib.Core.List.{List, _∷_, _++_}
 use mathlib.Core.Path.{_≡_, refl}
-use lib.IntN.{pos}
 use Rattle.refusals.specs.Outcome.{answered, refused, Answered}
-use Rattle.cigar.specs.Elements.{Element, genome, total}
+use Rattle.cigar.specs.Elements.{Element}
 use Rattle.transcript.specs.Transcript.{Transcript, Cds, transcriptLength}
 use Rattle.transcript.specs.Transcript.Cds.{noCds, cds}
 use Rattle.transcript.specs.Building.{Exon, elementsOf, firstStart, build}
@@ -24,7 +22,7 @@ use Rattle.promises.proofs.Records.{Spans, exonBases, lead, trail, spli
 -- with no CDS there is no c. answer
 uncoded : (t u : Transcript) → t .coding ≡ noCds → Keeps ours t u
 unfolding gToC cToG cToN nToC cOfInterval
-uncoded t u e = record { g-to-c = λ i h k. nothing (gToN true t i); c-to-g = λ i. rw e (λ bad. absurd bad) }
+uncoded t u e = record { g-to-c = λ i. nothing (gToN true t i); c-to-g = λ i. rw e (λ bad. absurd bad) }
   where
     nothing : {P : Type 0} (a : Answer NPosition) → Answered (chain asksN a (nToC true (transcriptLength t) (t .coding))) → P
     nothing (answered x) = rw e (λ bad. absurd bad)
@@ -34,9 +32,7 @@ uncoded t u e = record { g-to-c = λ i h k. nothing (gToN true t i); c-to-g = λ
 module _ (forward : Bool) (first : ℕ) (xs ys zs : List Element) (s e : ℕ) where
   keeps : InRange (long forward first xs ys zs s e) → Keeps ours (short forward first xs ys zs s e) (long forward first xs ys zs s e)
   keeps in-range = record {
-    g-to-c = λ i (p, a, p-in) (q, b, q-in).
-        let same : i ≡ record { from = pos (p + (first + total genome xs) + 1); to = pos (q + (first + total genome xs) + 1) } = λ j. record { from = a j; to = b j } in
-        rw same (g-to-c-kept forward first xs ys zs s e (in-range .transcript-small) p q (omega arith) (omega arith));
+    g-to-c = g-to-c-kept forward first xs ys zs s e (in-range .transcript-small);
     c-to-g = c-to-g-kept forward first xs ys zs s e (in-range .transcript-small);
   }
 

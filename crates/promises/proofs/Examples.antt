@@ -19,7 +19,7 @@ use Rattle.judging.specs.Judging.{lastFault, rangeFault, judgeOn, judgeInput}
 use Rattle.transcript.specs.declared.Bound.the-variants.{Given, Absent}
 use Rattle.promises.specs.Bases.{Matched, InIntron, isMatch, nextMatches}
 use Rattle.promises.specs.Demands.{ours, Builds, Named, FromNearest, AllSpan, basesOf, Lengthens, Keeps}
-use Rattle.promises.specs.Table.{digit, A, B, ins, del, A+, lone, unspanned}
+use Rattle.promises.specs.Table.{digit, A, B, ins, del, A+, ending, lone, unspanned}
 use Rattle.promises.proofs.Promises.{demand-2-built, demand-3}
 
 -- ---- the inputs
@@ -79,10 +79,11 @@ pub all-build :
     × Builds (uncoded (row 100 110 0 8 0 (amid4M letterI) ∷ [])) ins
     × Builds (uncoded (row 100 108 0 10 0 (amid4M letterD) ∷ [])) del
     × Builds (input (pos 1) 3 15 (row 10 20 0 10 0 10M ∷ row 25 33 10 18 1 (ofM 8) ∷ row 40 44 18 22 2 (ofM 4) ∷ [])) A+
+    × Builds (input (pos 1) 0 4 (row 0 6 0 4 0 (digit 4 ∷ letterM ∷ digit 2 ∷ letterI ∷ []) ∷ [])) ending
     × Builds (input (pos 1) 0 4 (row 10 14 0 4 0 (ofM 4) ∷ [])) lone
     × Builds (input (pos 1) 2 6 (row 2 5 0 2 0 (ofM 2) ∷ row 10 14 2 6 1 (ofM 4) ∷ [])) unspanned
 unfolding judgeInput judgeOn lastFault rangeFault faults faultsAfter ownFault pairFault followFault spanFault startFault riseFault joinFault exonsOf exonsAfter readFirst readNext readFrom isLetter elementsOf elementsAfter partsOf firstStart total genome transcript kindOf
-all-build = (refl, refl, refl, refl, refl, refl, refl, refl, refl)
+all-build = (refl, refl, refl, refl, refl, refl, refl, refl, refl, refl)
 
 -- ---- demand 2
 

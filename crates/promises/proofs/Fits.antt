@@ -3,13 +3,13 @@ use Prim.Native.Nat.{ℕ, _+_, _≤_, _<_}
 use native.Mathlib.Omega.{arith}
 use mathlib.Core.Bool.{Bool, true, false}
 use mathlib.Core.Path.{_≡_}
-use lib.IntN.{ℤ, pos, _+ℤ_, _-ℤ_}
+use lib.IntN.{ℤ, pos, _-ℤ_}
 use lib.Signed.{leZ, ltZ}
 use Rattle.refusals.specs.Numbers.{mostBases}
-use Rattle.whole.specs.laws.Whole.{by-test, order, sum, dif, neg, up, dn}
+use Rattle.whole.specs.laws.Whole.{by-test, order, dif, neg, up, dn}
 use Rattle.whole.specs.Fits.{fits}
-use Rattle.numbering.specs.Numbers.{nOfPlace, cOfN}
-use Rattle.positions.specs.laws.Fits.{fits-by, fits-says}
+use Rattle.numbering.specs.Numbers.{cOfN}
+use Rattle.positions.specs.laws.Fits.{fits-by}
 use Rattle.places.specs.Mapping.{signed}
 
 -- z is at most m in size
@@ -35,15 +35,3 @@ c-within s e b m ordered e-in some b-in =
     by-test (leZ (pos b) (pos e))
     (λ u. rw (t, u) (record { high = omega (order, dif (pos b) (pos s)); low = omega (order, dif (pos b) (pos s)) }))
     (λ u. rw (t, u) (record { high = omega (order, dif (pos b) (pos e)); low = omega (order, dif (pos b) (pos e)) })))
-
--- an n. number still fits when its place goes up within the transcript
-pub n-fits-up : (n len long : ℕ) (z : ℤ) → n + len ≤ long → long ≤ mostBases → leZ z (pos len) ≡ true → fits (nOfPlace z) ≡ true → fits (nOfPlace (pos n +ℤ z)) ≡ true
-unfolding nOfPlace
-n-fits-up n len long z in-long small high h =
-    let w = pos n +ℤ z in
-    by-test (leZ (pos 0) w)
-    (λ t. rw t (fits-by (w +ℤ pos 1) (omega (order, sum (pos n) z, sum w (pos 1))) (omega (order, sum w (pos 1)))))
-    (λ t.
-    let below : leZ (pos 0) z ≡ false = omega (order, sum (pos n) z) in
-    let (_, low) = fits-says z (rw below at h) in
-    rw t (fits-by w (omega order) (omega (order, sum (pos n) z))))

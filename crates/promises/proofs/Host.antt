@@ -191,12 +191,12 @@ host-2 w head was t z builds =
 there : {P : Type 0} (place : P → Position) (ks : List ℕ) {a b : Answer P} → oneOf 0 ks ≡ false → Only ks a → laid place a .number ≡ 0 → a ≡ b → Answered b
 there place ks {a} none h z e = subst Answered e (answered-at place ks a none h z)
 
-keeps-so : (x y : Lent) (t u : Transcript) → holds x ≡ true → sourceOf x ≡ aligned t → Sees ours y u → Keeps ours t u → KeepsTold x y t
+keeps-so : (x y : Lent) (t u : Transcript) → holds x ≡ true → sourceOf x ≡ aligned t → Sees ours y u → Keeps ours t u → KeepsTold x y
 unfolding asked askGToC askGToN askNToC askCToG askCToN askNToG gToC cToG
 keeps-so x y t u held stands r k = record {
-  g-to-c = λ a b from to z.
+  g-to-c = λ a b z.
       let is = reached x (aligned t) held stands (askGToC strict (asked a b 0)) in
-      r .g-to-c a b 0 strict ∙ ap (laid cLaid) (k .g-to-c _ from to (there cLaid gToCRefusals refl (g-to-c-refuses x strict (asked a b 0)) z is) ∙ sym is);
+      r .g-to-c a b 0 strict ∙ ap (laid cLaid) (k .g-to-c _ (there cLaid gToCRefusals refl (g-to-c-refuses x strict (asked a b 0)) z is) ∙ sym is);
   c-to-g = λ a o star b e starred z.
       let q = cAsked a o star b e starred in
       let is = reached x (aligned t) held stands (askCToG strict q) in

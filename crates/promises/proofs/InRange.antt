@@ -1,16 +1,15 @@
--- What the proofs ask of a transcript, that none of 9 and 12 applies; and a transcript that is lent and holds together is so. Assumes nothing.
+-- What the proofs ask of a transcript, that none of 9 and 12 applies; and what is lent and holds together is so, of either kind. Assumes nothing.
 use Prim.Native.Nat.{ℕ, _+_, _≤_}
-use native.Mathlib.Omega.{arith}
 use mathlib.Core.Bool.{true}
-use mathlib.Core.Path.{_≡_, sym, _∙_, subst}
+use mathlib.Core.Path.{_≡_, subst}
 use Rattle.refusals.specs.Numbers.{mostBases}
 use Rattle.whole.specs.laws.Whole.{by-test}
-use Rattle.transcript.specs.Transcript.{Transcript, Cds, genomeLength, transcriptLength}
+use Rattle.transcript.specs.Transcript.{Transcript, Source, genomeLength, transcriptLength}
 use Rattle.transcript.specs.Transcript.Source.{aligned, lengthOnly}
 use Rattle.transcript.specs.declared.Head.{Head}
 use Rattle.judging.specs.laws.Accepted.{CdsInside}
-use Rattle.holding.specs.Holding.{Lent, ofRecords, bothGiven, holds, headCds, transcriptOf, sourceOf}
-use Rattle.holding.specs.laws.Held.{CdsRight, cds-bounds, together, source-of-records, source-of-length, genome-length, transcript-length}
+use Rattle.holding.specs.Holding.{Lent, ofRecords, bothGiven, holds, headCds, sourceOf}
+use Rattle.holding.specs.laws.Held.{CdsRight, cds-bounds, together, length-right, source-of-records, source-of-length, genome-length, transcript-length}
 
 pub record InRange (t : Transcript) : Type 0 where
   pub transcript-small : transcriptLength t ≤ mostBases
@@ -24,21 +23,24 @@ head-inside h len right small =
     (λ given. let b = cds-bounds h len right given small in rw given (b .ordered, b .within))
     (λ given. rw given tt)
 
-pub held-in-range : (x : Lent) (t : Transcript) → holds x ≡ true → sourceOf x ≡ aligned t → InRange t
-held-in-range x t held stands =
+-- of either kind
+abbrev pub SourceInRange : Source → Type 0
+SourceInRange (aligned t) = InRange t
+SourceInRange (lengthOnly n c) = (n ≤ mostBases) × CdsInside c n
+
+pub held-source : (x : Lent) → holds x ≡ true → SourceInRange (sourceOf x)
+held-source x held =
     by-test (ofRecords (x .head))
     (λ r.
     let w = together x held r in
-    let is : transcriptOf x ≡ t = same (sym (source-of-records x r) ∙ stands) in
-    subst InRange is (record {
+    rw (source-of-records x r) (record {
       transcript-small = rw (transcript-length x w) (w .transcript-within);
       genome-small = rw (genome-length x w) (w .genome-within);
       cds-inside = rw (transcript-length x w) (head-inside (x .head) _ (w .cds) (w .transcript-within));
     }))
-    (λ r. absurd (clash (sym (source-of-length x r) ∙ stands)))
-  where
-    same : {t u : Transcript} → aligned t ≡ aligned u → t ≡ u
-    same e = cc
+    (λ r.
+    let l = length-right x held r in
+    rw (source-of-length x r) (l .length .below, head-inside (x .head) _ (l .cds) (l .length .below)))
 
-    clash : {n : ℕ} {c : Cds} {t : Transcript} → lengthOnly n c ≡ aligned t → ⊥
-    clash e = let z : _≡_ {A = ℕ} 0 1 = cc in omega arith
+pub held-in-range : (x : Lent) (t : Transcript) → holds x ≡ true → sourceOf x ≡ aligned t → InRange t
+held-in-range x t held stands = subst SourceInRange stands (held-source x held)

@@ -1,10 +1,10 @@
 -- Demand 3 over elements: with elements xs before and zs after, along the genome, and the CDS moved up by the transcript bases that stand upstream, each answer stays. Assumes nothing.
-use Prim.Native.Nat.{ℕ, zero, suc, _+_, _≤_, _<_}
+use Prim.Native.Nat.{ℕ, _+_, _≤_, _<_}
 use native.Mathlib.Omega.{arith}
 use mathlib.Core.Bool.{Bool, true, false, cond, _&&_, _||_}
 use mathlib.Core.List.{List, _++_}
-use mathlib.Core.Path.{_≡_, refl, sym, ap, _∙_}
-use lib.IntN.{ℤ, pos, negsuc, _+ℤ_, _-ℤ_}
+use mathlib.Core.Path.{_≡_, refl, ap, _∙_}
+use lib.IntN.{ℤ, pos, _+ℤ_, _-ℤ_}
 use lib.ListN.{length}
 use lib.Signed.{leZ, ltZ}
 use Rattle.refusals.specs.Numbers.{mostBases}
@@ -14,8 +14,7 @@ use Rattle.whole.specs.laws.Whole.{by-test, both, both-of, order, sum, dif, nei
 use Rattle.whole.specs.Fits.{fits}
 use Rattle.numbering.specs.Numbers.{nOfPlace, placeOfN, nOfC}
 use Rattle.numbering.specs.laws.RoundTrips.{place-back}
-use Rattle.cigar.specs.Elements.{Element, kind, genome, transcript, total}
-use Rattle.cigar.specs.Elements.Kind.{matches}
+use Rattle.cigar.specs.Elements.{Element, genome, transcript, total}
 use Rattle.segments.specs.Places.{Spot, mapPlace}
 use Rattle.segments.specs.Places.End.{start, stop}
 use Rattle.segments.specs.laws.Totals.{total-append}
@@ -26,32 +25,15 @@ use Rattle.positions.specs.Positions.{Interval, NAsked, CAsked, NPosition, CPos
 use Rattle.positions.specs.Answers.{Mark, unmarked, markOf, Answer, ends, chain, nFits, gFits, fitting}
 use Rattle.positions.specs.laws.Fits.{fits-by}
 use Rattle.coding.specs.Coding.{beyond, cPosition, cOfInterval, nToC, nPosition, cToN}
-use Rattle.places.specs.Mapping.{turned, signed, earlier, later, placeOfG, nOfSpot, wholeN, gToN, gOfSpot, gOfEnds, nToG}
+use Rattle.places.specs.Mapping.{inside, turned, signed, earlier, later, placeOfG, nOfSpot, wholeN, gToN, gOfSpot, gOfEnds, nToG}
 use Rattle.mapper.specs.Chains.{gToC, cToG}
-use Rattle.promises.proofs.Columns.{match-genome, match-transcript}
-use Rattle.promises.proofs.Fits.{n-fits-up}
-use Rattle.promises.proofs.Bounds.{Near, near-place}
-use Rattle.promises.proofs.Turns.{inside-within, place-of-base, turned-within, across, across-within, n-of-place}
-use Rattle.promises.proofs.Shifts.{c-stays, low-stays, high-stays, n-goes-up, turn-there, turn-back}
+use Rattle.promises.proofs.Turns.{inside-within, inside-means, beyond-means, either, turned-within, across, across-within, n-of-place}
+use Rattle.promises.proofs.Shifts.{c-stays, place-goes-up, n-goes-up, turn-there, turn-back}
 
--- of two, on either strand: what both are like the chosen one is like, and a change of both is a change of the chosen one
-either : {A : Type 0} (P : A → Type 0) (forward : Bool) (a b : A) → P a → P b → P (cond forward a b)
-either P true a b h k = h
-either P false a b h k = k
-
+-- a change of two is a change of the chosen one
 either-way : {A B : Type 0} (f : A → B) (forward : Bool) (a b : A) → cond forward (f a) (f b) ≡ f (cond forward a b)
 either-way f true a b = refl
 either-way f false a b = refl
-
--- the turned place of a spot is not past the end
-turned-high : (forward : Bool) (len : ℕ) (z : ℤ) → Near len z → leZ (turned forward len z) (pos len) ≡ true
-unfolding turned
-turned-high true len z h = omega order
-turned-high false len z h = omega (order, dif (pos len) (pos 1), dif (pos len -ℤ pos 1) z)
-
--- a matching element goes equally far on both sides
-even : (x : Element) → kind x ≡ matches → genome x ≡ transcript x
-even x m = match-genome x m ∙ sym (match-transcript x m)
 
 -- an n. position, n further on
 abbrev raised : ℕ → NPosition → NPosition
@@ -61,17 +43,10 @@ raised n a = record { base = pos n +ℤ a .base; offset = a .offset }
 abbrev Below : ℕ → NPosition → Type 0
 Below len a = (r : ℕ) × (a .base ≡ pos (r + 1)) × (r < len)
 
-below : (len : ℕ) (n o : ℤ) → leZ n (pos 0) ≡ false → ltZ (pos len) n ≡ false → Below len (record { base = n; offset = o })
-below len (pos zero) o low high = absurd (omega order)
-below len (pos (suc r)) o low high = (r, ap pos (omega arith), omega order)
-below len (negsuc r) o low high = absurd (omega order)
-
-place-high : (len : ℕ) (w : ℤ) → ltZ (pos len) (nOfPlace w) ≡ false → leZ w (pos len) ≡ true
-unfolding nOfPlace
-place-high len w =
-    by-test (leZ (pos 0) w)
-    (λ t. rw t (λ h. omega (order, sum w (pos 1))))
-    (λ t. rw t (λ h. omega order))
+-- where neither 15 nor 16 refuses
+above : (len : ℕ) (n : ℤ) → beyond true len n ≡ false → leZ n (pos 0) ≡ false
+unfolding beyond
+above len n h = neither (leZ n (pos 0)) (ltZ (pos len) n) h .0
 
 place-of-number : (r : ℕ) → placeOfN (pos (r + 1)) ≡ pos r
 place-of-number r = rw (← n-of-place r) (place-back (pos r))
@@ -114,86 +89,100 @@ module _ (forward : Bool) (first : ℕ) (xs ys zs : List Element) (s e : ℕ) wh
   moved a = slid (length xs) (total transcript xs) a
 
   module _ (small : transcriptLength long ≤ mostBases) where
+    -- a number that the shorter has, as many numbers further on: the longer has it, and it fits
+    number-kept : (n : ℤ) → beyond true len n ≡ false → (beyond true (transcriptLength long) (pos up +ℤ n) ≡ false) × (fits (pos up +ℤ n) ≡ true)
+    unfolding beyond
+    number-kept n h =
+        let (low, high) = neither (leZ n (pos 0)) (ltZ (pos len) n) h in
+        let low′ : leZ (pos up +ℤ n) (pos 0) ≡ false = omega (order, sum (pos up) n) in
+        let high′ : ltZ (pos (transcriptLength long)) (pos up +ℤ n) ≡ false = omega (order, sum (pos up) n, up-fits) in
+        (rw (low′, high′) refl, fits-by (pos up +ℤ n) (omega (order, sum (pos up) n, up-fits)) (omega (order, sum (pos up) n)))
+
     -- ---- g. to c.
 
+    place-kept : (z : ℤ) → beyond true len (nOfPlace z) ≡ false → (beyond true (transcriptLength long) (nOfPlace (pos up +ℤ z)) ≡ false) × (fits (nOfPlace (pos up +ℤ z)) ≡ true)
+    place-kept z h = rw (place-goes-up up z (above len (nOfPlace z) h)) (number-kept (nOfPlace z) h)
+
     -- where the shorter answers, neither 17 nor 15 refused it; then neither refuses the longer, and each c. number stays
-    onward-kept : (m : Mark) (z w o v : ℤ) → leZ z (pos len) ≡ true
+    onward-kept : (m : Mark) (z w o v : ℤ)
         → Answered (onward short m (byPlace z o) (byPlace w v)) → onward long m (byPlace (pos up +ℤ z) o) (byPlace (pos up +ℤ w) v) ≡ onward short m (byPlace z o) (byPlace w v)
-    unfolding nToC cOfInterval beyond cPosition
-    onward-kept m z w o v z-in =
+    unfolding nToC cOfInterval cPosition
+    onward-kept m z w o v =
         by-test (nFits (byPlace z o) && nFits (byPlace w v))
         (λ f.
-        by-test (leZ (nOfPlace z) (pos 0) || ltZ (pos len) (nOfPlace w))
+        by-test (beyond true len (nOfPlace z) || beyond true len (nOfPlace w))
         (λ t. rw (f, t) (λ bad. absurd bad))
         (λ t.
-        let (low, high) = neither (leZ (nOfPlace z) (pos 0)) (ltZ (pos len) (nOfPlace w)) t in
-        rw (f, t, fit f (place-high len w high), low-stays up z low, high-stays up len (transcriptLength long) w up-fits high, c-stays up s e z, c-stays up s e w) (λ ok. refl)))
+        let (z-in, w-in) = neither (beyond true len (nOfPlace z)) (beyond true len (nOfPlace w)) t in
+        let (z-long, z-fits) = place-kept z z-in in
+        let (w-long, w-fits) = place-kept w w-in in
+        let (from-fits, to-fits) = both (nFits (byPlace z o)) (nFits (byPlace w v)) f in
+        let fit = both-of (both-of z-fits (both (fits (nOfPlace z)) (fits o) from-fits .1)) (both-of w-fits (both (fits (nOfPlace w)) (fits v) to-fits .1)) in
+        rw (f, t, fit, z-long, w-long, c-stays up s e z, c-stays up s e w) (λ ok. refl)))
         (λ f. rw f (λ bad. absurd bad))
-      where
-        fit : (nFits (byPlace z o) && nFits (byPlace w v)) ≡ true → leZ w (pos len) ≡ true → (nFits (byPlace (pos up +ℤ z) o) && nFits (byPlace (pos up +ℤ w) v)) ≡ true
-        fit f w-in =
-            let (from-fits, to-fits) = both (nFits (byPlace z o)) (nFits (byPlace w v)) f in
-            let (z-fits, o-fits) = both (fits (nOfPlace z)) (fits o) from-fits in
-            let (w-fits, v-fits) = both (fits (nOfPlace w)) (fits v) to-fits in
-            both-of (both-of (n-fits-up up len (transcriptLength long) z up-fits small z-in z-fits) o-fits) (both-of (n-fits-up up len (transcriptLength long) w up-fits small w-in w-fits) v-fits)
 
     -- from the spots of the two ends
-    spots-kept : (a b : Spot) → Near len (a .place) → Near len (b .place) → (m : Mark)
+    spots-kept : (a b : Spot) (m : Mark)
         → Answered (onward short m (nOfSpot short (earlier forward a b)) (nOfSpot short (later forward a b)))
         → onward long m (nOfSpot long (earlier forward (moved a) (moved b))) (nOfSpot long (later forward (moved a) (moved b))) ≡ onward short m (nOfSpot short (earlier forward a b)) (nOfSpot short (later forward a b))
     unfolding nOfSpot
-    spots-kept a b a-near b-near m =
+    spots-kept a b m =
         let c = earlier forward a b in
         let d = later forward a b in
         rw (either-way moved forward a b, either-way moved forward b a, turned-long (c .place), turned-long (d .place))
-        (onward-kept m (turned forward len (c .place)) (turned forward len (d .place)) (signed forward (c .offset)) (signed forward (d .offset))
-        (turned-high forward len (c .place) (either (λ (x : Spot). Near len (x .place)) forward a b a-near b-near)))
+        (onward-kept m (turned forward len (c .place)) (turned forward len (d .place)) (signed forward (c .offset)) (signed forward (d .offset)))
 
-    module _ (p q : ℕ) (p-in : p < genomeLength short) (q-in : q < genomeLength short) where
-      abbrev asked : Interval ℤ
-      asked = record { from = pos (p + short .first + 1); to = pos (q + short .first + 1) }
+    place-long : (g : ℤ) → placeOfG first g ≡ pos (total genome xs) +ℤ placeOfG (short .first) g
+    place-long g = omega (order, dif g (pos 1), dif (g -ℤ pos 1) (pos first), dif (g -ℤ pos 1) (pos (short .first)), sum (pos (total genome xs)) (placeOfG (short .first) g))
 
-      place-long : (k : ℕ) → placeOfG first (pos (k + short .first + 1)) ≡ pos (total genome xs + k)
-      place-long k =
-          let v : k + short .first + 1 ≡ total genome xs + k + first + 1 = omega arith in
-          rw v (place-of-base first (total genome xs + k))
+    -- a place on the shorter's elements
+    abbrev On : ℤ → Type 0
+    On z = (p : ℕ) × (z ≡ pos p) × (p < genomeLength short)
 
-      pub g-to-c-kept : Answered (gToC true short asked) → gToC true long asked ≡ gToC true short asked
-      unfolding gToC gToN wholeN
-      g-to-c-kept =
-          let a = mapPlace genome transcript ys (pos p) start forward in
-          let b = mapPlace genome transcript ys (pos q) stop forward in
-          rw (
-            place-of-base (short .first) p,
-            place-of-base (short .first) q,
-            inside-within (genomeLength short) p (omega arith),
-            inside-within (genomeLength short) q (omega arith),
-            place-long p,
-            place-long q,
-            inside-within (genomeLength long) (total genome xs + p) (omega (arith, long-genome)),
-            inside-within (genomeLength long) (total genome xs + q) (omega (arith, long-genome)),
-            place-amid genome transcript xs ys zs p start forward p-in,
-            place-amid genome transcript xs ys zs q stop forward q-in,
-          )
-          (spots-kept a b (near-place genome transcript even ys p start forward p-in) (near-place genome transcript even ys q stop forward q-in) (markOf (a .sure && b .sure)))
+    places-kept : (i : Interval ℤ) → On (placeOfG (short .first) (i .from)) → On (placeOfG (short .first) (i .to)) → Answered (gToC true short i) → gToC true long i ≡ gToC true short i
+    unfolding gToC gToN wholeN
+    places-kept i (p, e, p-in) (q, u, q-in) =
+        let a = mapPlace genome transcript ys (pos p) start forward in
+        let b = mapPlace genome transcript ys (pos q) stop forward in
+        rw (
+          place-long (i .from),
+          place-long (i .to),
+          e,
+          u,
+          inside-within (genomeLength short) p p-in,
+          inside-within (genomeLength short) q q-in,
+          inside-within (genomeLength long) (total genome xs + p) (omega (arith, long-genome)),
+          inside-within (genomeLength long) (total genome xs + q) (omega (arith, long-genome)),
+          place-amid genome transcript xs ys zs p start forward p-in,
+          place-amid genome transcript xs ys zs q stop forward q-in,
+        )
+        (spots-kept a b (markOf (a .sure && b .sure)))
+
+    -- what 14 does not refuse lies there
+    pub g-to-c-kept : (i : Interval ℤ) → Answered (gToC true short i) → gToC true long i ≡ gToC true short i
+    unfolding gToC gToN wholeN
+    g-to-c-kept i =
+        let span = genomeLength short in
+        let z = placeOfG (short .first) (i .from) in
+        let w = placeOfG (short .first) (i .to) in
+        by-test (inside true span z && inside true span w)
+        (λ t. let (z-in, w-in) = both (inside true span z) (inside true span w) t in places-kept i (inside-means span z z-in) (inside-means span w w-in))
+        (λ t. rw t (λ bad. absurd bad))
 
     -- ---- c. to g.
 
     -- one end of the first step: where the shorter answers, so does the longer, as many numbers further on
     end-kept : (c : CAsked) (a : NPosition) → nPosition true len s e c ≡ answered a → (nPosition true (transcriptLength long) (s + up) (e + up) c ≡ answered (raised up a)) × Below len a
-    unfolding nPosition beyond
+    unfolding nPosition
     end-kept c a =
         let n = nOfC (pos s) (pos e) (c .base) in
-        by-test (leZ n (pos 0) || ltZ (pos len) n)
+        by-test (beyond true len n)
         (λ t. rw t (λ h. absurd (clash h)))
         (λ t.
         by-test (fits n && fits (c .offset))
         (λ f. rw (t, f) (λ h.
-        let (low, high) = neither (leZ n (pos 0)) (ltZ (pos len) n) t in
-        let low′ : leZ (pos up +ℤ n) (pos 0) ≡ false = omega (order, sum (pos up) n) in
-        let high′ : ltZ (pos (transcriptLength long)) (pos up +ℤ n) ≡ false = omega (order, sum (pos up) n, up-fits) in
-        let n-fits = fits-by (pos up +ℤ n) (omega (order, sum (pos up) n, up-fits)) (omega (order, sum (pos up) n)) in
-        rw (← same h) (rw (n-goes-up up s e (c .base) low, low′, high′, n-fits, both (fits n) (fits (c .offset)) f .1) refl, below len n (c .offset) low high)))
+        let (n-long, n-fits) = number-kept n t in
+        rw (← same h) (rw (n-goes-up up s e (c .base) (above len n t), n-long, n-fits, both (fits n) (fits (c .offset)) f .1) refl, beyond-means len n t)))
         (λ f. rw (t, f) (λ h. absurd (clash h))))
 
   g-same : (a : Spot) (o : ℤ) → gOfSpot long (slid (length xs) (total genome xs) a) o ≡ gOfSpot short a o

@@ -7,6 +7,7 @@
 --     Rooms, Built                  what is known of an input that builds
 --     Promises, Table               the promises
 --     Refusals, Occurring           which refusals there are, and that each occurs
+--     Questions                     which a question gives in strict mode
 --     Host                          what a host sees
 --     Covers                        each place lies in an element
 --     Examples, Against             transcripts that meet every premise, and mappers that the promises shut out
@@ -28,6 +29,7 @@ pub mod Promises
 pub mod Table
 pub mod Refusals
 pub mod Occurring
+pub mod Questions
 pub mod Host
 pub mod Covers
 pub mod Examples

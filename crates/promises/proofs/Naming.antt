@@ -64,7 +64,7 @@ pub record Reaches (t : Transcript) (p q a : ℕ) (o : ℤ) : Type 0 where
   pub exon-segment : ℕ
   pub here : (e : End) → mapPlace transcript genome (t .elements) (pos q) e true ≡ surely exon-segment (pos a) (pos 0)
   pub sums : pos a +ℤ o ≡ pos p
-  pub p-in : p ≤ genomeLength t
+  pub p-in : p < genomeLength t
   pub q-in : q < transcriptLength t
   pub o-in : Within (genomeLength t) o
 
@@ -96,7 +96,7 @@ module _ (t : Transcript) (in-range : InRange t) (p q a : ℕ) (o : ℤ) (r : Re
   unfolding nToG gOfEnds gOfSpot
   n-back =
       let e : pos (a + t .first + 1) +ℤ o ≡ gNumber t p = omega (order, sum (pos (a + t .first + 1)) o, sum (pos a) o, r .sums) in
-      rw (same-either (t .forward) (asksN (nName x)), place-of (t .forward) (transcriptLength t) q (r .q-in), inside-within (transcriptLength t) q (omega (arith, r .q-in)), r .here start, r .here stop, sign-sign (t .forward) o, e, base-fits)
+      rw (same-either (t .forward) (asksN (nName x)), place-of (t .forward) (transcriptLength t) q (r .q-in), inside-within (transcriptLength t) q (r .q-in), r .here start, r .here stop, sign-sign (t .forward) o, e, base-fits)
 
   module _ (s e : ℕ) (coding : t .coding ≡ cds s e) where
     inside : (s ≤ e) × (e ≤ transcriptLength t)

@@ -23,7 +23,7 @@ use Rattle.transcript.specs.Heads.{bothBits}
 use Rattle.transcript.specs.declared.Numbers.{Numbers}
 use Rattle.transcript.specs.declared.Bound.{Bound}
 use Rattle.transcript.specs.declared.Bound.the-variants.{Given, Absent}
-use Rattle.promises.specs.Demands.{Mapper, ours, madeOf, Builds, AllSpan, basesOf, addedUpstream, movedUp, KeptOfRecord, kept, Lengthens, Keeps, Demand-2, Demand-2-built, Demand-3}
+use Rattle.promises.specs.Demands.{Mapper, ours, madeOf, Builds, AllSpan, basesOf, addedUpstream, movedUp, KeptOfRecord, kept, Lengthens, Keeps, Demand-2, Demand-2-built, Demand-3, Demand-3-narrow}
 use Rattle.promises.proofs.InRange.{InRange, held-in-range}
 use Rattle.promises.proofs.Records.{Spans, exonBases}
 use Rattle.promises.proofs.Built.{exonIn, From, built-from}
@@ -124,3 +124,12 @@ module _ (x y : Input) (t u : Transcript) (from-x : From x t) (from-y : From y u
 
 pub demand-3 : Demand-3 ours
 demand-3 x y t u builds-x builds-y l spans = kept-all x y t u (built-from x t builds-x) (built-from y u builds-y) l spans
+
+-- the narrower words follow, of any mapper
+pub narrower : (m : Mapper) → Demand-3 m → Demand-3-narrow m
+narrower m d x y t u builds-x builds-y l spans =
+    let k = d x y t u builds-x builds-y l spans in
+    record { g-to-c = λ i from to. k .g-to-c i; c-to-g = k .c-to-g }
+
+pub demand-3-narrow : Demand-3-narrow ours
+demand-3-narrow = narrower ours demand-3

@@ -1,5 +1,5 @@
--- What stays when bases are added upstream: the c. number of a place, the n. number of a c. number, and the tests that can refuse. Assumes nothing.
-use Prim.Native.Nat.{ℕ, _+_, _≤_}
+-- What stays when bases are added upstream, the c. number of a place; and what goes up with them, the n. number of a place and of a c. number. Assumes nothing.
+use Prim.Native.Nat.{ℕ, _+_}
 use mathlib.Core.Bool.{Bool, true, false, cond}
 use mathlib.Core.Path.{_≡_, refl, sym, _∙_}
 use lib.IntN.{ℤ, pos, _+ℤ_, _-ℤ_}
@@ -77,25 +77,15 @@ c-stays up s e z =
     rw (t, t′, u, u′, v′))))
     ∙ sym (c-of-place s e z)
 
--- ---- the tests of 15 stay passed
+-- ---- the n. number of a place goes up, if it is above 0
 
-pub low-stays : (up : ℕ) (z : ℤ) → leZ (nOfPlace z) (pos 0) ≡ false → leZ (nOfPlace (pos up +ℤ z)) (pos 0) ≡ false
-low-stays up z p =
+pub place-goes-up : (up : ℕ) (z : ℤ) → leZ (nOfPlace z) (pos 0) ≡ false → nOfPlace (pos up +ℤ z) ≡ pos up +ℤ nOfPlace z
+place-goes-up up z p =
     by-test (leZ (pos 0) z)
     (λ h.
     let h′ : leZ (pos 0) (pos up +ℤ z) ≡ true = omega (order, sum (pos up) z) in
-    rw (n-up (pos up +ℤ z) h′) (omega (order, sum (pos up) z, sum (pos up +ℤ z) (pos 1))))
+    rw (n-up z h, n-up (pos up +ℤ z) h′) (omega (order, sum (pos up) z, sum (pos up +ℤ z) (pos 1), sum z (pos 1), sum (pos up) (z +ℤ pos 1))))
     (λ h. absurd (omega (order, n-down z h)))
-
-pub high-stays : (up len long : ℕ) (z : ℤ) → up + len ≤ long → ltZ (pos len) (nOfPlace z) ≡ false → ltZ (pos long) (nOfPlace (pos up +ℤ z)) ≡ false
-high-stays up len long z fits p =
-    let w = pos up +ℤ z in
-    by-test (leZ (pos 0) w)
-    (λ h. rw (n-up w h)
-    (by-test (leZ (pos 0) z)
-    (λ k. omega (order, n-up z k, sum z (pos 1), sum (pos up) z, sum w (pos 1)))
-    (λ k. omega (order, sum (pos up) z, sum w (pos 1)))))
-    (λ h. rw (n-down w h) (omega order))
 
 -- ---- the n. number of a c. number goes up, if it is above 0
 

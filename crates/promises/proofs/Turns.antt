@@ -1,13 +1,15 @@
 -- The turn of strand -1, the strict bounds, and n. numbers of places that are not negative. Assumes nothing.
-use Prim.Native.Nat.{ℕ, _+_, _-_, _≤_, _<_}
+use Prim.Native.Nat.{ℕ, zero, suc, _+_, _-_, _<_}
 use native.Mathlib.Omega.{arith}
-use mathlib.Core.Bool.{Bool, true, false, cond}
-use mathlib.Core.Path.{_≡_, refl}
+use mathlib.Core.Bool.{Bool, true, false, cond, false≢true}
+use mathlib.Core.Path.{_≡_, refl, ap}
 use lib.Dec.{leb·zero}
-use lib.IntN.{ℤ, pos, negℤ-negℤ, _-ℤ_}
-use borrow.Author.Tests.{le-leb}
-use Rattle.whole.specs.laws.Whole.{order, dif}
+use lib.IntN.{ℤ, pos, negsuc, negℤ-negℤ, _-ℤ_}
+use lib.Signed.{leZ, ltZ}
+use borrow.Author.Tests.{lt-ltb}
+use Rattle.whole.specs.laws.Whole.{both, neither, order, dif}
 use Rattle.numbering.specs.Numbers.{nOfPlace}
+use Rattle.coding.specs.Coding.{beyond}
 use Rattle.places.specs.Mapping.{inside, turned, signed, placeOfG}
 
 pub turn-turn : (forward : Bool) (len : ℕ) (z : ℤ) → turned forward len (turned forward len z) ≡ z
@@ -32,9 +34,25 @@ pub across-within : (forward : Bool) (len q : ℕ) → q < len → across forwar
 across-within true len q h = h
 across-within false len q h = omega arith
 
-pub inside-within : (len p : ℕ) → p ≤ len → inside true len (pos p) ≡ true
+-- a place is inside in strict mode exactly where it is a natural number below the length
+pub inside-within : (len p : ℕ) → p < len → inside true len (pos p) ≡ true
 unfolding inside
-inside-within len p h = rw (leb·zero p, le-leb p len h)
+inside-within len p h = rw (leb·zero p, lt-ltb p len h)
+
+pub inside-means : (len : ℕ) (z : ℤ) → inside true len z ≡ true → (p : ℕ) × (z ≡ pos p) × (p < len)
+unfolding inside
+inside-means len (pos p) h = let (low, high) = both (leZ (pos 0) (pos p)) (ltZ (pos p) (pos len)) h in (p, refl, omega order)
+inside-means len (negsuc p) h = absurd (false≢true h)
+
+-- and a number is not beyond exactly where it is one more than such a number
+pub beyond-means : (len : ℕ) (n : ℤ) → beyond true len n ≡ false → (r : ℕ) × (n ≡ pos (r + 1)) × (r < len)
+unfolding beyond
+beyond-means len n h = let (low, high) = neither (leZ n (pos 0)) (ltZ (pos len) n) h in go n low high
+  where
+    go : (n : ℤ) → leZ n (pos 0) ≡ false → ltZ (pos len) n ≡ false → (r : ℕ) × (n ≡ pos (r + 1)) × (r < len)
+    go (pos zero) low high = absurd (omega order)
+    go (pos (suc r)) low high = (r, ap pos (omega arith), omega order)
+    go (negsuc r) low high = absurd (omega order)
 
 pub n-of-place : (p : ℕ) → nOfPlace (pos p) ≡ pos (p + 1)
 unfolding nOfPlace
@@ -46,3 +64,8 @@ place-of-base first p = omega (order, dif (pos (p + first + 1)) (pos 1), dif (po
 pub same-either : {A : Type 0} (forward : Bool) (a : A) → cond forward a a ≡ a
 same-either true a = refl
 same-either false a = refl
+
+-- what is so of both is so of the chosen one
+pub either : {A : Type 0} (P : A → Type 0) (forward : Bool) (a b : A) → P a → P b → P (cond forward a b)
+either P true a b h k = h
+either P false a b h k = k

@@ -1,6 +1,6 @@
 -- Demands 2 and 3, as what is asked of a mapper. Assumes nothing.
 --     Demand-2, Demand-2-built    each base of an exon, and of an intron between exons, has its HGVS name and comes back from it: of what holds together, and of what builds
---     Demand-3                    records added at the ends change no answer
+--     Demand-3, Demand-3-narrow   records added at the ends change no answer; the same of bases alone
 use Prim.Native.Nat.{ℕ, _+_, _<_}
 use mathlib.Core.Bool.{Bool, true, false}
 use mathlib.Core.List.{List, [], _∷_, _++_, map}
@@ -164,15 +164,25 @@ pub record Lengthens (x y : Input) : Type 0 where
   pub start-moved : y .start ≡ movedUp added (x .start)
   pub end-moved : y .end ≡ movedUp added (x .end)
 
--- z is the g. number of a base of the span of t: its place is 0 to the genome length, exclusive
-abbrev pub BaseOf : Transcript → ℤ → Type 0
-BaseOf t z = (p : ℕ) × (z ≡ gNumber t p) × (p < genomeLength t)
-
--- in strict mode u keeps the answers of t: the c. answer of each g. interval whose ends are bases of t's span, and the g. answer of each c. interval, certainty included
+-- in strict mode u keeps the answers of t: the c. answer of each g. interval, and the g. answer of each c. interval, certainty included
 pub record Keeps (m : Mapper) (t u : Transcript) : Type 0 where
-  pub g-to-c : (i : Interval ℤ) → BaseOf t (i .from) → BaseOf t (i .to) → Answered (m .g-to-c strict t i) → m .g-to-c strict u i ≡ m .g-to-c strict t i
+  pub g-to-c : (i : Interval ℤ) → Answered (m .g-to-c strict t i) → m .g-to-c strict u i ≡ m .g-to-c strict t i
   pub c-to-g : (i : Interval CAsked) → Answered (m .c-to-g strict t i) → m .c-to-g strict u i ≡ m .c-to-g strict t i
 
 -- of every transcript that builds and every lengthened one that builds, where each record's CIGAR spans exactly its bounds; the shorter's records are among the longer's
 abbrev pub Demand-3 : Mapper → Type 0
 Demand-3 m = (x y : Input) (t u : Transcript) → Builds x t → Builds y u → Lengthens x y → AllSpan (y .records) → Keeps m t u
+
+-- ---- demand 3 in its narrower words
+
+-- z is the g. number of a base of the span of t: its place is 0 to the genome length, exclusive
+abbrev pub BaseOf : Transcript → ℤ → Type 0
+BaseOf t z = (p : ℕ) × (z ≡ gNumber t p) × (p < genomeLength t)
+
+-- the same as `Keeps`, where the ends of a g. interval are bases of t's span
+pub record KeepsBases (m : Mapper) (t u : Transcript) : Type 0 where
+  pub g-to-c : (i : Interval ℤ) → BaseOf t (i .from) → BaseOf t (i .to) → Answered (m .g-to-c strict t i) → m .g-to-c strict u i ≡ m .g-to-c strict t i
+  pub c-to-g : (i : Interval CAsked) → Answered (m .c-to-g strict t i) → m .c-to-g strict u i ≡ m .c-to-g strict t i
+
+abbrev pub Demand-3-narrow : Mapper → Type 0
+Demand-3-narrow m = (x y : Input) (t u : Transcript) → Builds x t → Builds y u → Lengthens x y → AllSpan (y .records) → KeepsBases m t u

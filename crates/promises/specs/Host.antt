@@ -27,7 +27,7 @@ use Rattle.layout.specs.Layout.{headAt, gAsked as asked, nAsked, cAsked, gLaid,
 use Rattle.entry.specs.Boundary.{builtNumber, builtHead}
 use Rattle.entry.specs.Told.{toldGToN, toldGToC, toldNToG, toldNToC, toldCToN, toldCToG, toldInBounds, toldCoding}
 use Rattle.promises.specs.Bases.{Name, nName, cName}
-use Rattle.promises.specs.Demands.{Mapper, strict, Builds, gNumber, gAt, nAt, cAt, BasesNamed, Lengthens, AllSpan, BaseOf}
+use Rattle.promises.specs.Demands.{Mapper, strict, Builds, gNumber, gAt, nAt, cAt, BasesNamed, Lengthens, AllSpan}
 
 -- ---- building
 
@@ -107,12 +107,12 @@ Host-2 = (w : Way) (head : List ℤ) (was : Tables) (t : Transcript) → toldBui
 
 -- ---- demand 3
 
--- in strict mode the host is told over y what it is told over x: the c. answer of each g. interval whose ends are bases of t's span, and the g. answer of each c. interval
-pub record KeepsTold (x y : Lent) (t : Transcript) : Type 0 where
-  pub g-to-c : (a b : ℤ) → BaseOf t a → BaseOf t b → toldGToC x a b 0 strict .number ≡ 0 → toldGToC y a b 0 strict ≡ toldGToC x a b 0 strict
+-- in strict mode the host is told over y what it is told over x: the c. answer of each g. interval, and the g. answer of each c. interval
+pub record KeepsTold (x y : Lent) : Type 0 where
+  pub g-to-c : (a b : ℤ) → toldGToC x a b 0 strict .number ≡ 0 → toldGToC y a b 0 strict ≡ toldGToC x a b 0 strict
   pub c-to-g : (a o : ℤ) (star : Bool) (b u : ℤ) (starred : Bool) → toldCToG x a o star b u starred strict .number ≡ 0
       → toldCToG y a o star b u starred strict ≡ toldCToG x a o star b u starred strict
 
 abbrev pub Host-3 : Type 0
 Host-3 = (w v : Way) (head : List ℤ) (was : Tables) (head′ : List ℤ) (was′ : Tables) (t : Transcript) → toldBuilding w ≡ 0 → toldBuilding v ≡ 0
-    → Builds (input w) t → Lengthens (input w) (input v) → AllSpan (input v .records) → KeepsTold (writtenBy w head was) (writtenBy v head′ was′) t
+    → Builds (input w) t → Lengthens (input w) (input v) → AllSpan (input v .records) → KeepsTold (writtenBy w head was) (writtenBy v head′ was′)

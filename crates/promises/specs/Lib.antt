@@ -3,9 +3,11 @@
 --     Demands    demands 2 and 3
 --     Table      the table of places
 --     Refusals   the table of refusals of building, CIGAR text and cards
+--     Questions  the refusals of a question in strict mode
 --     Host       what a host sees: the demands in the numbers that it is told
 pub mod Bases
 pub mod Demands
 pub mod Table
 pub mod Refusals
+pub mod Questions
 pub mod Host

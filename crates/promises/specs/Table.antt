@@ -160,6 +160,10 @@ del = build strand1 (exon 100 108 (4 of letterM ∷ 2 of letterD ∷ 4 of letter
 abbrev pub A+ : Transcript
 A+ = build strand1 (exon 10 20 (10 of letterM ∷ []) ∷ exon 25 33 (8 of letterM ∷ []) ∷ exon 40 44 (4 of letterM ∷ []) ∷ []) (cds 3 15)
 
+-- the genome goes on behind the transcript's last base
+abbrev pub ending : Transcript
+ending = build strand1 (exon 0 6 (4 of letterM ∷ 2 of letterI ∷ []) ∷ []) (cds 0 4)
+
 -- one exon; and the same with a record before it whose elements do not span its bounds, and the CDS moved up
 abbrev pub lone : Transcript
 lone = build strand1 (exon 10 14 (4 of letterM ∷ []) ∷ []) (cds 0 4)
@@ -186,9 +190,9 @@ rows =
     ∷ g-c strict A (g 24) (certainly (c (plainC (pos 8)) (minus 2)))
     -- P7: A g.33 = c.*3
     ∷ g-c strict A (g 33) (certainly (c (starC (pos 3)) (pos 0)))
-    -- P8: A g.34 = n.19, but c. refuses 15
-    ∷ g-n strict A (g 34) (certainly (n (pos 19) (pos 0)))
-    ∷ g-c strict A (g 34) (refused nOutside)
+    -- P8: A g.34 refuses 14
+    ∷ g-n strict A (g 34) (refused outside)
+    ∷ g-c strict A (g 34) (refused outside)
     -- P9: A g.35 and g.10 refuse 14; lenient g.10 = n.-1 = c.-4
     ∷ g-n strict A (g 35) (refused outside)
     ∷ g-n strict A (g 10) (refused outside)
@@ -212,13 +216,22 @@ rows =
     ∷ g-n strict B (gs 11 33) (certainly (ns (pos 1) (pos 0) (pos 18) (pos 0)))
     ∷ n-g strict B (asked-n (ns (pos 1) (pos 0) (pos 18) (pos 0))) (certainly (answered-g (gs 11 33)))
     ∷ g-n strict B (gs 22 33) (certainly (ns (pos 1) (pos 0) (pos 9) (minus 2)))
-    -- the strict bound looks at the turned place: B n.-1 is g.34 and n.19 refuses 14, and on A the other way round
-    ∷ n-g strict B (asked-n (n (minus 1) (pos 0))) (certainly (answered-g (g 34)))
+    -- the numbers beside the transcript's first and last refuse 14 on either strand
+    ∷ n-g strict B (asked-n (n (minus 1) (pos 0))) (refused outside)
     ∷ n-g strict B (asked-n (n (pos 19) (pos 0))) (refused outside)
     ∷ n-g strict A (asked-n (n (minus 1) (pos 0))) (refused outside)
-    ∷ n-g strict A (asked-n (n (pos 19) (pos 0))) (certainly (answered-g (g 34)))
-    -- n. to c. does not test its end low: n.1_0 is c.1_c.0
-    ∷ n-c strict lone (asked-n (ns (pos 1) (pos 0) (pos 0) (pos 0))) (plainly (cs (plainC (pos 1)) (pos 0) (plainC (pos 0)) (pos 0)))
+    ∷ n-g strict A (asked-n (n (pos 19) (pos 0))) (refused outside)
+    -- lenient they have answers, and so has g.34
+    ∷ n-g lenient B (asked-n (n (minus 1) (pos 0))) (certainly (answered-g (g 34)))
+    ∷ n-g lenient A (asked-n (n (pos 19) (pos 0))) (certainly (answered-g (g 34)))
+    ∷ g-c lenient A (g 34) (certainly (c (starC (pos 4)) (pos 0)))
+    -- n. to c. tests both ends on both sides: n.1_0 and n.5_1 refuse 15; lenient n.1_0 is c.1_c.0
+    ∷ n-c strict lone (asked-n (ns (pos 1) (pos 0) (pos 0) (pos 0))) (refused nOutside)
+    ∷ n-c strict lone (asked-n (ns (pos 5) (pos 0) (pos 1) (pos 0))) (refused nOutside)
+    ∷ n-c lenient lone (asked-n (ns (pos 1) (pos 0) (pos 0) (pos 0))) (plainly (cs (plainC (pos 1)) (pos 0) (plainC (pos 0)) (pos 0)))
+    -- g. to n. has 14 alone: 4M2I g.5 = n.4_5 on 4 bases, uncertain, but c. refuses 15
+    ∷ g-n strict ending (g 5) (uncertainly (ns (pos 4) (pos 0) (pos 5) (pos 0)))
+    ∷ g-c strict ending (g 5) (refused nOutside)
     -- c.7+3 comes back; 16; 13; 17
     ∷ c-g strict A (asked-c (c (plainC (pos 7)) (pos 3))) (certainly (answered-g (g 23)))
     ∷ c-n strict A (asked-c (c (starC (pos 4)) (pos 0))) (refused cOutside)
@@ -227,15 +240,19 @@ rows =
     -- 18 and 19
     ∷ asked-g-n strict (asked 11 11) (lengthOnly 18 noCds) (refused noGenome)
     ∷ asked-g-n strict (record { from = at (pos 11); to = missing }) (aligned A) (refused missingEnd)
-    -- A g.11_34 is in bounds and g.11_35 is not; 18 and 19
-    ∷ in-bounds (asked 11 34) (aligned A) (answered true)
-    ∷ in-bounds (asked 11 35) (aligned A) (answered false)
-    ∷ in-bounds (asked 11 34) (lengthOnly 18 noCds) (refused noGenome)
+    -- A g.11_33 is in bounds, g.33_11 too; g.11_34, g.34_11, g.10_33 and g.33_10 are not; 18 and 19
+    ∷ in-bounds (asked 11 33) (aligned A) (answered true)
+    ∷ in-bounds (asked 33 11) (aligned A) (answered true)
+    ∷ in-bounds (asked 11 34) (aligned A) (answered false)
+    ∷ in-bounds (asked 34 11) (aligned A) (answered false)
+    ∷ in-bounds (asked 10 33) (aligned A) (answered false)
+    ∷ in-bounds (asked 33 10) (aligned A) (answered false)
+    ∷ in-bounds (asked 11 33) (lengthOnly 18 noCds) (refused noGenome)
     ∷ in-bounds (record { from = missing; to = at (pos 33) }) (aligned A) (refused missingEnd)
-    -- why demand 3 asks for bases of the span: A g.34_33 is c.*4_*3, and with an exon added c.*3+1_*3
-    ∷ g-c strict A (gs 34 33) (certainly (cs (starC (pos 4)) (pos 0) (starC (pos 3)) (pos 0)))
+    -- demand 3 speaks of answers: A g.34_33 refuses 14, and with an exon added it is c.*3+1_*3
+    ∷ g-c strict A (gs 34 33) (refused outside)
     ∷ g-c strict A+ (gs 34 33) (certainly (cs (starC (pos 3)) (pos 1) (starC (pos 3)) (pos 0)))
-    -- and for records that span their bounds: g.11 moves from c.1 to c.2
+    -- and of records that span their bounds: g.11 moves from c.1 to c.2
     ∷ g-c strict lone (g 11) (certainly (c (plainC (pos 1)) (pos 0)))
     ∷ g-c strict unspanned (g 11) (certainly (c (plainC (pos 2)) (pos 0)))
     ∷ []

@@ -27,9 +27,7 @@ test-is : (c : tie.After-is-beyond2) →
     refuses15 (a .strict) (a .len) (paperNQuestion (a .q)) ≡ (c .before .is-beyond .result || c .is-beyond2 .result)
 test-is c =
     let b = c .before .before in
-    let from = simp (from-is (b .before .before)) at (c .before .is-beyond .ensures) in
-    let to = simp (to-is b) at (c .is-beyond2 .ensures) in
-    simp (from, to)
+    simp (c .before .is-beyond .ensures, c .is-beyond2 .ensures, from-is (b .before .before), to-is b)
 
 returns : tie.Need-returns
 unfolding nToC cOfInterval

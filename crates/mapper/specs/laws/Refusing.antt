@@ -54,7 +54,7 @@ module _ (len : ℕ) where
 -- ---- the questions: 14, 15 and 16 in strict mode alone
 
 module _ (ks : List ℕ) where
-  given-only : oneOf missingEnd ks ≡ true → (q : Interval GAsked) → Only ks (given q)
+  pub given-only : oneOf missingEnd ks ≡ true → (q : Interval GAsked) → Only ks (given q)
   given-only m q = go (q .from) (q .to)
     where
       go : (a b : GAsked) → Only ks (givenEnds a b)
