@@ -1,5 +1,6 @@
 -- g. to n. and back of a transcript that lies on the genome, as the code goes: the lengths are the tables' last entries, 14 is tested first, and 17 is asked of each end. Assumes nothing.
-use mathlib.Core.Path.{_≡_}
+use Prim.Native.Nat.{ℕ}
+use mathlib.Core.Path.{_≡_, refl, ap, _∙_}
 use mathlib.Core.Bool.{Bool, true, false, _&&_}
 use lib.IntN.{ℤ}
 use lib.ListN.{getD}
@@ -7,17 +8,19 @@ use Rattle.refusals.specs.Numbers.{outside}
 use Rattle.refusals.specs.Outcome.{refused}
 use Rattle.numbering.specs.Numbers.{placeOfN}
 use Rattle.segments.specs.Tables.{Tables}
-use Rattle.segments.specs.Places.{Spot}
+use Rattle.cigar.specs.Elements.{genome, transcript}
+use Rattle.segments.specs.Places.{Spot, indexOf, segmentAt, spotOf, stopOf, mapByTables}
 use Rattle.segments.specs.Places.End.{start, stop}
+use Rattle.segments.specs.laws.Finding.{stop-of-place}
 use Rattle.segments.specs.laws.Meaning.{holds-means}
-use Rattle.segments.specs.laws.Reading.{last-genome, last-transcript}
+use Rattle.segments.specs.laws.Reading.{last-genome, last-transcript, by-genome}
 use Rattle.segments.specs.Paper.{toTranscript, toGenome}
 use Rattle.transcript.specs.Transcript.{genomeLength, transcriptLength}
 use Rattle.positions.specs.Positions.{NAsked}
-use Rattle.positions.specs.Answers.{gFits, nFits, fitting}
+use Rattle.positions.specs.Answers.{gFits, nFits, fitting, markOf, ends}
 use Rattle.positions.specs.laws.Ends.{ends-fit}
 use Rattle.places.specs.Mapping.{inside, turned, placeOfG, nOfSpot, wholeN, gToN, gOfSpot, gOfEnds}
-use Rattle.places.specs.Aligned.{alignedBy, Aligns, nJoined, gJoined}
+use Rattle.places.specs.Aligned.{alignedBy, Aligns, nEndAt, nJoined, gJoined}
 use Rattle.places.specs.declared.Alignment.{Alignment}
 
 module _ (a : Alignment) (x : Tables) (sound : Aligns a x) where
@@ -52,6 +55,20 @@ module _ (a : Alignment) (x : Tables) (sound : Aligns a x) where
     unfolding gToN wholeN
     n-refused e = simp (span-is, e)
 
+  -- of one number: its end's spot follows from its start's
+  module _ (strict : Bool) (g : ℤ) where
+    pub one-answered : inside strict (getD (x .genome) (a .count) 0) (g-from strict g g) ≡ true
+        → gToN strict (alignedBy a x) (record { from = g; to = g }) ≡ nJoined (a .forward) (getD (x .transcript) (a .count) 0) (n-from strict g g) (stopOf (n-from strict g g))
+    one-answered e = n-answered strict g g (rw e refl) ∙ ap (nJoined (a .forward) (getD (x .transcript) (a .count) 0) (n-from strict g g)) (stop-of-place genome transcript _ _ _)
+
+    pub one-refused : inside strict (getD (x .genome) (a .count) 0) (g-from strict g g) ≡ false → gToN strict (alignedBy a x) (record { from = g; to = g }) ≡ refused outside
+    one-refused e = n-refused strict g g (rw e refl)
+
+    -- by the segment that holds its place
+    pub spot-at : (number : ℕ) → number ≡ indexOf (x .genome) (a .count) (g-from strict g g) → spotOf (segmentAt (x .genome) (x .transcript) (x .letters) number) (g-from strict g g) start (a .forward) ≡ n-from strict g g
+    unfolding mapByTables
+    spot-at number e = rw e (by-genome x (a .count) (holds-means x (a .count) (sound .segments)) (sound .count-from) (g-from strict g g) start (a .forward))
+
   -- n. to g. of two positions in genomic order, likewise
   module _ (strict : Bool) (u v : NAsked) where
     abbrev pub t-from : ℤ
@@ -76,3 +93,26 @@ module _ (a : Alignment) (x : Tables) (sound : Aligns a x) where
     pub g-refused : t-inside ≡ false → fitting gFits (gOfEnds strict (alignedBy a x) u v) ≡ refused outside
     unfolding gOfEnds
     g-refused e = simp (length-is, e)
+
+  -- of two positions with one number: the end's spot follows from the start's
+  module _ (strict : Bool) (b o u : ℤ) where
+    abbrev pub first-at : NAsked
+    first-at = record { base = b; offset = o }
+
+    abbrev pub second-at : NAsked
+    second-at = record { base = b; offset = u }
+
+    pub one-back : inside strict (getD (x .transcript) (a .count) 0) (t-from strict first-at second-at) ≡ true
+        → fitting gFits (gOfEnds strict (alignedBy a x) first-at second-at) ≡ gJoined (a .forward) (a .first) (s-from strict first-at second-at) (stopOf (s-from strict first-at second-at)) o u
+    one-back e =
+        g-answered strict first-at second-at (rw e refl)
+        ∙ ap (λ (s : Spot). gJoined (a .forward) (a .first) (s-from strict first-at second-at) s o u) (stop-of-place transcript genome _ _ _)
+
+    pub one-back-refused : inside strict (getD (x .transcript) (a .count) 0) (t-from strict first-at second-at) ≡ false → fitting gFits (gOfEnds strict (alignedBy a x) first-at second-at) ≡ refused outside
+    one-back-refused e = g-refused strict first-at second-at (rw e refl)
+
+-- a sure spot is numbered once
+pub one-joined : (forward : Bool) (len : ℕ) (a : Spot) → a .sure ≡ true → nJoined forward len a (stopOf a) ≡ ends (markOf true) (nEndAt forward len a) (nEndAt forward len a)
+unfolding nJoined stopOf
+one-joined true len a e = rw e refl
+one-joined false len a e = rw e refl

@@ -1,6 +1,6 @@
 // Between g. and n. of a transcript that lies on the genome: places, then ends, then intervals.
 ghost use mathlib.Core.Path.{_≡_};
-ghost use mathlib.Core.Bool.{_&&_};
+ghost use mathlib.Core.Bool.{true, _&&_};
 ghost use Prim.Native.Nat.{_≤_};
 ghost use lib.ListN.{getD};
 ghost use Rattle.refusals.specs.Numbers.{mostSegments};
@@ -8,10 +8,11 @@ ghost use Rattle.whole.specs.Whole.{Within};
 ghost use Rattle.numbering.specs.Numbers.{placeOfN};
 ghost use Rattle.segments.specs.Tables.{tables};
 ghost use Rattle.segments.specs.Paper.{Small, spotSaid};
+ghost use Rattle.segments.specs.Places.{stopOf};
 ghost use Rattle.positions.specs.Answers.{gFits, fitting};
 ghost use Rattle.positions.specs.Paper.{paperNAsked, paperNQuestion, paperGEnd, paperNEnd, paperG, paperN};
 ghost use Rattle.places.specs.Mapping.{inside, turned, signed, placeOfG, gToN, gOfEnds, nToG, inBounds};
-ghost use Rattle.places.specs.Aligned.{alignedBy, Aligns, nEndAt, nJoined, gEndAt, gJoined};
+ghost use Rattle.places.specs.Aligned.{alignedBy, Aligns, InSegment, nEndAt, nJoined, gEndAt, gJoined};
 use numbering::Place;
 use positions::GAnswer;
 use positions::NAnswer;
@@ -22,6 +23,7 @@ use positions::fitting::GEnd;
 use positions::fitting::NEnd;
 use refusals::MOST_SEGMENTS;
 use refusals::MOST_STARTS;
+use segments::End;
 use segments::Spot;
 
 // How a transcript lies on the genome, beside its tables: whether its strand is 1, its first start, how many segments it has.
@@ -104,7 +106,7 @@ fn place_of_n(forward: bool, len: u32, base: i32) -> Place
 
 // The n. position of a spot of the transcript: place and offset turned; 17.
 fn n_of_spot(forward: bool, len: u32, s: Spot) -> NEnd
-    requires { ⌜ Small s ⌝ }
+    requires { ⌜ Small 38 s ⌝ }
     ensures { λ r. ⌜ paperNEnd r ≡ nEndAt forward len (spotSaid s) ⌝ }
 {
     let p = turn(forward, len, s.place);
@@ -128,7 +130,7 @@ fn g_of_place(forward: bool, first: u32, p: Place, offset: i32) -> GEnd
 
 // The n. interval of an interval's two spots: on strand -1 start and end change places.
 fn n_answer(forward: bool, len: u32, a: Spot, b: Spot) -> NAnswer
-    requires { ⌜ Small a × Small b ⌝ }
+    requires { ⌜ Small 38 a × Small 38 b ⌝ }
     ensures { λ r. ⌜ paperN r ≡ nJoined forward len (spotSaid a) (spotSaid b) ⌝ }
 {
     let sure = a.sure & b.sure;
@@ -139,6 +141,79 @@ fn n_answer(forward: bool, len: u32, a: Spot, b: Spot) -> NAnswer
     } else {
         fitting::n_marked(sure, fitting::n_both(second, first))
     }
+}
+
+// The n. interval of one place, by its spot as an interval's start: a sure one is the end's too, and is numbered once.
+pub fn n_of_one(forward: bool, len: u32, start: Spot) -> NAnswer
+    requires { ⌜ Small 37 start ⌝ }
+    ensures { λ r. ⌜ paperN r ≡ nJoined forward len (spotSaid start) (stopOf (spotSaid start)) ⌝ }
+{
+    if start.sure {
+        let end = n_of_spot(forward, len, start);
+        return fitting::n_marked(true, fitting::n_both(end, end));
+    }
+    n_answer(forward, len, start, segments::stop_of(start))
+}
+
+// g. to n. of an interval of one base.
+fn one_to_n(
+    at: Alignment,
+    genome: &[u32; MOST_STARTS],
+    transcript: &[u32; MOST_STARTS],
+    letters: &[u8; MOST_SEGMENTS],
+    g: i32,
+    strict: bool,
+) -> NAnswer
+    requires { ⌜ Aligns at (tables (now genome) (now transcript) (now letters)) ⌝ }
+    ensures { λ r. ⌜ paperN r ≡ gToN strict (alignedBy at (tables (now (genome .entry)) (now (transcript .entry)) (now (letters .entry)))) (record { from = g; to = g }) ⌝ }
+{
+    let forward = at.forward;
+    let count = at.count;
+    let p = place_of_g(at.first, g);
+    if is_inside(strict, last(genome, count), p) {
+        let start = segments::genome_to_transcript(
+            genome,
+            transcript,
+            letters,
+            count,
+            p,
+            End::Start,
+            forward,
+        );
+        return n_of_one(forward, last(transcript, count), start);
+    }
+    NAnswer::Refused(refusals::OUTSIDE)
+}
+
+// The same in strict mode, by the number of the segment that holds the base, which is at hand.
+pub fn one_to_n_at(
+    at: Alignment,
+    genome: &[u32; MOST_STARTS],
+    transcript: &[u32; MOST_STARTS],
+    letters: &[u8; MOST_SEGMENTS],
+    number: usize,
+    g: i32,
+) -> NAnswer
+    requires { ⌜ Aligns at (tables (now genome) (now transcript) (now letters)) ⌝ }
+    requires { ⌜ InSegment at (now genome) number g ⌝ }
+    ensures { λ r. ⌜ paperN r ≡ gToN true (alignedBy at (tables (now (genome .entry)) (now (transcript .entry)) (now (letters .entry)))) (record { from = g; to = g }) ⌝ }
+{
+    let forward = at.forward;
+    let count = at.count;
+    let p = place_of_g(at.first, g);
+    if is_inside(true, last(genome, count), p) {
+        let start = segments::map_at(
+            genome,
+            transcript,
+            letters,
+            number,
+            p.0,
+            End::Start,
+            forward,
+        );
+        return n_of_one(forward, last(transcript, count), start);
+    }
+    NAnswer::Refused(refusals::OUTSIDE)
 }
 
 // g. to n.: 14, then 17.
@@ -154,28 +229,40 @@ pub fn to_n(
     requires { ⌜ Aligns at (tables (now genome) (now transcript) (now letters)) ⌝ }
     ensures { λ r. ⌜ paperN r ≡ gToN strict (alignedBy at (tables (now (genome .entry)) (now (transcript .entry)) (now (letters .entry)))) (record { from = from; to = to }) ⌝ }
 {
+    if from == to {
+        return one_to_n(at, genome, transcript, letters, from, strict);
+    }
     let forward = at.forward;
     let count = at.count;
     let p = place_of_g(at.first, from);
     let q = place_of_g(at.first, to);
     if are_inside(strict, last(genome, count), p, q) {
-        let ends = segments::genome_to_transcript(
+        let a = segments::genome_to_transcript(
             genome,
             transcript,
             letters,
             count,
             p,
-            q,
+            End::Start,
             forward,
         );
-        return n_answer(forward, last(transcript, count), ends.start, ends.stop);
+        let b = segments::genome_to_transcript(
+            genome,
+            transcript,
+            letters,
+            count,
+            q,
+            End::Stop,
+            forward,
+        );
+        return n_answer(forward, last(transcript, count), a, b);
     }
     NAnswer::Refused(refusals::OUTSIDE)
 }
 
 // The g. interval of an interval's two spots, with the numbers' own offsets o and u.
 fn g_answer(forward: bool, first: u32, a: Spot, b: Spot, o: i32, u: i32) -> GAnswer
-    requires { ⌜ Small a × Small b ⌝ }
+    requires { ⌜ Small 38 a × Small 38 b ⌝ }
     ensures { λ r. ⌜ paperG r ≡ gJoined forward first (spotSaid a) (spotSaid b) o u ⌝ }
 {
     let sure = a.sure & b.sure;
@@ -184,6 +271,38 @@ fn g_answer(forward: bool, first: u32, a: Spot, b: Spot, o: i32, u: i32) -> GAns
         g_of_place(forward, first, a.place, o),
         g_of_place(forward, first, b.place, u),
     )
+}
+
+// n. to g. of two positions with one number, whose offsets are o and u: its place is looked for once.
+fn g_of_one(
+    at: Alignment,
+    genome: &[u32; MOST_STARTS],
+    transcript: &[u32; MOST_STARTS],
+    letters: &[u8; MOST_SEGMENTS],
+    base: i32,
+    o: i32,
+    u: i32,
+    strict: bool,
+) -> GAnswer
+    requires { ⌜ Aligns at (tables (now genome) (now transcript) (now letters)) ⌝ }
+    ensures { λ r. ⌜ paperG r ≡ fitting gFits (gOfEnds strict (alignedBy at (tables (now (genome .entry)) (now (transcript .entry)) (now (letters .entry)))) (record { base = base; offset = o }) (record { base = base; offset = u })) ⌝ }
+{
+    let forward = at.forward;
+    let count = at.count;
+    let len = last(transcript, count);
+    let p = place_of_n(forward, len, base);
+    if is_inside(strict, len, p) {
+        let start = segments::transcript_to_genome(
+            genome,
+            transcript,
+            letters,
+            count,
+            p,
+            End::Start,
+        );
+        return g_answer(forward, at.first, start, segments::stop_of(start), o, u);
+    }
+    GAnswer::Refused(refusals::OUTSIDE)
 }
 
 // n. to g. of two positions in genomic order.
@@ -199,15 +318,36 @@ fn g_of_ends(
     requires { ⌜ Aligns at (tables (now genome) (now transcript) (now letters)) ⌝ }
     ensures { λ r. ⌜ paperG r ≡ fitting gFits (gOfEnds strict (alignedBy at (tables (now (genome .entry)) (now (transcript .entry)) (now (letters .entry)))) (paperNAsked a) (paperNAsked b)) ⌝ }
 {
+    let x = a.base;
+    let y = b.base;
+    if x == y {
+        return g_of_one(
+            at,
+            genome,
+            transcript,
+            letters,
+            x,
+            a.offset,
+            b.offset,
+            strict,
+        );
+    }
     let forward = at.forward;
-    let first = at.first;
     let count = at.count;
     let len = last(transcript, count);
-    let p = place_of_n(forward, len, a.base);
-    let q = place_of_n(forward, len, b.base);
+    let p = place_of_n(forward, len, x);
+    let q = place_of_n(forward, len, y);
     if are_inside(strict, len, p, q) {
-        let ends = segments::transcript_to_genome(genome, transcript, letters, count, p, q);
-        return g_answer(forward, first, ends.start, ends.stop, a.offset, b.offset);
+        let start = segments::transcript_to_genome(
+            genome,
+            transcript,
+            letters,
+            count,
+            p,
+            End::Start,
+        );
+        let stop = segments::transcript_to_genome(genome, transcript, letters, count, q, End::Stop);
+        return g_answer(forward, at.first, start, stop, a.offset, b.offset);
     }
     GAnswer::Refused(refusals::OUTSIDE)
 }

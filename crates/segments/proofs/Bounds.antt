@@ -15,24 +15,27 @@ negated z = omega (order, dif (pos 0) z, neg z)
 pub fits-36 : {z : ℤ} → Within 36 z → SFits w64 z
 fits-36 w = omega (arith, w .within)
 
-module _ {x : ℕ} (f : Fits w32 x) where
-  pub before-38 : Within 38 (pos x -ℤ pos 1)
-  before-38 = omega (arith, f .fits, mag-dif (pos x) (pos 1))
+pub fits-37 : {z : ℤ} → Within 37 z → SFits w64 z
+fits-37 w = omega (arith, w .within)
 
-  pub entry-38 : Within 38 (pos x)
-  entry-38 = omega (arith, f .fits)
+module _ {x : ℕ} (f : Fits w32 x) where
+  pub before-37 : Within 37 (pos x -ℤ pos 1)
+  before-37 = omega (arith, f .fits, mag-dif (pos x) (pos 1))
+
+  pub entry-37 : Within 37 (pos x)
+  entry-37 = omega (arith, f .fits)
 
 module _ {z : ℤ} (w : Within 37 z) where
-  pub kept-38 : Within 38 z
-  kept-38 = omega (arith, w .within)
-
   pub back-38 : Within 38 (negℤ z)
   back-38 = omega (arith, w .within, rw (negated z) at (mag-dif (pos 0) z))
 
+  pub next-38 : Within 38 (z +ℤ pos 1)
+  next-38 = omega (arith, w .within, mag-sum z (pos 1))
+
 -- a place p, and an entry x: how far p is along a segment that begins at x, one more, and how far it is from one that ends there
 module _ {p : ℤ} {x : ℕ} (w : Within 36 p) (f : Fits w32 x) where
-  pub along-38 : Within 38 (p -ℤ pos x)
-  along-38 = omega (arith, w .within, f .fits, mag-dif p (pos x))
+  pub along-37 : Within 37 (p -ℤ pos x)
+  along-37 = omega (arith, w .within, f .fits, mag-dif p (pos x))
 
   pub left-37 : Within 37 (p -ℤ pos x +ℤ pos 1)
   left-37 = omega (arith, w .within, f .fits, mag-dif p (pos x), mag-sum (p -ℤ pos x) (pos 1))
@@ -40,5 +43,5 @@ module _ {p : ℤ} {x : ℕ} (w : Within 36 p) (f : Fits w32 x) where
   pub right-37 : Within 37 (pos x -ℤ p)
   right-37 = omega (arith, w .within, f .fits, mag-dif (pos x) p)
 
-  pub place-38 : {y : ℕ} → Fits w32 y → Within 38 (pos y +ℤ (p -ℤ pos x))
-  place-38 {y} h = omega (arith, w .within, f .fits, h .fits, mag-dif p (pos x), mag-sum (pos y) (p -ℤ pos x))
+  pub place-37 : {y : ℕ} → Fits w32 y → Within 37 (pos y +ℤ (p -ℤ pos x))
+  place-37 {y} h = omega (arith, w .within, f .fits, h .fits, mag-dif p (pos x), mag-sum (pos y) (p -ℤ pos x))

@@ -20,9 +20,9 @@ endSaid Stop = stop
 abbrev pub spotSaid : code.Spot → Spot
 spotSaid s = record { place = s .place .0; offset = s .offset; sure = s .sure; number = s .number }
 
--- a spot whose numbers leave room for a few sums
-pub record Small (s : code.Spot) : Type 0 where
-  pub place-small : Within 38 (s .place .0)
+-- a spot whose place is below 2 ^ k in size: its numbers leave room for a few sums
+pub record Small (k : ℕ) (s : code.Spot) : Type 0 where
+  pub place-small : Within k (s .place .0)
   pub offset-small : Within 38 (s .offset)
 
 -- the elements that the tables stand for, from the genome to the transcript

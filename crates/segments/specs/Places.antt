@@ -85,6 +85,10 @@ spotIn i skips f h t p end forward = nearer i forward t (p -ℤ pos f +ℤ pos 1
 abbrev pub spotOf : Segment → ℤ → End → Bool → Spot
 spotOf s p end forward = spotIn (s .number) (s .does) (s .begins) (s .ends) (s .other) p end forward
 
+-- the spot of an interval's end, where its start is the same place and has the spot a: the same where it is sure, and otherwise one place further
+unfoldable pub stopOf : Spot → Spot
+stopOf a = if a .sure then a else unsurely (a .number) (a .place +ℤ pos 1)
+
 -- ---- the place p, which begins an interval or ends it
 
 -- by the tables of n segments

@@ -1,16 +1,15 @@
 // The tables of a transcript: the finder, and the mapping of a place, once for both directions.
 // Segment i begins at entry i of the two tables of starts and ends at entry i + 1. A place is a whole number and may lie outside the tables on either side.
 ghost use mathlib.Core.Path.{_≡_};
-ghost use mathlib.Core.Bool.{true, _&&_};
+ghost use mathlib.Core.Bool.{true};
 ghost use Prim.Native.Nat.{_≤_, _<_};
 ghost use lib.IntN.{pos};
 ghost use lib.Signed.{ltZ};
 ghost use Rattle.refusals.specs.Numbers.{mostSegments};
-ghost use Rattle.whole.specs.Whole.{Within, eqZ};
+ghost use Rattle.whole.specs.Whole.{Within};
 ghost use Rattle.cigar.specs.Elements.{kindOf};
 ghost use Rattle.segments.specs.Tables.{tables, segmentsHold, Rising};
-ghost use Rattle.segments.specs.Places.{indexOf, segmentAt, unsurely, beside, leftNearer, nearer, spotIn, spotOf, mapByTables};
-ghost use Rattle.segments.specs.Places.End.{start, stop};
+ghost use Rattle.segments.specs.Places.{indexOf, segmentAt, unsurely, beside, leftNearer, nearer, spotIn, spotOf, stopOf, mapByTables};
 ghost use Rattle.segments.specs.Paper.{endSaid, spotSaid, toTranscript, toGenome, Small};
 use numbering::Place;
 use refusals::MOST_SEGMENTS;
@@ -28,12 +27,6 @@ pub struct Spot {
     pub offset: i64,
     pub sure: bool,
     pub number: usize,
-}
-
-// The spots of an interval's two ends.
-pub struct Spots {
-    pub start: Spot,
-    pub stop: Spot,
 }
 
 // Whether a segment's end is above p.
@@ -92,7 +85,7 @@ fn nearer_edge(number: usize, forward: bool, t: u32, left: i64, right: i64) -> S
     requires { ⌜ Within 37 left ⌝ }
     requires { ⌜ Within 37 right ⌝ }
     ensures said { λ r. ⌜ spotSaid r ≡ nearer number forward t left right ⌝ }
-    ensures small { λ r. ⌜ Small r ⌝ }
+    ensures small { λ r. ⌜ Small 37 r ⌝ }
 {
     let place = t as i64;
     if is_left_nearer(forward, left, right) {
@@ -117,7 +110,7 @@ fn nearer_edge(number: usize, forward: bool, t: u32, left: i64, right: i64) -> S
 // Beside an I or a D at t: t - 1 for an interval's start, t for its end.
 fn beside_at(number: usize, end: End, t: u32) -> Spot
     ensures said { λ r. ⌜ spotSaid r ≡ unsurely number (beside (endSaid end) t) ⌝ }
-    ensures small { λ r. ⌜ Small r ⌝ }
+    ensures small { λ r. ⌜ Small 37 r ⌝ }
 {
     let place = t as i64;
     match end {
@@ -152,7 +145,7 @@ fn spot_in(
 ) -> Spot
     requires { ⌜ Within 36 p ⌝ }
     ensures said { λ r. ⌜ spotSaid r ≡ spotIn number (kindOf letter) f h t p (endSaid end) forward ⌝ }
-    ensures small { λ r. ⌜ Small r ⌝ }
+    ensures small { λ r. ⌜ Small 37 r ⌝ }
 {
     let along = p - (f as i64);
     match letter {
@@ -175,22 +168,8 @@ fn spot_in(
     }
 }
 
-// The number of the segment of the place q, where that of p is at hand: an interval of one place is looked for once.
-fn find_beside(starts: &[u32; MOST_STARTS], count: usize, p: i64, number: usize, q: i64) -> usize
-    requires { ⌜ (1 ≤ count) × (count ≤ mostSegments) ⌝ }
-    requires { ⌜ Rising (now starts) count ⌝ }
-    requires { ⌜ (number < count) × (number ≡ indexOf (now starts) count p) ⌝ }
-    ensures within { λ r. ⌜ r < count ⌝ }
-    ensures found { λ r. ⌜ r ≡ indexOf (now (starts .entry)) count q ⌝ }
-{
-    if q == p {
-        return number;
-    }
-    find(starts, count, q)
-}
-
 // The place p, which begins an interval or ends it, by the segment with this number.
-fn map_at(
+pub fn map_at(
     from: &[u32; MOST_STARTS],
     to: &[u32; MOST_STARTS],
     letters: &[u8; MOST_SEGMENTS],
@@ -202,7 +181,7 @@ fn map_at(
     requires { ⌜ number < mostSegments ⌝ }
     requires { ⌜ Within 36 p ⌝ }
     ensures said { λ r. ⌜ spotSaid r ≡ spotOf (segmentAt (now (from .entry)) (now (to .entry)) (now (letters .entry)) number) p (endSaid end) forward ⌝ }
-    ensures small { λ r. ⌜ Small r ⌝ }
+    ensures small { λ r. ⌜ Small 37 r ⌝ }
 {
     spot_in(
         number,
@@ -216,63 +195,44 @@ fn map_at(
     )
 }
 
-// Whether an interval's ends are one place whose spot is sure: it is then the spot of both.
-fn is_one(p: i64, q: i64, start: Spot) -> bool
-    ensures { λ r. ⌜ r ≡ (eqZ p q && start .sure) ⌝ }
-{
-    if p == q {
-        return start.sure;
-    }
-    false
-}
-
-// The places p and q, which begin and end an interval, from one table to the other.
-fn map_ends(
+// The place p, which begins an interval or ends it, from one table to the other.
+fn map_place(
     from: &[u32; MOST_STARTS],
     to: &[u32; MOST_STARTS],
     letters: &[u8; MOST_SEGMENTS],
     count: usize,
     p: Place,
-    q: Place,
+    end: End,
     forward: bool,
-) -> Spots
+) -> Spot
     requires { ⌜ (1 ≤ count) × (count ≤ mostSegments) ⌝ }
     requires { ⌜ Rising (now from) count ⌝ }
-    requires { ⌜ Within 36 (p .0) × Within 36 (q .0) ⌝ }
-    ensures first { λ r. ⌜ spotSaid (r .start) ≡ mapByTables (now (from .entry)) (now (to .entry)) (now (letters .entry)) count (p .0) start forward ⌝ }
-    ensures second { λ r. ⌜ spotSaid (r .stop) ≡ mapByTables (now (from .entry)) (now (to .entry)) (now (letters .entry)) count (q .0) stop forward ⌝ }
-    ensures small { λ r. ⌜ Small (r .start) × Small (r .stop) ⌝ }
+    requires { ⌜ Within 36 (p .0) ⌝ }
+    ensures said { λ r. ⌜ spotSaid r ≡ mapByTables (now (from .entry)) (now (to .entry)) (now (letters .entry)) count (p .0) (endSaid end) forward ⌝ }
+    ensures small { λ r. ⌜ Small 37 r ⌝ }
 {
-    let y = p.0;
-    let z = q.0;
-    let i = find(from, count, y);
-    let start = map_at(from, to, letters, i, y, End::Start, forward);
-    if is_one(y, z, start) {
-        return Spots { start, stop: start };
-    }
-    let j = find_beside(from, count, y, i, z);
-    let stop = map_at(from, to, letters, j, z, End::Stop, forward);
-    Spots { start, stop }
+    let z = p.0;
+    let number = find(from, count, z);
+    map_at(from, to, letters, number, z, end, forward)
 }
 
-// An interval's ends p and q from the genome to the transcript; forward says whether the strand is 1.
+// From the genome to the transcript; forward says whether the strand is 1.
 pub fn genome_to_transcript(
     genome: &[u32; MOST_STARTS],
     transcript: &[u32; MOST_STARTS],
     letters: &[u8; MOST_SEGMENTS],
     count: usize,
     p: Place,
-    q: Place,
+    end: End,
     forward: bool,
-) -> Spots
+) -> Spot
     requires { ⌜ (1 ≤ count) × (count ≤ mostSegments) ⌝ }
     requires { ⌜ segmentsHold (tables (now genome) (now transcript) (now letters)) count ≡ true ⌝ }
-    requires { ⌜ Within 36 (p .0) × Within 36 (q .0) ⌝ }
-    ensures first { λ r. ⌜ spotSaid (r .start) ≡ toTranscript (tables (now (genome .entry)) (now (transcript .entry)) (now (letters .entry))) count (p .0) start forward ⌝ }
-    ensures second { λ r. ⌜ spotSaid (r .stop) ≡ toTranscript (tables (now (genome .entry)) (now (transcript .entry)) (now (letters .entry))) count (q .0) stop forward ⌝ }
-    ensures small { λ r. ⌜ Small (r .start) × Small (r .stop) ⌝ }
+    requires { ⌜ Within 36 (p .0) ⌝ }
+    ensures said { λ r. ⌜ spotSaid r ≡ toTranscript (tables (now (genome .entry)) (now (transcript .entry)) (now (letters .entry))) count (p .0) (endSaid end) forward ⌝ }
+    ensures small { λ r. ⌜ Small 37 r ⌝ }
 {
-    map_ends(genome, transcript, letters, count, p, q, forward)
+    map_place(genome, transcript, letters, count, p, end, forward)
 }
 
 // From the transcript to the genome, where the strand counts as 1.
@@ -282,14 +242,34 @@ pub fn transcript_to_genome(
     letters: &[u8; MOST_SEGMENTS],
     count: usize,
     p: Place,
-    q: Place,
-) -> Spots
+    end: End,
+) -> Spot
     requires { ⌜ (1 ≤ count) × (count ≤ mostSegments) ⌝ }
     requires { ⌜ segmentsHold (tables (now genome) (now transcript) (now letters)) count ≡ true ⌝ }
-    requires { ⌜ Within 36 (p .0) × Within 36 (q .0) ⌝ }
-    ensures first { λ r. ⌜ spotSaid (r .start) ≡ toGenome (tables (now (genome .entry)) (now (transcript .entry)) (now (letters .entry))) count (p .0) start ⌝ }
-    ensures second { λ r. ⌜ spotSaid (r .stop) ≡ toGenome (tables (now (genome .entry)) (now (transcript .entry)) (now (letters .entry))) count (q .0) stop ⌝ }
-    ensures small { λ r. ⌜ Small (r .start) × Small (r .stop) ⌝ }
+    requires { ⌜ Within 36 (p .0) ⌝ }
+    ensures said { λ r. ⌜ spotSaid r ≡ toGenome (tables (now (genome .entry)) (now (transcript .entry)) (now (letters .entry))) count (p .0) (endSaid end) ⌝ }
+    ensures small { λ r. ⌜ Small 37 r ⌝ }
 {
-    map_ends(transcript, genome, letters, count, p, q, true)
+    map_place(transcript, genome, letters, count, p, end, true)
+}
+
+// The spot of an interval's end, where its start is the same place and has this spot: the place is looked for once.
+pub fn stop_of(start: Spot) -> Spot
+    requires { ⌜ Small 37 start ⌝ }
+    ensures said { λ r. ⌜ spotSaid r ≡ stopOf (spotSaid start) ⌝ }
+    ensures small { λ r. ⌜ Small 38 r ⌝ }
+{
+    if start.sure {
+        start
+    } else {
+        let number = start.number;
+        let place = start.place.0;
+        let next = place + 1;
+        Spot {
+            place: Place(next),
+            offset: 0,
+            sure: false,
+            number,
+        }
+    }
 }

@@ -11,14 +11,11 @@ use Rattle.segments.proofs.genome_to_transcript.Tie as tie
 held : (c : tie.Start) → let a = c .args in Holds (tables (a .genome .now) (a .transcript .now) (a .letters .now)) (a .count)
 held c = holds-means _ _ (c .pre .1 .0)
 
-map-ends-requires : tie.Need-map-ends-requires
-map-ends-requires c κs = (search needs, (held c .genome-rises, search needs))
+map-place-requires : tie.Need-map-place-requires
+map-place-requires c κs = (search needs, (held c .genome-rises, search needs))
 
 returns : tie.Need-returns
-returns c =
-    let e = c .map-ends .ensures in
-    let holds = held (c .before) in
-    (e .0 ∙ by-genome _ _ holds (omega arith) _ _ _, (e .1 .0 ∙ by-genome _ _ holds (omega arith) _ _ _, e .1 .1))
+returns c = (c .map-place .ensures .0 ∙ by-genome _ _ (held (c .before)) (omega arith) _ _ _, c .map-place .ensures .1)
 
 pub genome-to-transcript-spec : {M : Type 1} → statement M
-genome-to-transcript-spec = tie.close (tie.spec map-ends-requires returns)
+genome-to-transcript-spec = tie.close (tie.spec map-place-requires returns)

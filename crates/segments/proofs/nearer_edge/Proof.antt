@@ -1,17 +1,18 @@
 -- The test goes the definition's way, and what the machine reads back from the edge and the distance are the definition's. Assumes nothing.
 use mathlib.Core.Path.{refl, sym, _∙_}
 use borrow.Author.Needs.{needs}
+use native.Mathlib.Omega.{arith}
 use Rattle.whole.specs.laws.Whole.{read, fits-38}
 use Rattle.segments.specs.Places.{nearer}
 use Rattle.whole.specs.laws.Machine.{entry}
-use Rattle.segments.proofs.Bounds.{negated, before-38, entry-38, kept-38, back-38}
+use Rattle.segments.proofs.Bounds.{fits-37, negated, before-37, entry-37, back-38}
 use Rattle.segments.proofs.nearer_edge.Statement.{statement}
 use Rattle.segments.proofs.nearer_edge.Tie as tie
 
 sub-before : tie.Need-sub-before
 sub-before c =
     let t = c .before .before .fits .t in
-    simp (entry t) (fits-38 (before-38 t))
+    simp (entry t) (fits-37 (before-37 t))
 
 sub-back : tie.Need-sub-back
 sub-back c = simp (read (c .before .before .fits .right), negated) (fits-38 (back-38 (c .before .before .pre .1)))
@@ -22,8 +23,8 @@ returns c =
     let a = c .before .before in
     let t = a .fits .t in
     let is-left = simp (read (a .fits .left), read (a .fits .right)) at (sym (c .before .is-left-nearer .ensures) ∙ c .if1 .taken) in
-    simp (entry t, read (fits-38 (before-38 t)), read (a .fits .left), is-left)
-    (refl, record { place-small = before-38 t; offset-small = kept-38 (a .pre .0) })
+    simp (entry t, read (fits-37 (before-37 t)), read (a .fits .left), is-left)
+    (refl, record { place-small = before-37 t; offset-small = omega (arith, a .pre .0 .within) })
 
 returns-2 : tie.Need-returns-2
 unfolding nearer
@@ -33,7 +34,7 @@ returns-2 c =
     let back = back-38 (a .pre .1) in
     let is-right = simp (read (a .fits .left), read (a .fits .right)) at (sym (c .before .is-left-nearer .ensures) ∙ c .if1 .left) in
     simp (entry t, read (a .fits .right), negated, read (fits-38 back), is-right)
-    (refl, record { place-small = entry-38 t; offset-small = back })
+    (refl, record { place-small = entry-37 t; offset-small = back })
 
 pub nearer-edge-spec : {M : Type 1} → statement M
 nearer-edge-spec =

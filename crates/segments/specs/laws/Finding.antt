@@ -6,15 +6,15 @@ use mathlib.Core.Bool.{Bool, true, false, false≢true}
 use mathlib.Core.List.{List, [], _∷_}
 use mathlib.Core.Path.{_≡_, refl, sym, ap, subst, _∙_}
 use lib.Dec.{ltb}
-use lib.IntN.{ℤ, pos}
+use lib.IntN.{ℤ, pos, _+ℤ_, _-ℤ_}
 use lib.ListN.{getD, length}
 use lib.Signed.{ltZ, leZ}
 use borrow.Author.Tests.{ltb-true, ltb-false}
-use Rattle.whole.specs.laws.Whole.{by-test, order}
+use Rattle.whole.specs.laws.Whole.{order, sum, dif, by-test}
 use Rattle.cigar.specs.Elements.{Element, Side, Kind, total}
 use Rattle.cigar.specs.Elements.Kind.{matches, inserts, deletes, skips}
 use Rattle.segments.specs.Tables.{entriesOf}
-use Rattle.segments.specs.Places.{firstBelow, endsAbove, indexOf, Segment, Spot, spotIn, spotOf}
+use Rattle.segments.specs.Places.{firstBelow, endsAbove, indexOf, Segment, unsurely, leftNearer, nearer, spotIn, spotOf, stopOf, mapByTables, mapPlace}
 use Rattle.segments.specs.Places.End.{start, stop}
 use Rattle.segments.specs.laws.Made.{entry-first, entry-total}
 
@@ -129,14 +129,20 @@ inside side es k h = go _ (index-says from (length es) (pos k) (some-elements si
           (λ e. let last : i + 1 ≡ length es = omega (arith, s .below, ltb-false) in rw last (omega (arith, entry-total side es)));
     }
 
--- a spot that is sure is the same for an interval's start and its end
-pub ends-alike : (s : Segment) (p : ℤ) (forward : Bool) → spotOf s p start forward .sure ≡ true → spotOf s p stop forward ≡ spotOf s p start forward
-unfolding spotIn
-ends-alike s p forward h = go (s .does) h
+-- where an interval's ends are one place, its stop's spot follows from its start's
+pub stop-follows : (s : Segment) (p : ℤ) (forward : Bool) → spotOf s p stop forward ≡ stopOf (spotOf s p start forward)
+unfolding spotIn nearer stopOf
+stop-follows s p forward = go (s .does)
   where
-    go : (k : Kind) → spotIn (s .number) k (s .begins) (s .ends) (s .other) p start forward .sure ≡ true
-        → spotIn (s .number) k (s .begins) (s .ends) (s .other) p stop forward ≡ spotIn (s .number) k (s .begins) (s .ends) (s .other) p start forward
-    go matches h = refl
-    go inserts h = absurd (false≢true h)
-    go deletes h = absurd (false≢true h)
-    go skips h = refl
+    go : (k : Kind) → spotIn (s .number) k (s .begins) (s .ends) (s .other) p stop forward ≡ stopOf (spotIn (s .number) k (s .begins) (s .ends) (s .other) p start forward)
+    go matches = refl
+    go inserts = ap (unsurely (s .number)) (omega (order, dif (pos (s .other)) (pos 1), sum (pos (s .other) -ℤ pos 1) (pos 1)))
+    go deletes = ap (unsurely (s .number)) (omega (order, dif (pos (s .other)) (pos 1), sum (pos (s .other) -ℤ pos 1) (pos 1)))
+    go skips =
+        let left = p -ℤ pos (s .begins) +ℤ pos 1 in
+        let right = pos (s .ends) -ℤ p in
+        by-test (leftNearer forward left right) (λ e. rw e refl) (λ e. rw e refl)
+
+pub stop-of-place : (from to : Side) (es : List Element) (p : ℤ) (forward : Bool) → mapPlace from to es p stop forward ≡ stopOf (mapPlace from to es p start forward)
+unfolding mapPlace mapByTables
+stop-of-place from to es p forward = stop-follows _ p forward
