@@ -17,7 +17,7 @@ use Rattle.segments.specs.laws.Meaning.{all-at}
 use Rattle.segments.specs.laws.Finding.{index-says, index-rises}
 use Rattle.layout.specs.Layout.{refusal}
 use Rattle.worklist.specs.Worklist.{Track, placeOn, within, segmentOf, wider, largest, segmentOr0, stepsAfter, risesAt, neverFalls}
-use Rattle.worklist.specs.Walking.{nextIndex, Ready, Found}
+use Rattle.worklist.specs.Walking.{nextIndex, Ready}
 use Rattle.worklist.specs.declared.Slot.{Slot}
 
 -- what stands past a list's end, where nothing looks
@@ -105,8 +105,5 @@ module _ (gs : List ℤ) (sorted : neverFalls gs ≡ true) where
       walk-next = rw (add-one i) (index-next r (largest r gs i) (placeOn r g) (top-below i i (omega arith) l))
 
       -- and that is the segment of slot i
-      pub walk-found : Found r (stepsAfter r gs (i + 1)) g
-      walk-found = record {
-        here = λ e. sym walk-next ∙ ap (λ (t : Bool). if t then segmentOf r (placeOn r g) else stepsAfter r gs i) e;
-        on = index-on r some-segment gs (i + 1);
-      }
+      pub walk-here : within r (placeOn r g) ≡ true → stepsAfter r gs (i + 1) ≡ segmentOf r (placeOn r g)
+      walk-here e = sym walk-next ∙ ap (λ (t : Bool). if t then segmentOf r (placeOn r g) else stepsAfter r gs i) e

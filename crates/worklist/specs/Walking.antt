@@ -27,11 +27,6 @@ pub record Ready (r : Track) (index : ℕ) (g : ℤ) : Type 0 where
   pub before : within r (placeOn r g) ≡ true → index ≤ segmentOf r (placeOn r g)
   pub on : index < r .count
 
--- the walk stands on the segment of a position that it is to answer
-pub record Found (r : Track) (index : ℕ) (g : ℤ) : Type 0 where
-  pub here : within r (placeOn r g) ≡ true → index ≡ segmentOf r (placeOn r g)
-  pub on : index < r .count
-
 -- a slot with the answer of the transcript that it is asked of
 abbrev pub answeredBy : Transcript → Slot → Slot
 answeredBy t s = record { position = s .position; answer = laid nLaid (gToN true t (record { from = s .position; to = s .position })) }

@@ -6,9 +6,9 @@ ghost use Prim.Native.Nat.{_≤_};
 ghost use Rattle.refusals.specs.Numbers.{mostSegments};
 ghost use Rattle.refusals.specs.Outcome.{Outcome.answered};
 ghost use Rattle.segments.specs.Tables.{tables};
-ghost use Rattle.places.specs.Aligned.{alignedBy, Aligns};
+ghost use Rattle.places.specs.Aligned.{alignedBy, Aligns, InSegment};
 ghost use Rattle.worklist.specs.Worklist.{positionsOf, neverFalls, stepsOf, stepsLaid};
-ghost use Rattle.worklist.specs.Walking.{trackBy, nextIndex, Ready, Found, answeredBy};
+ghost use Rattle.worklist.specs.Walking.{trackBy, nextIndex, Ready, answeredBy};
 use crate::Slot;
 use crate::Steps;
 use layout::lay;
@@ -38,11 +38,11 @@ fn answer_slot<'a>(
     index: usize,
     s: Slot,
 ) -> Slot
-    requires { ⌜ Aligns at (tables (now genome) (now transcript) (now letters)) × Found (trackBy at (now genome)) index (s .position) ⌝ }
+    requires { ⌜ Aligns at (tables (now genome) (now transcript) (now letters)) × InSegment at (now genome) index (s .position) ⌝ }
     ensures { λ r. ⌜ r ≡ answeredBy (alignedBy at (tables (now (genome .entry)) (now (transcript .entry)) (now (letters .entry)))) s ⌝ }
 {
     let position = s.position;
-    let n = places::to_n(at, genome, transcript, letters, position, position, true);
+    let n = places::one_to_n_at(at, genome, transcript, letters, index, position);
     let answer = lay::lay_n(n);
     Slot { position, answer }
 }

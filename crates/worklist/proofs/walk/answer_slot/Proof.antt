@@ -9,7 +9,7 @@ returns : tie.Need-returns
 returns c =
     let s = c .before .before .before in
     let g = told w32 (s .args .s .position) (c .before .before .struct-told .given .0 .1) in
-    simp (c .lay-n .ensures, c .before .to-n .ensures, g)
+    simp (c .lay-n .ensures, c .before .one-to-n-at .ensures, g)
 
 pub answer-slot-spec : {M : Type 1} → statement M
 answer-slot-spec = tie.close (tie.spec (λ c κs. search needs) (λ c κs. search needs) returns)

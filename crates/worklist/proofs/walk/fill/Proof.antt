@@ -53,16 +53,16 @@ use denote.Triple.Walked.{says, needs, Stays, stay-slice, stay-none, stay-none-r
 use Rattle.refusals.specs.Outcome.{answered}
 use Rattle.segments.specs.Tables.{tables as tables-of}
 use Rattle.transcript.specs.Transcript.{Transcript}
-use Rattle.places.specs.Aligned.{alignedBy, Aligns}
+use Rattle.places.specs.Aligned.{alignedBy, Aligns, InSegment}
 use Rattle.places.specs.declared.Alignment.{Alignment}
 use Rattle.places.proofs.Alignment as Al
 use Rattle.places.proofs.Alignment.Laws as Al′
 use Rattle.worklist.specs.declared.Slot.{Slot}
 use Rattle.worklist.specs.declared.Steps.{Steps}
 use Rattle.worklist.specs.Worklist.{Track, positionsOf, neverFalls, stepsAfter, stepsOf, stepsLaid}
-use Rattle.worklist.specs.Walking.{trackBy, nextIndex, Ready, Found, answeredBy}
+use Rattle.worklist.specs.Walking.{trackBy, nextIndex, Ready, answeredBy}
 use Rattle.worklist.proofs.Front.{front, front-at, front-length, front-set, front-all}
-use Rattle.worklist.proofs.Along.{none, only, walk-ready, walk-next, walk-found, index-on, index-begins}
+use Rattle.worklist.proofs.Along.{none, only, walk-ready, walk-next, walk-here, index-on, index-begins}
 use Rattle.worklist.proofs.Slot as T
 use Rattle.worklist.proofs.Slot.Laws as T′
 use Rattle.worklist.proofs.Steps as S
@@ -228,8 +228,8 @@ module _ {M : Type 1} (𝓤 : URA M) (H : Heap 𝓤) (A : Atoms 𝓤) (W : Given
     next-is : nextIndex track (idx i) (here .position) ≡ idx (i + 1)
     next-is = subst (λ (g : ℤ). nextIndex track (idx i) g ≡ idx (i + 1)) at-here (walk-next gs sorted track (sound .count-from) i l′)
 
-    stands : Found track (idx (i + 1)) (here .position)
-    stands = subst (λ (g : ℤ). Found track (idx (i + 1)) g) at-here (walk-found gs sorted track (sound .count-from) i l′)
+    stands : InSegment al (now p) (idx (i + 1)) (here .position)
+    stands = subst (λ (g : ℤ). InSegment al (now p) (idx (i + 1)) g) at-here (record { on = index-on track (sound .count-from) gs (i + 1); here = walk-here gs sorted track (sound .count-from) i l′ })
 
     -- the step
     abbrev passed₁ : Vals step.signature (κ′, tt)
