@@ -1,14 +1,16 @@
--- What is known where n. to c. or c. to n. answers: there is no mark, and c. to n. crossed both numbers over to ones that 16 does not refuse. Assumes nothing.
+-- What is known where n. to c. or c. to n. answers: there is no mark, c. to n. crossed both numbers over to ones that 16 does not refuse, and strict n. to c. gives no c.0. Assumes nothing.
 use Prim.Native.Nat.{ℕ}
 use mathlib.Core.Bool.{Bool, true, false}
 use mathlib.Core.Path.{_≡_, sym, ap, subst}
-use lib.IntN.{pos}
+use lib.IntN.{ℤ, pos}
+use lib.Signed.{leZ, ltZ}
 use Rattle.refusals.specs.Numbers.{nOutside}
 use Rattle.refusals.specs.Outcome.{answered, refused}
 use Rattle.refusals.specs.laws.Outcomes.{clash, same}
 use Rattle.whole.specs.Whole.{if_then_else_}
-use Rattle.whole.specs.laws.Whole.{by-test}
-use Rattle.numbering.specs.Numbers.{nOfC}
+use Rattle.whole.specs.laws.Whole.{by-test, neither, order}
+use Rattle.numbering.specs.Numbers.{cOfN, nOfC}
+use Rattle.numbering.specs.laws.Zero.{never-zero}
 use Rattle.positions.specs.Positions.{Interval, each, NAsked, CAsked, NPosition, CPosition}
 use Rattle.positions.specs.Answers.{unmarked, Marked, plainly, nFits, cFits}
 use Rattle.positions.specs.laws.Ends.{ends-answered, fitting-is}
@@ -53,3 +55,22 @@ module _ (strict : Bool) (len : ℕ) where
       go : (t : Bool) → (if t then refused nOutside else plainly (each (cPosition s e) i)) ≡ answered a → a .mark ≡ unmarked
       go true k = absurd (clash k)
       go false k = sym (ap (λ (x : Marked CPosition). x .mark) (same k))
+
+-- 15 refuses n.0, and no other number gives c.0
+module _ (len s e : ℕ) where
+  not-zero : (n : ℤ) → beyond true len n ≡ false → cOfN (pos s) (pos e) n .0 ≡ pos 0 → ⊥
+  unfolding beyond
+  not-zero n h = let (low, _) = neither (leZ n (pos 0)) (ltZ (pos len) n) h in never-zero (pos s) (pos e) n (omega order) (λ z. omega order)
+
+  pub strict-never-zero : (i : Interval NAsked) (a : Marked CPosition) → nToC true len (cds s e) i ≡ answered a → (a .interval .from .base .0 ≡ pos 0 → ⊥) × (a .interval .to .base .0 ≡ pos 0 → ⊥)
+  unfolding nToC cOfInterval cPosition
+  strict-never-zero i a h =
+      by-test (refuses15 true len i)
+      (λ t. absurd (clash (rw t at there)))
+      (λ t.
+      let (from, to) = neither (beyond true len (i .from .base)) (beyond true len (i .to .base)) t in
+      let is = same (rw t at there) in
+      rw (← is) (not-zero (i .from .base) from, not-zero (i .to .base) to))
+    where
+      there : cOfInterval true len (cds s e) i ≡ answered a
+      there = fitting-is cFits (cOfInterval true len (cds s e) i) a h
