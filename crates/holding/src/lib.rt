@@ -75,7 +75,7 @@ fn totals_hold(first: u32, genome: u32, transcript: u32) -> bool
     ((first as u64) + (genome as u64) <= (MOST_BASES as u64)) & (transcript <= MOST_BASES)
 }
 
-// Whether a transcript built from records holds together.
+// Whether a transcript built from records holds together. The segments are looked at first: an entry that is at hand before that is woven into it at a cost.
 fn records_hold(
     head: Head,
     genome: &[u32; MOST_STARTS],
@@ -87,9 +87,9 @@ fn records_hold(
     if head_holds(head) {
         let first = first_start(head);
         let count = segment_count(head);
+        let segments = together::segments_hold(genome, transcript, letters, count);
         let totals = totals_hold(first, genome[count], transcript[count]);
         let cds = cds_holds(head, transcript[count]);
-        let segments = together::segments_hold(genome, transcript, letters, count);
         segments & totals & cds
     } else {
         false

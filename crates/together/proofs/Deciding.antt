@@ -12,7 +12,7 @@ use Rattle.whole.specs.laws.Whole.{by-test, both, both-of}
 use Rattle.cigar.specs.Elements.{isLetter, kindOf, letterD, letterEqual, letterI, letterM, letterN, letterX}
 use Rattle.segments.specs.Tables.{Tables, stepsOf, allBelow, knownAt, rightAt, segmentsHold, Holds}
 use Rattle.segments.specs.laws.Meaning.{all-at, all-of, rising, holds-means, holds-where}
-use Rattle.together.specs.Steps.{wrapped, low, same, lowSteps, isCommon, commonSame, commonLow, sameAt, lowAt, commonAt, commonSameAt, commonLowAt, begin, lowEnds}
+use Rattle.together.specs.Steps.{wrapped, low, same, lowSteps, isCommon, commonSame, commonLow, sameAt, lowAt, commonAt, commonSameAt, commonLowAt, begin, LowEnds}
 use Rattle.together.proofs.All.{equal-where}
 use Rattle.together.proofs.OneStep.{masked}
 
@@ -163,11 +163,7 @@ module _ (a : Tables) (n : ℕ) where
   unfolding begin
   begin-of p q = both-of (eq-eqb (g 0) 0 p) (eq-eqb (t 0) 0 q)
 
-  module _ (ends : lowEnds (a .genome) (a .transcript) n ≡ true) where
-    ends-are : (g n < 2 ^ 31) × (t n < 2 ^ 31)
-    unfolding lowEnds
-    ends-are = let (p, q) = both (low (g n)) (low (t n)) ends in (low-says _ p, low-says _ q)
-
+  module _ (ends : LowEnds (a .genome) (a .transcript) n) where
     pub decided : (begin (a .genome) (a .transcript) && (allBelow (knownAt (a .letters)) n && (allBelow (sameAt a) n && allBelow (lowAt a) n))) ≡ segmentsHold a n
     decided = equal-where _ _ seen-holds holds-seen
       where
@@ -182,7 +178,8 @@ module _ (a : Tables) (n : ℕ) where
         holds-seen : segmentsHold a n ≡ true → (begin (a .genome) (a .transcript) && (allBelow (knownAt (a .letters)) n && (allBelow (sameAt a) n && allBelow (lowAt a) n))) ≡ true
         holds-seen h =
             let x = holds-means a n h in
-            let (g-end, t-end) = ends-are in
+            let g-end = ends .genome-low in
+            let t-end = ends .transcript-low in
             both-of (begin-of (x .genome-from-0) (x .transcript-from-0))
             (both-of (all-of _ n (x .letters)) (both-of (all-of _ n (same-seen x g-end t-end)) (all-of _ n (low-seen x g-end t-end))))
 

@@ -1,14 +1,14 @@
 -- One segment's steps, computed with differences that wrap. Assumes nothing.
-use Prim.Native.Nat.{ℕ, _+_, _-_, _%_, _^_, _≤_, _<_}
+use Prim.Native.Nat.{ℕ, _+_, _%_, _^_, _<_}
 use native.Mathlib.Omega.{arith}
-use mathlib.Core.Bool.{Bool, true, false, cond, _&&_, _||_}
-use mathlib.Core.Path.{_≡_, refl, sym, ap₂}
+use mathlib.Core.Bool.{cond, _&&_, _||_}
+use mathlib.Core.Path.{_≡_, sym}
 use lib.Bits.{bitOr, or-add-and, and-le-l, and-le-r, or-lt}
 use lib.Dec.{leb, ltb, eqb}
 use borrow.Author.Tests.{leb-true, leb-false, ltb-true, lt-ltb, eqb-true, eqb-false, eq-eqb, ne-eqb}
 use Rattle.whole.specs.laws.Whole.{by-test, both, both-of}
 use Rattle.cigar.specs.Elements.{kindOf, letterD, letterI, letterN}
-use Rattle.segments.specs.Tables.{stepsOf, stepRight}
+use Rattle.segments.specs.Tables.{stepsOf}
 use Rattle.together.specs.Steps.{wrapped, low}
 use Rattle.together.proofs.All.{equal-where}
 
@@ -18,10 +18,6 @@ eqb-sym a b =
     by-test (eqb a b)
     (λ e. rw (e, eq-eqb b a (sym (eqb-true a b e))))
     (λ e. rw (e, ne-eqb b a (λ q. eqb-false a b e (sym q))))
-
--- a difference that wraps is the difference, where that is not negative
-unwrapped : (a b d : ℕ) → a < 2 ^ 32 → d < 2 ^ 32 → (d + b) % 2 ^ 32 ≡ a → b ≤ a → d ≡ a - b
-unwrapped a b d a< d< e b≤a = omega arith
 
 -- the code's one test, of what is left of each step where the letter does not advance the other side, is `stepsOf`
 pub masked : (c dg dt : ℕ) → eqb (cond (eqb c letterI || eqb c letterN) 0 dg) (cond (eqb c letterD) 0 dt) ≡ stepsOf (kindOf c) dg dt
@@ -53,16 +49,3 @@ low-or a b =
     (λ h. let l = ltb-true (bitOr a b) (2 ^ 31) h in
     both-of (lt-ltb a (2 ^ 31) (omega (arith, or-add-and a b, and-le-r a b, l))) (lt-ltb b (2 ^ 31) (omega (arith, or-add-and a b, and-le-l a b, l))))
     (λ h. let (p, q) = both (ltb a (2 ^ 31)) (ltb b (2 ^ 31)) h in lt-ltb (bitOr a b) (2 ^ 31) (or-lt 31 a b (ltb-true a (2 ^ 31) p) (ltb-true b (2 ^ 31) q)))
-
--- the differences may wrap, beside the tests that they are not negative
-module _ (c g₀ g₁ t₀ t₁ dg dt : ℕ) (g< : g₁ < 2 ^ 32) (t< : t₁ < 2 ^ 32) (dg< : dg < 2 ^ 32) (dt< : dt < 2 ^ 32) (eg : (dg + g₀) % 2 ^ 32 ≡ g₁) (et : (dt + t₀) % 2 ^ 32 ≡ t₁) where
-  pub right-wrapped : (leb g₀ g₁ && leb t₀ t₁ && eqb (cond (eqb c letterI || eqb c letterN) 0 dg) (cond (eqb c letterD) 0 dt)) ≡ stepRight c g₀ g₁ t₀ t₁
-  unfolding stepRight
-  right-wrapped = rw (masked c dg dt) (go (leb g₀ g₁) (leb t₀ t₁) refl refl)
-    where
-      go : (a b : Bool) → leb g₀ g₁ ≡ a → leb t₀ t₁ ≡ b → (a && b && stepsOf (kindOf c) dg dt) ≡ (a && b && stepsOf (kindOf c) (g₁ - g₀) (t₁ - t₀))
-      go false false p q = refl
-      go false true p q = refl
-      go true false p q = refl
-      go true true p q =
-          ap₂ (stepsOf (kindOf c)) (unwrapped g₁ g₀ dg g< dg< eg (leb-true g₀ g₁ p)) (unwrapped t₁ t₀ dt t< dt< et (leb-true t₀ t₁ q))

@@ -1,5 +1,5 @@
 -- A segment's steps as the machine takes them: differences that may wrap, and the bit that no length has. Assumes nothing.
-use Prim.Native.Nat.{ℕ, _+_, _-_, _^_}
+use Prim.Native.Nat.{ℕ, _+_, _-_, _^_, _<_}
 use mathlib.Core.Bool.{Bool, cond, _&&_, _||_}
 use mathlib.Core.List.{List}
 use lib.Dec.{eqb, leb, ltb}
@@ -68,5 +68,6 @@ unfoldable pub begin : List ℕ → List ℕ → Bool
 begin genome transcript = eqb (getD genome 0 0) 0 && eqb (getD transcript 0 0) 0
 
 -- neither last entry is high
-unfoldable pub lowEnds : List ℕ → List ℕ → ℕ → Bool
-lowEnds genome transcript n = low (getD genome n 0) && low (getD transcript n 0)
+pub record LowEnds (genome transcript : List ℕ) (n : ℕ) : Type 0 where
+  pub genome-low : getD genome n 0 < 2 ^ 31
+  pub transcript-low : getD transcript n 0 < 2 ^ 31

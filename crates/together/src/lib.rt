@@ -7,8 +7,8 @@ ghost use Prim.Native.Nat.{_≤_};
 ghost use lib.Dec.{leb};
 ghost use Rattle.refusals.specs.Numbers.{mostSegments};
 ghost use Rattle.cigar.specs.Elements.{isLetter};
-ghost use Rattle.segments.specs.Tables.{tables, stepRight, allBelow, knownAt, rightAt, segmentsHold};
-ghost use Rattle.together.specs.Steps.{low, same, lowSteps, isCommon, commonSame, commonLow, sameAt, lowAt, commonAt, commonSameAt, commonLowAt, from, begin, lowEnds};
+ghost use Rattle.segments.specs.Tables.{tables, allBelow, knownAt, segmentsHold};
+ghost use Rattle.together.specs.Steps.{low, same, lowSteps, isCommon, commonSame, commonLow, sameAt, lowAt, commonAt, commonSameAt, commonLowAt, from, begin, LowEnds};
 use refusals::MOST_SEGMENTS;
 use refusals::MOST_STARTS;
 
@@ -64,43 +64,6 @@ fn all_known(letters: &[u8; MOST_SEGMENTS], count: usize) -> bool
     let mut i = 0;
     while i < count {
         ok = ok & is_known(letters[i]);
-        i += 1;
-    }
-    ok
-}
-
-// Whether one segment's steps are its letter's, whatever the numbers.
-fn is_right(letter: u8, g0: u32, g1: u32, t0: u32, t1: u32) -> bool
-    ensures { λ r. ⌜ r ≡ stepRight letter g0 g1 t0 t1 ⌝ }
-{
-    let dg = std::num::wrapping_sub_u32(g1, g0);
-    let dt = std::num::wrapping_sub_u32(t1, t0);
-    let along = unless((letter == b'I') | (letter == b'N'), dg);
-    let across = unless(letter == b'D', dt);
-    (g0 <= g1) & (t0 <= t1) & (along == across)
-}
-
-// Whether the first count segments' steps are right.
-fn all_right(
-    genome: &[u32; MOST_STARTS],
-    transcript: &[u32; MOST_STARTS],
-    letters: &[u8; MOST_SEGMENTS],
-    count: usize,
-) -> bool
-    requires { ⌜ count ≤ mostSegments ⌝ }
-    ensures { λ r. ⌜ r ≡ allBelow (rightAt (tables (now (genome .entry)) (now (transcript .entry)) (now (letters .entry)))) count ⌝ }
-{
-    let mut ok = true;
-    let mut i = 0;
-    while i < count {
-        ok = ok
-            & is_right(
-                letters[i],
-                genome[i],
-                genome[i + 1],
-                transcript[i],
-                transcript[i + 1],
-            );
         i += 1;
     }
     ok
@@ -273,15 +236,7 @@ fn is_fine(seen: Seen) -> bool
     seen.same & (seen.bits < HIGH)
 }
 
-// Whether neither last entry is high.
-fn ends_low(genome: &[u32; MOST_STARTS], transcript: &[u32; MOST_STARTS], count: usize) -> bool
-    requires { ⌜ count ≤ mostSegments ⌝ }
-    ensures { λ r. ⌜ r ≡ lowEnds (now (genome .entry)) (now (transcript .entry)) count ⌝ }
-{
-    (genome[count] < HIGH) & (transcript[count] < HIGH)
-}
-
-// Whether count segments hold together.
+// Whether count segments hold together, where no table goes as far as the highest bit: the caller has longer ones refused in any case.
 pub fn segments_hold(
     genome: &[u32; MOST_STARTS],
     transcript: &[u32; MOST_STARTS],
@@ -289,18 +244,13 @@ pub fn segments_hold(
     count: usize,
 ) -> bool
     requires { ⌜ count ≤ mostSegments ⌝ }
-    ensures { λ r. ⌜ r ≡ segmentsHold (tables (now (genome .entry)) (now (transcript .entry)) (now (letters .entry))) count ⌝ }
+    ensures { λ r. ⌜ (LowEnds (now (genome .entry)) (now (transcript .entry)) count → r ≡ segmentsHold (tables (now (genome .entry)) (now (transcript .entry)) (now (letters .entry))) count) ⌝ }
 {
-    if ends_low(genome, transcript, count) {
-        if all_common(letters, count) {
-            let fine = is_fine(common_steps(genome, transcript, letters, count));
-            return begins(genome, transcript) & fine;
-        }
-        let known = all_known(letters, count);
-        let fine = is_fine(steps(genome, transcript, letters, count));
-        return begins(genome, transcript) & (known & fine);
+    if all_common(letters, count) {
+        let fine = is_fine(common_steps(genome, transcript, letters, count));
+        return begins(genome, transcript) & fine;
     }
     let known = all_known(letters, count);
-    let right = all_right(genome, transcript, letters, count);
-    begins(genome, transcript) & (known & right)
+    let fine = is_fine(steps(genome, transcript, letters, count));
+    begins(genome, transcript) & (known & fine)
 }
