@@ -64,7 +64,7 @@ use Rattle.worklist.specs.declared.Slot.{Slot}
 use Rattle.worklist.specs.declared.Steps.{Steps}
 use Rattle.worklist.specs.Worklist.{positionsOf, neverFalls, stepsOf, listed, stepsLaid, slotsAfter}
 use Rattle.worklist.specs.Walking.{trackBy, answeredBy, whyNot}
-use Rattle.worklist.proofs.Along.{only}
+use Rattle.worklist.proofs.Values.{only}
 use Rattle.worklist.proofs.Judging.{is-true, is-false, go-means, why-small, walked-steps, walked-slots, refused-steps, refused-slots}
 use Rattle.worklist.proofs.Slot as T
 use Rattle.worklist.proofs.Slot.Laws as T′

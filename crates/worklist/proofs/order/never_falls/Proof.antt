@@ -53,7 +53,7 @@ use Rattle.segments.specs.Tables.{allBelow}
 use Rattle.segments.specs.laws.Gathering.{all-none, all-more}
 use Rattle.worklist.specs.declared.Slot.{Slot}
 use Rattle.worklist.specs.Worklist.{positionsOf, risesAt, neverFalls}
-use Rattle.worklist.proofs.Along.{none, only}
+use Rattle.worklist.proofs.Values.{none, only}
 use Rattle.worklist.proofs.Slot as T
 use Rattle.worklist.proofs.Slot.Laws as T′
 use Rattle.worklist.proofs.order.goes_on as goes-on

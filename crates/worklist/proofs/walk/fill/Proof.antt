@@ -62,7 +62,8 @@ use Rattle.worklist.specs.declared.Steps.{Steps}
 use Rattle.worklist.specs.Worklist.{Track, positionsOf, neverFalls, stepsAfter, stepsOf, stepsLaid}
 use Rattle.worklist.specs.Walking.{trackBy, nextIndex, Ready, answeredBy}
 use Rattle.worklist.proofs.Front.{front, front-at, front-length, front-set, front-all}
-use Rattle.worklist.proofs.Along.{none, only, walk-ready, walk-next, walk-here, index-on, index-begins}
+use Rattle.worklist.specs.laws.Along.{walk-ready, walk-next, walk-here, index-on, index-begins}
+use Rattle.worklist.proofs.Values.{none, only}
 use Rattle.worklist.proofs.Slot as T
 use Rattle.worklist.proofs.Slot.Laws as T′
 use Rattle.worklist.proofs.Steps as S

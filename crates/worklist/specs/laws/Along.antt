@@ -3,31 +3,19 @@ use Prim.Native.Nat.{ℕ, zero, suc, _+_, _-_, _≤_, _<_}
 use native.Mathlib.Omega.{arith}
 use native.Mathlib.Numerals.{add-one}
 use mathlib.Core.Bool.{Bool, true, false}
-use mathlib.Core.List.{List, [], _∷_}
+use mathlib.Core.List.{List}
 use mathlib.Core.Option.{Option, none as no-place, some}
 use mathlib.Core.Path.{_≡_, refl, sym, ap, _∙_}
 use lib.IntN.{ℤ, pos, _-ℤ_}
 use lib.ListN.{getD, length}
 use lib.Signed.{ltZ, leZ}
-use mir.Val.{Val, vunit}
 use Rattle.whole.specs.Whole.{if_then_else_}
 use Rattle.whole.specs.laws.Whole.{by-test, order, dif}
 use Rattle.segments.specs.Tables.{allBelow}
 use Rattle.segments.specs.laws.Meaning.{all-at}
 use Rattle.segments.specs.laws.Finding.{index-says, index-rises}
-use Rattle.layout.specs.Layout.{refusal}
 use Rattle.worklist.specs.Worklist.{Track, placeOn, within, segmentOf, wider, largest, segmentOr0, stepsAfter, risesAt, neverFalls}
 use Rattle.worklist.specs.Walking.{nextIndex, Ready}
-use Rattle.worklist.specs.declared.Slot.{Slot}
-
--- what stands past a list's end, where nothing looks
-abbrev pub none : Slot
-none = record { position = pos 0; answer = refusal 0 }
-
--- the one machine value in a list
-abbrev pub only : List Val → Val
-only [] = vunit
-only (v ∷ vs) = v
 
 -- ---- the largest place so far
 
@@ -107,3 +95,11 @@ module _ (gs : List ℤ) (sorted : neverFalls gs ≡ true) where
       -- and that is the segment of slot i
       pub walk-here : within r (placeOn r g) ≡ true → stepsAfter r gs (i + 1) ≡ segmentOf r (placeOn r g)
       walk-here e = sym walk-next ∙ ap (λ (t : Bool). if t then segmentOf r (placeOn r g) else stepsAfter r gs i) e
+
+      -- and it never steps back
+      pub never-back : stepsAfter r gs i ≤ stepsAfter r gs (i + 1)
+      never-back = by-test (within r (placeOn r g)) (λ e. rw (walk-here e) (walk-ready .before e)) (λ e. rw (← walk-next, e) (omega arith))
+
+      -- where the place lies outside, it stays
+      pub walk-stays : within r (placeOn r g) ≡ false → stepsAfter r gs (i + 1) ≡ stepsAfter r gs i
+      walk-stays e = sym walk-next ∙ ap (λ (t : Bool). if t then segmentOf r (placeOn r g) else stepsAfter r gs i) e
