@@ -25,9 +25,10 @@ use Rattle.positions.specs.Positions.{Interval, NAsked, CAsked, NPosition, CPos
 use Rattle.positions.specs.Answers.{Mark, unmarked, markOf, Answer, ends, chain, nFits, gFits, fitting}
 use Rattle.positions.specs.laws.Fits.{fits-by}
 use Rattle.coding.specs.Coding.{beyond, cPosition, cOfInterval, nToC, nPosition, cToN}
-use Rattle.places.specs.Mapping.{inside, turned, signed, earlier, later, placeOfG, nOfSpot, wholeN, gToN, gOfSpot, gOfEnds, nToG}
+use Rattle.places.specs.Mapping.{turned, signed, earlier, later, placeOfG, nOfSpot, wholeN, gToN, gOfSpot, gOfEnds, nToG}
 use Rattle.mapper.specs.Chains.{gToC, cToG}
-use Rattle.promises.proofs.Turns.{inside-within, inside-means, beyond-means, either, turned-within, across, across-within, n-of-place}
+use Rattle.promises.specs.Demands.{BaseOf}
+use Rattle.promises.proofs.Turns.{inside-within, beyond-means, place-of-base, answered-on-bases, either, turned-within, across, across-within, n-of-place}
 use Rattle.promises.proofs.Shifts.{c-stays, place-goes-up, n-goes-up, turn-there, turn-back}
 
 -- a change of two is a change of the chosen one
@@ -135,20 +136,19 @@ module _ (forward : Bool) (first : ℕ) (xs ys zs : List Element) (s e : ℕ) wh
     place-long : (g : ℤ) → placeOfG first g ≡ pos (total genome xs) +ℤ placeOfG (short .first) g
     place-long g = omega (order, dif g (pos 1), dif (g -ℤ pos 1) (pos first), dif (g -ℤ pos 1) (pos (short .first)), sum (pos (total genome xs)) (placeOfG (short .first) g))
 
-    -- a place on the shorter's elements
-    abbrev On : ℤ → Type 0
-    On z = (p : ℕ) × (z ≡ pos p) × (p < genomeLength short)
-
-    places-kept : (i : Interval ℤ) → On (placeOfG (short .first) (i .from)) → On (placeOfG (short .first) (i .to)) → Answered (gToC true short i) → gToC true long i ≡ gToC true short i
+    -- on bases of the shorter
+    bases-kept : (i : Interval ℤ) → BaseOf short (i .from) → BaseOf short (i .to) → Answered (gToC true short i) → gToC true long i ≡ gToC true short i
     unfolding gToC gToN wholeN
-    places-kept i (p, e, p-in) (q, u, q-in) =
+    bases-kept i (p, from, p-in) (q, to, q-in) =
         let a = mapPlace genome transcript ys (pos p) start forward in
         let b = mapPlace genome transcript ys (pos q) stop forward in
+        let at-p : placeOfG (short .first) (i .from) ≡ pos p = rw from (place-of-base (short .first) p) in
+        let at-q : placeOfG (short .first) (i .to) ≡ pos q = rw to (place-of-base (short .first) q) in
         rw (
           place-long (i .from),
           place-long (i .to),
-          e,
-          u,
+          at-p,
+          at-q,
           inside-within (genomeLength short) p p-in,
           inside-within (genomeLength short) q q-in,
           inside-within (genomeLength long) (total genome xs + p) (omega (arith, long-genome)),
@@ -158,16 +158,8 @@ module _ (forward : Bool) (first : ℕ) (xs ys zs : List Element) (s e : ℕ) wh
         )
         (spots-kept a b (markOf (a .sure && b .sure)))
 
-    -- what 14 does not refuse lies there
     pub g-to-c-kept : (i : Interval ℤ) → Answered (gToC true short i) → gToC true long i ≡ gToC true short i
-    unfolding gToC gToN wholeN
-    g-to-c-kept i =
-        let span = genomeLength short in
-        let z = placeOfG (short .first) (i .from) in
-        let w = placeOfG (short .first) (i .to) in
-        by-test (inside true span z && inside true span w)
-        (λ t. let (z-in, w-in) = both (inside true span z) (inside true span w) t in places-kept i (inside-means span z z-in) (inside-means span w w-in))
-        (λ t. rw t (λ bad. absurd bad))
+    g-to-c-kept i ok = let (from, to) = answered-on-bases short i ok in bases-kept i from to ok
 
     -- ---- c. to g.
 

@@ -1,16 +1,21 @@
--- The turn of strand -1, the strict bounds, and n. numbers of places that are not negative. Assumes nothing.
+-- The turn of strand -1, the strict bounds and what has a strict answer, and n. numbers of places that are not negative. Assumes nothing.
 use Prim.Native.Nat.{ℕ, zero, suc, _+_, _-_, _<_}
 use native.Mathlib.Omega.{arith}
-use mathlib.Core.Bool.{Bool, true, false, cond, false≢true}
+use mathlib.Core.Bool.{Bool, true, false, cond, _&&_, false≢true}
 use mathlib.Core.Path.{_≡_, refl, ap}
 use lib.Dec.{leb·zero}
 use lib.IntN.{ℤ, pos, negsuc, negℤ-negℤ, _-ℤ_}
 use lib.Signed.{leZ, ltZ}
 use borrow.Author.Tests.{lt-ltb}
-use Rattle.whole.specs.laws.Whole.{both, neither, order, dif}
+use Rattle.refusals.specs.Outcome.{Answered}
+use Rattle.whole.specs.laws.Whole.{by-test, both, neither, order, dif}
 use Rattle.numbering.specs.Numbers.{nOfPlace}
+use Rattle.transcript.specs.Transcript.{Transcript, genomeLength}
+use Rattle.positions.specs.Positions.{Interval}
 use Rattle.coding.specs.Coding.{beyond}
-use Rattle.places.specs.Mapping.{inside, turned, signed, placeOfG}
+use Rattle.places.specs.Mapping.{inside, turned, signed, placeOfG, wholeN, gToN}
+use Rattle.mapper.specs.Chains.{gToC}
+use Rattle.promises.specs.Demands.{BaseOf}
 
 pub turn-turn : (forward : Bool) (len : ℕ) (z : ℤ) → turned forward len (turned forward len z) ≡ z
 unfolding turned
@@ -60,6 +65,20 @@ n-of-place p = rw (leb·zero p)
 
 pub place-of-base : (first p : ℕ) → placeOfG first (pos (p + first + 1)) ≡ pos p
 place-of-base first p = omega (order, dif (pos (p + first + 1)) (pos 1), dif (pos (p + first + 1) -ℤ pos 1) (pos first))
+
+-- a g. interval that has a strict c. answer has bases of the span as its ends: 14 refuses all else
+pub answered-on-bases : (t : Transcript) (i : Interval ℤ) → Answered (gToC true t i) → BaseOf t (i .from) × BaseOf t (i .to)
+unfolding gToC gToN wholeN
+answered-on-bases t i =
+    let span = genomeLength t in
+    let z = placeOfG (t .first) (i .from) in
+    let w = placeOfG (t .first) (i .to) in
+    by-test (inside true span z && inside true span w)
+    (λ e ok. let (z-in, w-in) = both (inside true span z) (inside true span w) e in (base (i .from) (inside-means span z z-in), base (i .to) (inside-means span w w-in)))
+    (λ e. rw e (λ bad. absurd bad))
+  where
+    base : (g : ℤ) → (p : ℕ) × (placeOfG (t .first) g ≡ pos p) × (p < genomeLength t) → BaseOf t g
+    base g (p, is, p-in) = (p, omega (order, dif g (pos 1), dif (g -ℤ pos 1) (pos (t .first))), p-in)
 
 pub same-either : {A : Type 0} (forward : Bool) (a : A) → cond forward a a ≡ a
 same-either true a = refl
