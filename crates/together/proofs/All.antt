@@ -1,7 +1,7 @@
 -- A flag that a loop gathers from a number on, and two stretches that overlap. Assumes nothing.
 use Prim.Native.Nat.{ℕ, _+_, _≤_, _<_}
 use native.Mathlib.Omega.{arith}
-use mathlib.Core.Bool.{Bool, true, false, _&&_, _||_}
+use mathlib.Core.Bool.{Bool, true, false, _&&_, _||_, false≢true}
 use mathlib.Core.Path.{_≡_, refl, sym, _∙_}
 use lib.Dec.{ltb}
 use borrow.Author.Tests.{lt-ltb, le-ltb, ltb-true, ltb-false}
@@ -45,3 +45,17 @@ stretched f mid first n meet within = equal-where _ _ joined split
 
     split : allBelow f n ≡ true → (allBelow (from 0 f) mid && allBelow (from first f) n) ≡ true
     split h = both-of (all-of (from 0 f) mid (λ i l. rw (all-at f n h i (omega arith)) (either (ltb i 0)))) (all-of (from first f) n (λ i l. rw (all-at f n h i l) (either (ltb i first))))
+
+-- where the later one passes, the earlier decides; where it does not, nothing more need be seen
+module _ (f : ℕ → Bool) (mid first n : ℕ) (meet : first ≤ mid) (within : mid ≤ n) where
+  pub later-passes : allBelow (from first f) n ≡ true → allBelow (from 0 f) mid ≡ allBelow f n
+  later-passes e =
+      equal-where _ _
+      (λ h. sym (stretched f mid first n meet within) ∙ both-of h e)
+      (λ h. both (allBelow (from 0 f) mid) (allBelow (from first f) n) (stretched f mid first n meet within ∙ h) .0)
+
+  pub later-fails : allBelow (from first f) n ≡ false → false ≡ allBelow f n
+  later-fails e =
+      equal-where false _
+      (λ h. absurd (false≢true h))
+      (λ h. sym e ∙ both (allBelow (from 0 f) mid) (allBelow (from first f) n) (stretched f mid first n meet within ∙ h) .1)

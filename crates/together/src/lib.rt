@@ -183,7 +183,7 @@ fn both_seen(a: Seen, b: Seen) -> Seen
 }
 
 // Whether there are 8 letters at least and all are common. The compiler makes straight code of whole blocks, so the last block overlaps the others; from 8 to 15
-// letters two blocks of 8 do.
+// letters two blocks of 8 do. The last block comes first: where it has another letter, which most tables with one show, the others need no look.
 fn all_common(letters: &[u8; MOST_SEGMENTS], count: usize) -> bool
     requires { ⌜ count ≤ mostSegments ⌝ }
     ensures { λ r. ⌜ r ≡ (leb 8 count && allBelow (commonAt (now (letters .entry))) count) ⌝ }
@@ -196,9 +196,10 @@ fn all_common(letters: &[u8; MOST_SEGMENTS], count: usize) -> bool
         let back = common_in(letters, count - 8, count);
         return front & back;
     }
-    let front = common_in(letters, 0, count - count % 16);
-    let back = common_in(letters, count - 16, count);
-    front & back
+    if common_in(letters, count - 16, count) {
+        return common_in(letters, 0, count - count % 16);
+    }
+    false
 }
 
 // What all segments show, whose letters are common: whole blocks of 8 and an overlapping last one.

@@ -1,10 +1,11 @@
 -- Two stretches that overlap make one (`stretched`), for the two lengths of a block alike. Assumes nothing.
 use native.Mathlib.Omega.{arith}
 use mathlib.Core.Bool.{_&&_}
-use mathlib.Core.Path.{_≡_, ap₂, _∙_}
+use Prim.Native.Nat.{_-_, _%_}
+use mathlib.Core.Path.{_≡_, sym, ap₂, _∙_}
 use borrow.Author.Needs.{needs}
 use borrow.Author.Tests.{le-leb, lt-leb}
-use Rattle.together.proofs.All.{stretched}
+use Rattle.together.proofs.All.{stretched, later-passes, later-fails}
 use Rattle.together.proofs.all_common.Statement.{statement}
 use Rattle.together.proofs.all_common.Tie as tie
 
@@ -14,8 +15,18 @@ returns c = rw (lt-leb 8 _ (c .if1 .taken))
 returns-2 : tie.Need-returns-2
 returns-2 c = rw (le-leb 8 (c .before .before .before .before .args .count) (omega arith)) (ap₂ _&&_ (c .before .common-in .ensures) (c .common-in2 .ensures) ∙ stretched _ _ _ _ (omega arith) (omega arith))
 
+-- the last block decides whether the others are looked at
 returns-3 : tie.Need-returns-3
-returns-3 c = rw (le-leb 8 (c .before .before .before .before .args .count) (omega arith)) (ap₂ _&&_ (c .before .common-in3 .ensures) (c .common-in4 .ensures) ∙ stretched _ _ _ _ (omega arith) (omega arith))
+returns-3 c =
+    let back = sym (c .before .before .common-in3 .ensures) ∙ c .before .if3 .taken in
+    rw (le-leb 8 (c .before .before .before .before .before .args .count) (omega arith))
+    (c .common-in4 .ensures ∙ later-passes _ _ _ _ (omega arith) (omega arith) back)
+
+returns-4 : tie.Need-returns-4
+returns-4 c =
+    let n = c .before .before .before .before .args .count in
+    rw (le-leb 8 n (omega arith))
+    (later-fails _ (n - n % 16) (n - 16) n (omega arith) (omega arith) (sym (c .before .common-in3 .ensures) ∙ c .if3 .left))
 
 pub all-common-spec : {M : Type 1} → statement M
 all-common-spec =
@@ -25,7 +36,8 @@ all-common-spec =
     (λ c κs. search needs)
     (λ c κs. search needs)
     returns-2
+    (λ c κs. search needs)
     (λ c. search needs)
     (λ c κs. search needs)
-    (λ c κs. search needs)
-    returns-3)
+    returns-3
+    returns-4)
