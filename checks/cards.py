@@ -1,7 +1,7 @@
 #!/usr/bin/env python3
 """Makes the cards that the programs `listing` and `listings` run on, and what they must write.
 
-Everything here is computed from document 01's rules, with nothing of the Rattle code: a card is packed, read and built in Python, and
+Everything here is computed from the documents' rules, with nothing of the Rattle code: a card is packed, read and built in Python, and
 the listing is made from that. Without arguments the files are written; with `--check` they are compared, and a difference is an error.
 
     crates/listing/stdin, stdout     transcript A
@@ -103,7 +103,9 @@ def build(strand, start, end, records):
         if before:
             refuse_if(len(segments) == MOST_SEGMENTS, 3)
             segments.append(('N', this[0] - before[1]))
-        segments += elements(this[5], len(segments))[::strand]
+        own = elements(this[5], len(segments))
+        refuse_if(sum(along(*element)[0] for element in own) != this[1] - this[0], 32)
+        segments += own[::strand]
         before = this
     refuse_if(not segments, 10)
     genome = sum(along(letter, count)[0] for letter, count in segments)
@@ -141,18 +143,32 @@ B = card(1, 3, 15, [record(10, 20, 8, 18, 1, b'10M'), record(25, 33, 0, 8, 0, b'
 A_LISTED = 'TXC + 3 23 18\nM 0 0 10\nN 10 10 5\nM 15 10 8\n'
 
 
+def length(cigar):
+    """How far a CIGAR goes along the genome, and 0 where it can't be read."""
+    try:
+        return sum(along(*element)[0] for element in elements(cigar, 0))
+    except Refused:
+        return 0
+
+
 def single(cigar, start=None, end=None, strand=0, at=0):
-    return card(strand, start, end, [record(at, at, 0, 0, 0, cigar)])
+    return card(strand, start, end, [record(at, at + length(cigar), 0, 0, 0, cigar)])
 
 
 def chain(count, cigar):
     """That many touching records on strand 1."""
-    return [record(i, i + 1, i, i + 1, i, cigar) for i in range(count)]
+    n = length(cigar)
+    return [record(n * i, n * i + n, i, i + 1, i, cigar) for i in range(count)]
+
+
+def bounded(alt_start, alt_end, cigar, *others, strand=0, start=None, end=None):
+    """A record of genome bounds and a CIGAR, and others after it."""
+    return card(strand, start, end, [record(alt_start, alt_end, 0, 0, 0, cigar), *others])
 
 
 def largest():
     """A card of 65,536 bytes with 512 records and 2,048 segments, whose counts have leading zeros."""
-    left, room, records = MOST_SEGMENTS - (MOST_RECORDS - 1), LARGEST_CARD - 17 - 22 * MOST_RECORDS, []
+    left, room, records, at = MOST_SEGMENTS - (MOST_RECORDS - 1), LARGEST_CARD - 17 - 22 * MOST_RECORDS, [], 0
     for i in range(MOST_RECORDS):
         number, size = left // (MOST_RECORDS - i), room // (MOST_RECORDS - i)
         cigar, taken = b'', 0
@@ -160,8 +176,8 @@ def largest():
             width = (size - taken) // (number - k)
             cigar += b'%0*d%c' % (width - 1, 1000 * i + k, b'=DIMNX'[(i + k) % 6])
             taken += width
-        records.append(record(2000 * i, 2000 * i + 1000, 3 * (511 - i), 3 * (512 - i), -i, cigar))
-        left, room = left - number, room - size
+        records.append(record(at, at + length(cigar), 3 * (511 - i), 3 * (512 - i), -i, cigar))
+        left, room, at = left - number, room - size, at + length(cigar) + 1000
     return card(1, 0, 100000, records)
 
 
@@ -175,7 +191,7 @@ CARDS = [
     # every letter, counts left out, 0 and with leading zeros; two empty records; one empty segment
     single(b'M0X3=2I4D007N', at=100),
     single(b'M0X3=2I4D007N', at=100, strand=1),
-    card(0, None, None, [record(5, 5, 0, 0, -7, b''), record(5, 7, 0, 0, 3, b'')]),
+    card(0, None, None, [record(5, 5, 0, 0, -7, b''), record(7, 7, 0, 0, 3, b'')]),
     single(b'0M'),
     single(b'2000000000M'),
     single(b'1999999993M', at=7),
@@ -190,7 +206,7 @@ CARDS = [
     card(0, None, None, chain(513, b'')),
     single(b'S' * 4097),
     single(b'M' * 2049),
-    card(0, None, None, [record(0, 1, 0, 1, 0, b'M' * 2048), record(1, 2, 1, 2, 1, b'S')]),
+    card(0, None, None, [record(0, 2048, 0, 1, 0, b'M' * 2048), record(2048, 2049, 1, 2, 1, b'S')]),
     # 4: a bound below 0, an end below its start, a start below the previous end
     card(0, None, None, [record(-1, 0, 0, 0, 0, b'M')]),
     card(0, None, None, [record(1, 0, 0, 0, 0, b'M')]),
@@ -223,6 +239,30 @@ CARDS = [
     single(b'5M', start=-1, end=0),
     single(b'5M', start=3, end=2),
     single(b'5M', start=0, end=6),
+    # 32: too short and too long; by the transcript's length alone; by a length of 2^32 on no base; of a later record, on strand -1 too
+    bounded(10, 33, b'20M'),
+    bounded(10, 33, b'24M'),
+    bounded(10, 20, b'7M3D'),
+    bounded(0, 0, b'2147483647M2147483647M2M'),
+    bounded(0, 5, b'5M', record(8, 12, 0, 0, 1, b'3M')),
+    card(1, None, None, [record(0, 5, 0, 0, 1, b'5M'), record(8, 12, 0, 0, 0, b'3M')]),
+    # and not: the I and the N of a record count, and a D does not
+    bounded(10, 20, b'2M3I4D4N1M'),
+    # after the record's own 3, 7 and 8, and before the next record's
+    bounded(0, 5, b'S' * 4097),
+    bounded(0, 5, b'M' * 2049),
+    bounded(0, 5, b'4MS'),
+    bounded(0, 5, b'4M2147483648M'),
+    bounded(0, 5, b'4M', record(5, 6, 0, 0, 1, b'S' * 4097)),
+    bounded(0, 5, b'M' * 2048, record(5, 6, 0, 0, 1, b'')),
+    bounded(0, 5, b'4M', record(5, 6, 0, 0, 1, b'S')),
+    # before 10, 9 and 12, and after 6 and 11
+    bounded(0, 5, b''),
+    bounded(2000000001, 2000000006, b'4M'),
+    bounded(0, 5, b'4M2000000000D'),
+    bounded(0, 5, b'4M', start=0, end=6),
+    bounded(0, 5, b'4M', record(5, 6, 1, 1, 1, b'M')),
+    bounded(0, 5, b'4M', start=0),
     # 21: under 5 bytes, a wrong mark before a wrong version, cut short, a strand byte, a CDS byte, a number that is not given, a byte too many
     b'',
     b'TXC\1',

@@ -6,14 +6,17 @@ cd "$(dirname "$0")/.."
 host/install.sh
 cd host
 command -v cargo >/dev/null || PATH="$HOME/.cargo/bin:$PATH"
+programs=target/release
+emulator=
+[ "$(uname -m)" = x86_64 ] || . ./elsewhere.sh
 cargo build --release --quiet --package pulindraxi-cli
 
 card=$(mktemp)
 trap 'rm -f "$card"' EXIT
-target/release/pulindraxi card demo/a.txt --output "$card"
+$emulator $programs/pulindraxi card demo/a.txt --output "$card"
 echo "transcript A:"
-target/release/pulindraxi list "$card"
+$emulator $programs/pulindraxi list "$card"
 echo "its places:"
-target/release/pulindraxi map "$card" <demo/places.txt
+$emulator $programs/pulindraxi map "$card" <demo/places.txt
 echo "and with lenient bounds:"
-echo g 10 | target/release/pulindraxi map --lenient "$card"
+echo g 10 | $emulator $programs/pulindraxi map --lenient "$card"

@@ -75,7 +75,7 @@ refusals! {
     12 BadCds "not 0 <= start <= end <= transcript length"
     13 NotCoding "c. asked, no CDS"
     14 Outside "strict: place outside the from-table"
-    15 NOutside "strict n. to c.: start number <= 0, or end number above the length"
+    15 NOutside "strict n. to c.: number <= 0 or above the length"
     16 COutside "strict c. to n.: number <= 0 or above the length"
     17 TooWide "a result number doesn't fit 32 signed bits"
     18 NoGenome "g. asked of a length-only transcript"
@@ -86,6 +86,7 @@ refusals! {
     23 NotTogether "a transcript that doesn't hold together"
     30 NoOperation "a BAM word whose operation is none of M, I, D, N, = and X"
     31 NoWord "in writing BAM words, a count below 0 or above 268,435,455"
+    32 NotSpanning "a CIGAR whose genome length differs from its bounds"
 }
 
 impl Refusal {
@@ -111,9 +112,9 @@ mod tests {
     use super::*;
 
     #[test]
-    fn document_01_has_1_to_23_and_ask_1_has_30_and_31() {
+    fn document_01_has_1_to_23_and_document_02_goes_on_from_30() {
         let numbers: Vec<_> = Refusal::NAMED.iter().map(|refusal| refusal.number()).collect();
-        assert!(numbers.is_sorted() && numbers.starts_with(&(1..=23).chain([30, 31]).collect::<Vec<_>>()));
+        assert!(numbers.is_sorted() && numbers.starts_with(&(1..=23).chain(30..=32).collect::<Vec<_>>()));
     }
 
     #[test]

@@ -47,7 +47,7 @@ fn p1_to_p9_on_a() {
         ("g.23", "n.10+3", "c.7+3"),
         ("g.24", "n.11-2", "c.8-2"),
         ("g.33", "n.18", "c.*3"),
-        ("g.34", "n.19", "15"),
+        ("g.34", "14", "14"),
         ("g.35", "14", "14"),
         ("g.10", "14", "14"),
     ] {
@@ -90,6 +90,62 @@ fn p12_and_p13_are_uncertain() {
 }
 
 #[test]
+fn at_and_behind_both_ends_of_either_strand() {
+    for strand in [1, -1] {
+        let room = transcript(strand);
+        let n_to_g = |n: &str, bounds| said(room.n_to_g(n.parse().unwrap(), bounds));
+        let n_to_c = |n: &str, bounds| said(room.n_to_c(n.parse().unwrap(), bounds));
+        for g in ["g.34", "g.10", "g.11_34", "g.34_11", "g.10_33", "g.33_10"] {
+            assert_eq!(g_to_n(&room, g, Bounds::Strict), "14", "{g}");
+            assert_eq!(g_to_c(&room, g, Bounds::Strict), "14", "{g}");
+        }
+        for n in ["n.19", "n.-1", "n.1_19", "n.19_1", "n.-1_18", "n.18_-1"] {
+            assert_eq!(n_to_g(n, Bounds::Strict), "14", "{n}");
+            assert_eq!(n_to_c(n, Bounds::Strict), "15", "{n}");
+        }
+        assert_eq!(n_to_c("n.1_0", Bounds::Strict), "15");
+        assert_eq!(n_to_g("n.1_18", Bounds::Strict), "g.11_33");
+        assert_eq!(n_to_c("n.18_1", Bounds::Strict), "c.*3_-3");
+        // Lenient mappings number what lies outside.
+        let [before, after] = if strand == 1 { ["g.10", "g.34"] } else { ["g.34", "g.10"] };
+        assert_eq!([n_to_g("n.-1", Bounds::Lenient), n_to_g("n.19", Bounds::Lenient)], [before, after]);
+        assert_eq!([g_to_n(&room, before, Bounds::Lenient), g_to_n(&room, after, Bounds::Lenient)], ["n.-1", "n.19"]);
+        assert_eq!(n_to_c("n.19_-1", Bounds::Lenient), "c.*4_-4");
+    }
+}
+
+#[test]
+fn a_number_beside_the_last_base_has_no_c() {
+    let exons = [Exon { alt_start_i: 0, alt_end_i: 6, tx_start_i: 0, tx_end_i: 4, ord: 0, cigar: b"4M2I" }];
+    let room = Transcript::build(&Input { strand: 1, cds_start: Some(0), cds_end: Some(4), exons: &exons }).unwrap();
+    assert_eq!(g_to_n(&room, "g.5", Bounds::Strict), "n.(4_5)");
+    assert_eq!(g_to_c(&room, "g.5", Bounds::Strict), "15");
+}
+
+#[test]
+fn a_cigar_spans_its_bounds() {
+    let exon = |alt: [i32; 2], ord, cigar| Exon {
+        alt_start_i: alt[0],
+        alt_end_i: alt[1],
+        tx_start_i: 0,
+        tx_end_i: 0,
+        ord,
+        cigar,
+    };
+    let build = |exons: &[Exon<'_>]| {
+        Transcript::build(&Input { strand: 1, cds_start: None, cds_end: None, exons }).err().map_or(0, Refusal::number)
+    };
+    assert_eq!(build(&[exon([10, 14], 0, b"4M")]), 0);
+    for (end, cigar) in [(17, &b"4M"[..]), (13, b"4M"), (14, b"4M2I"), (16, b"4M2D"), (11, b"")] {
+        assert_eq!(build(&[exon([10, end], 0, cigar)]), 32);
+    }
+    // After the record's own elements, before the next record.
+    assert_eq!(build(&[exon([10, 17], 0, b"4MS")]), 7);
+    assert_eq!(build(&[exon([10, 17], 0, b"4M"), exon([20, 21], 1, b"S")]), 32);
+    assert_eq!(build(&[exon([10, 10], 0, b"2147483647M2147483647M2M")]), 32);
+}
+
+#[test]
 fn p14_and_p15() {
     let elements = cigar::read(b"M0X3=").unwrap();
     assert_eq!(elements, [Element::new(1, b'M'), Element::new(0, b'X'), Element::new(3, b'=')]);
@@ -102,8 +158,16 @@ fn p14_and_p15() {
 fn questions_of_yes_and_no() {
     let a = transcript(1);
     assert_eq!(a.is_coding(), Ok(true));
-    assert_eq!(a.is_in_bounds("g.11_34".parse().unwrap()), Ok(true));
-    assert_eq!(a.is_in_bounds("g.10_33".parse().unwrap()), Ok(false));
+    for (g, is_in) in [
+        ("g.11_33", true),
+        ("g.33_11", true),
+        ("g.11_34", false),
+        ("g.34_11", false),
+        ("g.10_33", false),
+        ("g.33_10", false),
+    ] {
+        assert_eq!(a.is_in_bounds(g.parse().unwrap()), Ok(is_in), "{g}");
+    }
     assert_eq!(a.is_in_bounds("g.?_33".parse().unwrap()), Err(Refusal::MissingEnd));
     assert_eq!(alone(0, 1, 1, b"M").is_coding(), Ok(false));
 }

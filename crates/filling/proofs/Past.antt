@@ -5,19 +5,20 @@ use mathlib.Core.List.{List, [], _∷_, _++_}
 use Prim.Native.Nat.{ℕ, _+_, _-_, _<_}
 use native.Mathlib.Omega.{arith}
 use lib.ListN.{length}
-use Rattle.refusals.specs.Outcome.{answered, refused}
+use Rattle.refusals.specs.Outcome.{answered, refused, andThen}
 use Rattle.cigar.specs.Elements.{Element}
 use Rattle.cigar.specs.Text.{Reading, elementsIn}
 use Rattle.records.specs.Records.{Record, nextAt, recordAt, recordsFrom}
 use Rattle.records.specs.laws.Walk.{records-one, records-none}
 use Rattle.transcript.specs.Building.{partsOf, elementsAfter, elementsOf}
-use Rattle.reading.specs.Reading.{Exons, followedBy, genomeEndOf, between, readFirst, readNext, exonsAfter, exonsOf}
+use Rattle.reading.specs.Reading.{Exons, exonOf, spanned, genomeEndOf, between, readFirst, readNext, exonsAfter, exonsOf}
 use Rattle.reading.specs.Tallies.{nothing, sumsOf, oneOn, sumsOn, tallied, talliedAfter, talliedAll}
 use Rattle.segments.specs.Tables.{Tables}
 use Rattle.filling.specs.Filling.{fill, ordered, nextElements, elementsPast, elementsAll, SmallSums, SmallTally}
 use Rattle.reading.specs.declared.Sums.{Sums}
 use Rattle.reading.specs.declared.Tally.the-variants as tally
 use Rattle.reading.specs.laws.Texts.{on-one}
+use Rattle.reading.specs.laws.Spans.{beforeAll, ahead, followed, spanned-own, tallied-own}
 use Rattle.reading.specs.laws.Tallied.{either-strand}
 use Rattle.filling.proofs.Fills.{sums-reverse, fill-append}
 use Rattle.filling.proofs.Taken.{never, ends-at}
@@ -45,27 +46,36 @@ module _ (forward : Bool) (s : List ℕ) (k at : ℕ) (some : 0 < k) (p : Record
   abbrev others : Exons
   others = exonsAfter (to .count) (recordsFrom (k - 1) s (nextAt s at))
 
-  module _ (told : tallied (oneOn from (between p here)) (readNext (from .count) here) ≡ tally.Sums to) where
+  module _ (told : tallied (oneOn from (between p here)) (spanned here (readNext (from .count) here)) ≡ tally.Sums to) where
+    -- its own reading passed 32
+    pub next-told : tallied (oneOn from (between p here)) (readNext (from .count) here) ≡ tally.Sums to
+    next-told = tallied-own here (oneOn from (between p here)) (readNext (from .count) here) told
+
     -- its gap and its elements go where its tally does
     pub next-ends : to ≡ sumsOn from (nextElements forward (from .count) p here)
     next-ends =
         let es = elementsIn (readNext (from .count) here) in
-        ends-at (oneOn from (between p here)) to (readNext (from .count) here) told
+        ends-at (oneOn from (between p here)) to (readNext (from .count) here) next-told
         ∙ sym (on-one from (between p here) (ordered forward es) ∙ ordered-sums forward (oneOn from (between p here)) es)
+
+    abbrev after : ℕ → Exons
+    after n = exonsAfter (from .count + 1 + n) (recordsFrom (k - 1) s (nextAt s at))
 
     -- the elements that are left are its own and those of the others
     pub past-one : SmallTally (talliedAfter (genomeEndOf here) to others)
         → elementsPast forward (genomeEndOf p) (exonsAfter (from .count) (recordsFrom k s at)) ≡ nextElements forward (from .count) p here ++ elementsPast forward (genomeEndOf here) others
     unfolding exonsAfter elementsAfter partsOf
-    past-one small = rw (records-one k s at some) (go (readNext (from .count) here) told)
+    past-one small =
+        rw (records-one k s at some, followed here (readNext (from .count) here) after, spanned-own here (oneOn from (between p here)) (readNext (from .count) here) told)
+        (go (readNext (from .count) here) next-told)
       where
         join : (es : List Element) (x : Exons) → SmallTally (talliedAfter (genomeEndOf here) to x)
-            → elementsPast forward (genomeEndOf p) (followedBy here (answered es) (λ i. x)) ≡ (between p here ∷ ordered forward es) ++ elementsPast forward (genomeEndOf here) x
+            → elementsPast forward (genomeEndOf p) (beforeAll (exonOf here es) x) ≡ (between p here ∷ ordered forward es) ++ elementsPast forward (genomeEndOf here) x
         join es (answered xs) h = refl
         join es (refused i) h = absurd h
 
         go : (r : Reading) → tallied (oneOn from (between p here)) r ≡ tally.Sums to
-            → elementsPast forward (genomeEndOf p) (followedBy here r (λ i. exonsAfter (from .count + 1 + i) (recordsFrom (k - 1) s (nextAt s at))))
+            → elementsPast forward (genomeEndOf p) (andThen r (ahead here after))
             ≡ (between p here ∷ ordered forward (elementsIn r)) ++ elementsPast forward (genomeEndOf here) others
         go (answered es) e =
             let is : sumsOn (oneOn from (between p here)) es ≡ to = cc in
@@ -80,27 +90,35 @@ past-none forward e n k s at h = rw (records-none k s at h)
 
 -- ---- the first record, and those after it
 
-module _ (forward : Bool) (s : List ℕ) (k at : ℕ) (some : 0 < k) {to : Sums} (told : tallied nothing (readFirst (recordAt s at)) ≡ tally.Sums to) where
+module _ (forward : Bool) (s : List ℕ) (k at : ℕ) (some : 0 < k) {to : Sums} (told : tallied nothing (spanned (recordAt s at) (readFirst (recordAt s at))) ≡ tally.Sums to) where
+  pub first-told : tallied nothing (readFirst (recordAt s at)) ≡ tally.Sums to
+  first-told = tallied-own (recordAt s at) nothing (readFirst (recordAt s at)) told
+
   pub first-ends : to ≡ sumsOn nothing (ordered forward (elementsIn (readFirst (recordAt s at))))
   first-ends =
       let r = readFirst (recordAt s at) in
-      ends-at nothing to r told ∙ sym (ordered-sums forward nothing (elementsIn r))
+      ends-at nothing to r first-told ∙ sym (ordered-sums forward nothing (elementsIn r))
 
   abbrev after-first : Exons
   after-first = exonsAfter (to .count) (recordsFrom (k - 1) s (nextAt s at))
 
+  abbrev following : ℕ → Exons
+  following n = exonsAfter n (recordsFrom (k - 1) s (nextAt s at))
+
   pub all-one : SmallTally (talliedAfter (genomeEndOf (recordAt s at)) to after-first)
       → elementsAll forward (exonsOf (recordsFrom k s at)) ≡ ordered forward (elementsIn (readFirst (recordAt s at))) ++ elementsPast forward (genomeEndOf (recordAt s at)) after-first
   unfolding exonsOf elementsOf partsOf
-  all-one small = rw (records-one k s at some) (go (readFirst (recordAt s at)) told)
+  all-one small =
+      let r = recordAt s at in
+      rw (records-one k s at some, followed r (readFirst r) following, spanned-own r nothing (readFirst r) told) (go (readFirst r) first-told)
     where
       join : (es : List Element) (x : Exons) → SmallTally (talliedAfter (genomeEndOf (recordAt s at)) to x)
-          → elementsAll forward (followedBy (recordAt s at) (answered es) (λ i. x)) ≡ ordered forward es ++ elementsPast forward (genomeEndOf (recordAt s at)) x
+          → elementsAll forward (beforeAll (exonOf (recordAt s at) es) x) ≡ ordered forward es ++ elementsPast forward (genomeEndOf (recordAt s at)) x
       join es (answered xs) h = refl
       join es (refused i) h = absurd h
 
       go : (r : Reading) → tallied nothing r ≡ tally.Sums to
-          → elementsAll forward (followedBy (recordAt s at) r (λ i. exonsAfter i (recordsFrom (k - 1) s (nextAt s at))))
+          → elementsAll forward (andThen r (ahead (recordAt s at) following))
           ≡ ordered forward (elementsIn r) ++ elementsPast forward (genomeEndOf (recordAt s at)) after-first
       go (answered es) e =
           let is : sumsOn nothing es ≡ to = cc in

@@ -20,7 +20,7 @@ use Rattle.reading.specs.Reading.{readFirst, readNext}
 use Rattle.reading.specs.Tallies.{nothing, oneOn, sumsOn, tallied}
 use Rattle.reading.specs.declared.Sums.{Sums}
 use Rattle.reading.specs.declared.Tally.the-variants as tally
-use Rattle.reading.specs.laws.Sizes.{first-large, first-read, next-large, next-full, next-read}
+use Rattle.reading.specs.laws.Sizes.{cigar-is, first-large, first-read, next-large, next-full, next-read}
 use Rattle.reading.specs.laws.Texts.{tally-element, tally-full, tally-refused}
 
 -- a refusal is no sums
@@ -78,7 +78,7 @@ module _ (s : List ℕ) (at : ℕ) (stands : Stands s at) where
   first-accepted e =
       by-test (ltb mostText (nextAt s at - (at + cigarText)))
       (λ q. absurd (unread nothing _ e (first-large s at stands (ltb-true mostText (nextAt s at - (at + cigarText)) q))))
-      (λ q. first-read s at stands (ltb-false mostText (nextAt s at - (at + cigarText)) q))
+      (λ q. first-read s at stands (ltb-false mostText (nextAt s at - (at + cigarText)) q) ∙ ap (readAll mostSegments) (cigar-is s at stands))
 
   pub next-accepted : (used : ℕ) (from : Sums) {to : Sums} → tallied from (readNext used (recordAt s at)) ≡ tally.Sums to
       → readNext used (recordAt s at) ≡ readAll (mostSegments - (used + 1)) text
@@ -89,4 +89,4 @@ module _ (s : List ℕ) (at : ℕ) (stands : Stands s at) where
       let small = ltb-false mostText (nextAt s at - (at + cigarText)) q in
       by-test (eqb used mostSegments)
       (λ f. absurd (unread from _ e (next-full s at stands used small (eqb-true used mostSegments f))))
-      (λ f. next-read s at stands used small (eqb-false used mostSegments f)))
+      (λ f. next-read s at stands used small (eqb-false used mostSegments f) ∙ ap (readAll (mostSegments - (used + 1))) (cigar-is s at stands)))

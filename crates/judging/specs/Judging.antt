@@ -81,7 +81,7 @@ judgeExons forward i (answered xs) =
     unless (lastFault (i .start) (i .end) (length (elementsOf forward xs)) (firstStart xs) (total genome (elementsOf forward xs)) (total transcript (elementsOf forward xs)))
     (answered (record { forward = forward; exon-list = xs; coding = cdsOf (i .start) (i .end) }))
 
--- on a strand: 3 for the records, 4, 5 and 6 per record, 11, 3, 7 and 8 per record, then 10, 9 and 12
+-- on a strand: 3 for the records, 4, 5 and 6 per record, 11, 3, 7, 8 and 32 per record, then 10, 9 and 12
 unfoldable pub judgeOn : Bool → Input → Outcome Made
 judgeOn forward i =
     if ltb mostRecords (length (i .records)) then refused tooMuch

@@ -28,7 +28,7 @@ use Rattle.transcript.specs.laws.Heads.{plus-is}
 use Rattle.reading.specs.Reading.{exonOf, Exons, followedBy, readFirst, readNext, exonsAfter, exonsOf}
 use Rattle.judging.specs.Input.{Input}
 use Rattle.judging.specs.Judging.{Made, elementsMade, cdsOf, judgeInput}
-use Rattle.judging.specs.laws.Accepted.{RecordsPass, records-mean, split, InOrder, CdsPass, cds-pass, last-pass, sane}
+use Rattle.judging.specs.laws.Accepted.{RecordsPass, records-mean, split, AllSpanning, accepted-spanning, InOrder, CdsPass, cds-pass, last-pass, sane}
 use Rattle.segments.specs.Tables.{tablesOf}
 use Rattle.holding.specs.Holding.{Lent, holds, sourceOf}
 use Rattle.building.specs.Afterwards.{headOf}
@@ -71,7 +71,11 @@ unfolding exonsOf readFirst readText
 exons-are [] xs h = sym (same h)
 exons-are (r ∷ rs) xs h = one-more r rs (readFirst r) (λ n. exonsAfter n rs) xs (λ ok. refl) (λ n. after-are n rs) h
 
--- ---- spans: 4 came first, so that no start is negative
+-- ---- spans: 32 let each record be, and 4 came first, so that no start is negative
+
+spanning-is : (rs : List Record) → AllSpanning rs (map exonIn rs) → AllSpan rs
+spanning-is [] h = tt
+spanning-is (r ∷ rs) (span, spans) = (span, spanning-is rs spans)
 
 span-is : (a b : ℤ) (n : ℕ) → ltZ a (pos 0) ≡ false → a +ℤ pos n ≡ b → natAbs a + n ≡ natAbs b
 span-is (pos a) b n h e = ap natAbs e
@@ -94,7 +98,8 @@ pub record From (x : Input) (t : Transcript) : Type 0 where
   pub some : 0 < length (x .records)
   pub is : t ≡ build (eqZ (x .strand) (pos 1)) (map exonIn (x .records)) (cdsOf (x .start) (x .end))
   pub in-order : InOrder 0 (map exonIn (x .records))
-  pub spans : AllSpan (x .records) → Spans (map exonIn (x .records))
+  pub all-spanning : AllSpan (x .records)
+  pub spans : Spans (map exonIn (x .records))
   pub bounds : CdsPass (x .start) (x .end) (transcriptLength t)
   pub lent : Lent
   pub held : holds lent ≡ true
@@ -108,12 +113,14 @@ built-from x t h = go (judgeInput x) refl h
     made-from m pass =
         let s = sane x m (pass .on) in
         let exons = exons-are (x .records) (m .exon-list) (pass .on .were-read) in
+        let spanning = spanning-is (x .records) (rw exons at (accepted-spanning x m (pass .on))) in
         let last = last-pass (x .start) (x .end) _ _ _ (total transcript (elementsMade m)) (pass .on .last) in
         record {
           some = pass .some;
           is = rw (pass .strand-is, plus-is (m .forward), exons, pass .on .coding-is);
           in-order = rw exons at (s .in-order);
-          spans = all-span (m .forward) (x .records) (pass .on .sound);
+          all-spanning = spanning;
+          spans = all-span (m .forward) (x .records) (pass .on .sound) spanning;
           bounds = cds-pass (x .start) (x .end) (total transcript (elementsMade m)) (pass .on .both-or-none) (last .cds-fits);
           lent = beside (headOf m) (tablesOf (elementsMade m));
           held = built-holds m s;

@@ -13,13 +13,13 @@ use Rattle.records.specs.Faults.{faults, faultsAfter, ownFault, pairFault, foll
 use Rattle.transcript.specs.Transcript.{Transcript}
 use Rattle.transcript.specs.Transcript.Cds.{cds}
 use Rattle.transcript.specs.Building.{Exon, partsOf, elementsAfter, elementsOf, firstStart, build}
-use Rattle.reading.specs.Reading.{readFirst, readNext, exonsAfter, exonsOf}
+use Rattle.reading.specs.Reading.{spanning, readFirst, readNext, exonsAfter, exonsOf}
 use Rattle.judging.specs.Input.{Input}
 use Rattle.judging.specs.Judging.{lastFault, rangeFault, judgeOn, judgeInput}
 use Rattle.transcript.specs.declared.Bound.the-variants.{Given, Absent}
 use Rattle.promises.specs.Bases.{Matched, InIntron, isMatch, nextMatches}
-use Rattle.promises.specs.Demands.{ours, Builds, Named, FromNearest, AllSpan, basesOf, Lengthens, Keeps}
-use Rattle.promises.specs.Table.{digit, A, B, ins, del, A+, ending, lone, unspanned}
+use Rattle.promises.specs.Demands.{ours, Builds, Named, FromNearest, basesOf, Lengthens, Keeps}
+use Rattle.promises.specs.Table.{digit, A, B, ins, del, A+, ending, lone}
 use Rattle.promises.proofs.Promises.{demand-2-built, demand-3}
 
 -- ---- the inputs
@@ -81,9 +81,8 @@ pub all-build :
     × Builds (input (pos 1) 3 15 (row 10 20 0 10 0 10M ∷ row 25 33 10 18 1 (ofM 8) ∷ row 40 44 18 22 2 (ofM 4) ∷ [])) A+
     × Builds (input (pos 1) 0 4 (row 0 6 0 4 0 (digit 4 ∷ letterM ∷ digit 2 ∷ letterI ∷ []) ∷ [])) ending
     × Builds (input (pos 1) 0 4 (row 10 14 0 4 0 (ofM 4) ∷ [])) lone
-    × Builds (input (pos 1) 2 6 (row 2 5 0 2 0 (ofM 2) ∷ row 10 14 2 6 1 (ofM 4) ∷ [])) unspanned
-unfolding judgeInput judgeOn lastFault rangeFault faults faultsAfter ownFault pairFault followFault spanFault startFault riseFault joinFault exonsOf exonsAfter readFirst readNext readFrom isLetter elementsOf elementsAfter partsOf firstStart total genome transcript kindOf
-all-build = (refl, refl, refl, refl, refl, refl, refl, refl, refl, refl)
+unfolding judgeInput judgeOn lastFault rangeFault faults faultsAfter ownFault pairFault followFault spanFault startFault riseFault joinFault exonsOf exonsAfter spanning readFirst readNext readFrom isLetter elementsOf elementsAfter partsOf firstStart total genome transcript kindOf
+all-build = (refl, refl, refl, refl, refl, refl, refl, refl, refl)
 
 -- ---- demand 2
 
@@ -160,12 +159,8 @@ lengthens-B = record {
   end-moved = refl;
 }
 
-spanned : AllSpan (inputLongA .records) × AllSpan (inputLongB .records)
-unfolding total genome kindOf readText readFrom isLetter
-spanned = ((refl, (refl, (refl, (refl, tt)))), (refl, (refl, (refl, (refl, tt)))))
-
 answers-kept : Keeps ours A longA × Keeps ours B longB
 answers-kept = (
-  demand-3 inputA inputLongA A longA (all-build .0) (all-build .2) lengthens-A (spanned .0),
-  demand-3 inputB inputLongB B longB (all-build .1) (all-build .3) lengthens-B (spanned .1),
+  demand-3 inputA inputLongA A longA (all-build .0) (all-build .2) lengthens-A,
+  demand-3 inputB inputLongB B longB (all-build .1) (all-build .3) lengthens-B,
 )

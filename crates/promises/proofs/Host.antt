@@ -210,11 +210,11 @@ keeps-so x y t u held stands r k = record {
 }
 
 pub host-3 : Host-3
-host-3 w v head was head′ was′ t z z′ builds l spans =
+host-3 w v head was head′ was′ t z z′ builds l =
     let (m, judged) = way-made w z in
     let (n, judged′) = way-made v z′ in
     let sane = way-sane w m judged in
     let is : madeOf m ≡ t = same (sym (way-builds w m judged) ∙ builds) in
     rw (written-is w head was m judged)
     (keeps-so (beside (headOf m) (tablesOf (elementsMade m))) (writtenBy v head′ was′) t (madeOf n) (built-holds m sane) (built-stands m sane ∙ ap aligned is)
-    (seen v head′ was′ n judged′) (demand-3 (input w) (input v) t (madeOf n) builds (way-builds v n judged′) l spans))
+    (seen v head′ was′ n judged′) (demand-3 (input w) (input v) t (madeOf n) builds (way-builds v n judged′) l))

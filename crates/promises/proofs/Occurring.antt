@@ -13,7 +13,7 @@ use Rattle.words.specs.Words.{letterOf, allKnown, readWords, faultOf, faultFrom
 use Rattle.records.specs.Records.{Record, recordText}
 use Rattle.judging.specs.Input.{inputOf, numbersOf}
 use Rattle.judging.specs.Judging.{judge, judgeLength, lengthFault, rangeFault}
-use Rattle.judging.specs.laws.Worked.{row, bytesOf, digit, letterS, ten, nines, rowsA, one, computing}
+use Rattle.judging.specs.laws.Worked.{row, bytesOf, digit, letterS, ten, nines, rowsA, bounded, one, computing}
 use Rattle.transcript.specs.declared.Numbers.{Numbers}
 use Rattle.card.specs.Layout.{mark}
 use Rattle.card.specs.Card.{cardText, headerText, recordsText, readCard, isMarked, isCard, arePlain, numbersIn}
@@ -68,7 +68,7 @@ abbrev plain : List Record → Handed
 plain rs = handed 0 (pos 0) (pos 0) rs
 
 -- no record; no strand; a byte too many; CDS bits above 3; too many segments; a bound below 0; `ord` that stands still; exons that are not adjacent; `S`; `99999999999M`;
--- a first start above the largest; no segment; one CDS bit; a CDS end above the length
+-- a first start above the largest; no segment; one CDS bit; a CDS end above the length; `10M` on 9 bases
 abbrev samples : List Handed
 samples =
     plain []
@@ -85,6 +85,7 @@ samples =
     ∷ plain (one 0 [])
     ∷ handed 1 (pos 0) (pos 0) rowsA
     ∷ handed 3 (pos 3) (pos 19) rowsA
+    ∷ plain (bounded 0 9 ten)
     ∷ []
 
 pub build-occurs : map (λ (x : Handed). judge (x .0) (x .1)) samples ≡ map refused buildingRefusals

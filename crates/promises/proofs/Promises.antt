@@ -23,7 +23,7 @@ use Rattle.transcript.specs.Heads.{bothBits}
 use Rattle.transcript.specs.declared.Numbers.{Numbers}
 use Rattle.transcript.specs.declared.Bound.{Bound}
 use Rattle.transcript.specs.declared.Bound.the-variants.{Given, Absent}
-use Rattle.promises.specs.Demands.{Mapper, ours, madeOf, Builds, AllSpan, basesOf, addedUpstream, movedUp, KeptOfRecord, kept, Lengthens, Keeps, Demand-2, Demand-2-built, Demand-3, Demand-3-narrow}
+use Rattle.promises.specs.Demands.{Mapper, ours, madeOf, Builds, basesOf, addedUpstream, movedUp, KeptOfRecord, kept, Lengthens, Keeps, Demand-2, Demand-2-built, Built-spans, Demand-3, Demand-3-narrow}
 use Rattle.promises.proofs.InRange.{InRange, held-in-range}
 use Rattle.promises.proofs.Records.{Spans, exonBases}
 use Rattle.promises.proofs.Built.{exonIn, From, built-from}
@@ -114,21 +114,24 @@ module _ (x y : Input) (t u : Transcript) (from-x : From x t) (from-y : From y u
   longer-is : u ≡ lengthened forward left own right (cdsOf (x .start) (x .end))
   longer-is = from-y .is ∙ rw (exons-are, coding-is, l .strand-kept)
 
-  pub kept-all : AllSpan (y .records) → Keeps ours t u
-  kept-all spans =
+  pub kept-all : Keeps ours t u
+  kept-all =
       rw (from-x .is, longer-is)
       (some-keep forward left (x .records) right (cdsOf (x .start) (x .end)) (from-x .some)
-      (subst Spans exons-are (from-y .spans spans))
+      (subst Spans exons-are (from-y .spans))
       (subst (InOrder 0) exons-are (from-y .in-order))
       (subst InRange longer-is (held-in-range (from-y .lent) u (from-y .held) (from-y .stands))))
 
 pub demand-3 : Demand-3 ours
-demand-3 x y t u builds-x builds-y l spans = kept-all x y t u (built-from x t builds-x) (built-from y u builds-y) l spans
+demand-3 x y t u builds-x builds-y l = kept-all x y t u (built-from x t builds-x) (built-from y u builds-y) l
 
--- the narrower words follow, of any mapper
+pub built-spans : Built-spans
+built-spans x t builds = built-from x t builds .all-spanning
+
+-- the narrower words follow, of any mapper: premises more ask for less
 pub narrower : (m : Mapper) → Demand-3 m → Demand-3-narrow m
 narrower m d x y t u builds-x builds-y l spans =
-    let k = d x y t u builds-x builds-y l spans in
+    let k = d x y t u builds-x builds-y l in
     record { g-to-c = λ i from to. k .g-to-c i; c-to-g = k .c-to-g }
 
 pub demand-3-narrow : Demand-3-narrow ours

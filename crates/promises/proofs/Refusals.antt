@@ -9,10 +9,10 @@ use lib.IntN.{ℤ, pos, negsuc, natAbs}
 use lib.ListN.{length, drop, getD}
 use lib.Signed.{ltZ}
 use borrow.Author.Tests.{eqb-true, ltb-true}
-use Rattle.refusals.specs.Numbers.{noRecords, noStrand, tooMuch, badBound, badOrd, notAdjacent, noElement, badCount, tooLong, noSegment, halfCds, badCds, noRoom, noCard, notTogether, noOperation, mostWordCount, mostCount, mostSegments, mostText, mostRecords, mostBases, mostCard}
+use Rattle.refusals.specs.Numbers.{noRecords, noStrand, tooMuch, badBound, badOrd, notAdjacent, noElement, badCount, tooLong, noSegment, halfCds, badCds, noRoom, noCard, notTogether, noOperation, notSpanning, mostWordCount, mostCount, mostSegments, mostText, mostRecords, mostBases, mostCard}
 use Rattle.refusals.specs.Outcome.{Outcome, answered, refused, unless}
 use Rattle.refusals.specs.Refusing.{oneOf, Only}
-use Rattle.refusals.specs.laws.Refusing.{only-through, only-then}
+use Rattle.refusals.specs.laws.Refusing.{only-through, only-both, only-then}
 use Rattle.whole.specs.Whole.{if_then_else_, eqZ}
 use Rattle.whole.specs.laws.Whole.{by-test, both}
 use Rattle.fields.specs.Fields.{le16}
@@ -28,7 +28,7 @@ use Rattle.transcript.specs.laws.Heads.{plus-is}
 use Rattle.transcript.specs.declared.Bound.{Bound}
 use Rattle.transcript.specs.declared.Bound.the-variants.{Given, Absent}
 use Rattle.transcript.specs.declared.Numbers.{Numbers}
-use Rattle.reading.specs.Reading.{Exons, readFirst, readNext, exonsAfter, exonsOf}
+use Rattle.reading.specs.Reading.{Exons, isSpanned, spanning, followedBy, readFirst, readNext, exonsAfter, exonsOf}
 use Rattle.judging.specs.Input.{Input, inputOf}
 use Rattle.judging.specs.Judging.{Made, halfFault, rangeFault, cdsFault, lastFault, lengthFault, judgeExons, judgeOn, judgeInput, judge, judgeLength}
 use Rattle.positions.specs.laws.Refusing.{only-if, only-unless}
@@ -205,17 +205,25 @@ next-only : (used : ℕ) (r : Record) → Only R (readNext used r)
 unfolding readNext
 next-only used r = only-unless R (ltb mostText (length (r .cigar))) tooMuch _ (only-unless R (eqb used mostSegments) tooMuch _ (reading-wider _ (read-only (mostSegments - (used + 1)) false 0 (r .cigar))) (λ e. refl)) (λ e. refl)
 
+-- a record's own refusals and 32, before those of what follows
+followed-only : (r : Record) (p : Reading) (next : ℕ → Exons) → Only R p → ((n : ℕ) → Only R (next n)) → Only R (followedBy r p next)
+unfolding spanning
+followed-only r p next own others =
+    only-then R p _ own
+    (λ es e. only-both R _ _ _ (only-if R (isSpanned r es) notSpanning _ (done es) (λ e. refl)) (others (length es)))
+
 after-only : (used : ℕ) (rs : List Record) → Only R (exonsAfter used rs)
 unfolding exonsAfter
 after-only used [] = done []
-after-only used (r ∷ rs) = only-then R (readNext used r) _ (next-only used r) (λ es e. only-through R _ _ (after-only (used + 1 + length es) rs))
+after-only used (r ∷ rs) = followed-only r (readNext used r) (λ n. exonsAfter (used + 1 + n) rs) (next-only used r) (λ n. after-only (used + 1 + n) rs)
 
 exons-only : (rs : List Record) → Only R (exonsOf rs)
 unfolding exonsOf readFirst
 exons-only [] = done []
 exons-only (r ∷ rs) =
-    only-then R (readFirst r) _ (only-unless R (ltb mostText (length (r .cigar))) tooMuch _ (reading-wider _ (read-only mostSegments false 0 (r .cigar))) (λ e. refl))
-    (λ es e. only-through R _ _ (after-only (length es) rs))
+    followed-only r (readFirst r) (λ n. exonsAfter n rs)
+    (only-unless R (ltb mostText (length (r .cigar))) tooMuch _ (reading-wider _ (read-only mostSegments false 0 (r .cigar))) (λ e. refl))
+    (λ n. after-only n rs)
 
 on-only : (forward : Bool) (i : Input) → Only R (judgeOn forward i)
 unfolding judgeOn

@@ -12,11 +12,14 @@ use Rattle.transcript.specs.Building.{partsOf, elementsAfter, elementsOf, first
 use Rattle.whole.specs.Fits.{fitOf, fits}
 use Rattle.coding.specs.Coding.{beyond, cPosition, cOfInterval, nToC, nPosition, cToN}
 use Rattle.places.specs.Mapping.{inside, turned, nOfSpot, gOfSpot, wholeN, gToN, gOfEnds, nToG}
+use Rattle.records.specs.Faults.{faults, faultsAfter, ownFault, pairFault, followFault, spanFault, startFault, riseFault, joinFault}
+use Rattle.reading.specs.Reading.{spanning, readFirst, readNext, exonsAfter, exonsOf}
+use Rattle.judging.specs.Judging.{lastFault, rangeFault, judgeOn, judgeInput}
 use Rattle.mapper.specs.Chains.{gToC, cToG}
 use Rattle.mapper.specs.Asking.{askGToN, askInBounds}
 use Rattle.promises.specs.Demands.{ours}
 use Rattle.promises.specs.Table.{TableOfPlaces}
 
 pub table-of-places : TableOfPlaces ours
-unfolding kindOf genome transcript total entriesFrom firstBelow indexOf spotIn nearer mapByTables mapPlace nOfPlace placeOfN cOfN nOfC skipZero inside turned nOfSpot gOfSpot fitOf fits wholeN gToN gOfEnds nToG beyond cPosition cOfInterval nToC nPosition cToN gToC cToG partsOf elementsAfter elementsOf firstStart build askGToN askInBounds isLetter readFrom readText digitsBy decimal elementText elementsText prefixLen suffixLen changedOf
+unfolding kindOf genome transcript total entriesFrom firstBelow indexOf spotIn nearer mapByTables mapPlace nOfPlace placeOfN cOfN nOfC skipZero inside turned nOfSpot gOfSpot fitOf fits wholeN gToN gOfEnds nToG beyond cPosition cOfInterval nToC nPosition cToN gToC cToG partsOf elementsAfter elementsOf firstStart build askGToN askInBounds isLetter readFrom readText digitsBy decimal elementText elementsText prefixLen suffixLen changedOf judgeInput judgeOn lastFault rangeFault faults faultsAfter ownFault pairFault followFault spanFault startFault riseFault joinFault exonsOf exonsAfter spanning readFirst readNext
 table-of-places = refl

@@ -1,6 +1,7 @@
 -- Demands 2 and 3, as what is asked of a mapper. Assumes nothing.
 --     Demand-2, Demand-2-built    each base of an exon, and of an intron between exons, has its HGVS name and comes back from it: of what holds together, and of what builds
---     Demand-3, Demand-3-narrow   records added at the ends change no answer; the same of bases alone
+--     Built-spans                 what builds spans its records' bounds
+--     Demand-3, Demand-3-narrow   records added at the ends change no answer; the same where records span their bounds, of bases alone
 use Prim.Native.Nat.{ℕ, _+_, _<_}
 use mathlib.Core.Bool.{Bool, true, false}
 use mathlib.Core.List.{List, [], _∷_, _++_, map}
@@ -169,9 +170,13 @@ pub record Keeps (m : Mapper) (t u : Transcript) : Type 0 where
   pub g-to-c : (i : Interval ℤ) → Answered (m .g-to-c strict t i) → m .g-to-c strict u i ≡ m .g-to-c strict t i
   pub c-to-g : (i : Interval CAsked) → Answered (m .c-to-g strict t i) → m .c-to-g strict u i ≡ m .c-to-g strict t i
 
--- of every transcript that builds and every lengthened one that builds, where each record's CIGAR spans exactly its bounds; the shorter's records are among the longer's
+-- of every transcript that builds and every lengthened one that builds
 abbrev pub Demand-3 : Mapper → Type 0
-Demand-3 m = (x y : Input) (t u : Transcript) → Builds x t → Builds y u → Lengthens x y → AllSpan (y .records) → Keeps m t u
+Demand-3 m = (x y : Input) (t u : Transcript) → Builds x t → Builds y u → Lengthens x y → Keeps m t u
+
+-- of every transcript that builds, each record's CIGAR spans exactly its bounds
+abbrev pub Built-spans : Type 0
+Built-spans = (x : Input) (t : Transcript) → Builds x t → AllSpan (x .records)
 
 -- ---- demand 3 in its narrower words
 
@@ -184,5 +189,6 @@ pub record KeepsBases (m : Mapper) (t u : Transcript) : Type 0 where
   pub g-to-c : (i : Interval ℤ) → BaseOf t (i .from) → BaseOf t (i .to) → Answered (m .g-to-c strict t i) → m .g-to-c strict u i ≡ m .g-to-c strict t i
   pub c-to-g : (i : Interval CAsked) → Answered (m .c-to-g strict t i) → m .c-to-g strict u i ≡ m .c-to-g strict t i
 
+-- where each record's CIGAR spans exactly its bounds; the shorter's records are among the longer's
 abbrev pub Demand-3-narrow : Mapper → Type 0
 Demand-3-narrow m = (x y : Input) (t u : Transcript) → Builds x t → Builds y u → Lengthens x y → AllSpan (y .records) → KeepsBases m t u

@@ -30,7 +30,7 @@ use Rattle.entry.specs.Told.{toldGToN, toldGToC, toldNToG, toldNToC, toldCToN, 
 use Rattle.worklist.specs.Worklist.{positionsOf, neverFalls, trackOf, stepsOf, stepsLaid}
 use Rattle.worklist.specs.declared.Slot.{Slot}
 use Rattle.promises.specs.Bases.{Name, nName, cName}
-use Rattle.promises.specs.Demands.{Mapper, strict, Builds, gNumber, gAt, nAt, cAt, BasesNamed, Lengthens, AllSpan}
+use Rattle.promises.specs.Demands.{Mapper, strict, Builds, gNumber, gAt, nAt, cAt, BasesNamed, Lengthens}
 
 -- ---- building
 
@@ -127,4 +127,4 @@ pub record KeepsTold (x y : Lent) : Type 0 where
 
 abbrev pub Host-3 : Type 0
 Host-3 = (w v : Way) (head : List ℤ) (was : Tables) (head′ : List ℤ) (was′ : Tables) (t : Transcript) → toldBuilding w ≡ 0 → toldBuilding v ≡ 0
-    → Builds (input w) t → Lengthens (input w) (input v) → AllSpan (input v .records) → KeepsTold (writtenBy w head was) (writtenBy v head′ was′)
+    → Builds (input w) t → Lengthens (input w) (input v) → KeepsTold (writtenBy w head was) (writtenBy v head′ was′)

@@ -2,7 +2,7 @@
 use Prim.Native.Nat.{ℕ}
 use mathlib.Core.List.{List, [], _∷_}
 use lib.IntN.{ℤ}
-use Rattle.refusals.specs.Numbers.{noRecords, noStrand, tooMuch, badBound, badOrd, notAdjacent, noElement, badCount, tooLong, noSegment, halfCds, badCds, noRoom, noCard, badVersion, notTogether, noOperation, noWord}
+use Rattle.refusals.specs.Numbers.{noRecords, noStrand, tooMuch, badBound, badOrd, notAdjacent, noElement, badCount, tooLong, noSegment, halfCds, badCds, noRoom, noCard, badVersion, notTogether, noOperation, noWord, notSpanning}
 use Rattle.refusals.specs.Refusing.{Only}
 use Rattle.cigar.specs.Read.{readText}
 use Rattle.cigar.specs.Write.{writing}
@@ -33,7 +33,7 @@ writingWordsRefusals = noElement ∷ noWord ∷ tooMuch ∷ noRoom ∷ []
 
 -- what building finds in the records once the strand is known
 abbrev pub recordsRefusals : List ℕ
-recordsRefusals = tooMuch ∷ badBound ∷ badOrd ∷ notAdjacent ∷ noElement ∷ badCount ∷ tooLong ∷ noSegment ∷ halfCds ∷ badCds ∷ []
+recordsRefusals = tooMuch ∷ badBound ∷ badOrd ∷ notAdjacent ∷ noElement ∷ badCount ∷ tooLong ∷ noSegment ∷ halfCds ∷ badCds ∷ notSpanning ∷ []
 
 -- txc_build
 abbrev pub buildingRefusals : List ℕ

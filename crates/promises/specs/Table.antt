@@ -5,7 +5,7 @@ use mathlib.Core.List.{List, [], _∷_, map}
 use mathlib.Core.Path.{_≡_}
 use lib.IntN.{ℤ, pos, negℤ}
 use lib.ListN.{drop}
-use Rattle.refusals.specs.Numbers.{notCoding, outside, nOutside, cOutside, tooWide, noGenome, missingEnd}
+use Rattle.refusals.specs.Numbers.{notCoding, outside, nOutside, cOutside, tooWide, noGenome, missingEnd, notSpanning}
 use Rattle.refusals.specs.Outcome.{Outcome, answered, refused}
 use Rattle.sequences.specs.Alleles.{prefixLen, changedOf}
 use Rattle.numbering.specs.Numbers.{plainC, starC}
@@ -21,9 +21,11 @@ use Rattle.transcript.specs.Building.{Exon, build}
 use Rattle.positions.specs.Positions.{Interval, each, GAsked, at, missing, NAsked, CAsked, GPosition, NPosition, CPosition, asksN, asksC}
 use Rattle.positions.specs.Answers.{Answer, certainly, uncertainly, plainly}
 use Rattle.mapper.specs.Asking.{askGToN, askInBounds}
-use Rattle.promises.specs.Demands.{Mapper, strict, single}
+use Rattle.judging.specs.Input.{Input}
+use Rattle.transcript.specs.declared.Bound.the-variants.{Given}
+use Rattle.promises.specs.Demands.{Mapper, building, strict, single}
 
--- a question to a mapper, to a transcript of either kind, to the CIGAR's reader and writer, or to the trimmers; and the answer
+-- a question to a mapper, to a transcript of either kind, to the CIGAR's reader and writer, to the trimmers, or to building; and the answer
 pub data Row : Type 0 where
   g-n : Bool → Transcript → Interval ℤ → Answer NPosition → Row
   n-g : Bool → Transcript → Interval NAsked → Answer GPosition → Row
@@ -35,6 +37,7 @@ pub data Row : Type 0 where
   in-bounds : Interval GAsked → Source → Outcome Bool → Row
   cigar : List ℕ → List Element → Row
   alleles : List ℕ → List ℕ → ℕ → List ℕ → List ℕ → List ℕ → Row
+  builds : Input → Outcome Transcript → Row
 
 -- an answer to any question
 pub data Reply : Type 0 where
@@ -44,6 +47,7 @@ pub data Reply : Type 0 where
   a-yes : Outcome Bool → Reply
   a-reading : Reading → List ℕ → Reply
   a-trimming : ℕ → List ℕ → List ℕ → List ℕ → Reply
+  a-transcript : Outcome Transcript → Reply
 
 -- what is answered to a row's question: a CIGAR is read, and its elements are written; of two alleles the common prefix is counted and removed, and the changed part is found
 abbrev pub replyGiven : Mapper → Row → Reply
@@ -57,6 +61,7 @@ replyGiven m (asked-g-n strict i x a) = in-n (askGToN strict i x)
 replyGiven m (in-bounds i x a) = a-yes (askInBounds i x)
 replyGiven m (cigar text es) = a-reading (readText text) (elementsText es)
 replyGiven m (alleles r a prefix r-left a-left changed) = a-trimming (prefixLen r a) (drop (prefixLen r a) r) (drop (prefixLen r a) a) (changedOf r a)
+replyGiven m (builds x t) = a-transcript (building x)
 
 -- what the row says
 abbrev pub due : Row → Reply
@@ -70,6 +75,7 @@ due (asked-g-n strict i x a) = in-n a
 due (in-bounds i x a) = a-yes a
 due (cigar text es) = a-reading (answered es) text
 due (alleles r a prefix r-left a-left changed) = a-trimming prefix r-left a-left changed
+due (builds x t) = a-transcript t
 
 -- ---- short ways to write rows
 
@@ -164,12 +170,23 @@ A+ = build strand1 (exon 10 20 (10 of letterM ∷ []) ∷ exon 25 33 (8 of lette
 abbrev pub ending : Transcript
 ending = build strand1 (exon 0 6 (4 of letterM ∷ 2 of letterI ∷ []) ∷ []) (cds 0 4)
 
--- one exon; and the same with a record before it whose elements do not span its bounds, and the CDS moved up
+-- one exon
 abbrev pub lone : Transcript
 lone = build strand1 (exon 10 14 (4 of letterM ∷ []) ∷ []) (cds 0 4)
 
-abbrev pub unspanned : Transcript
-unspanned = build strand1 (exon 2 5 (2 of letterM ∷ []) ∷ exon 10 14 (4 of letterM ∷ []) ∷ []) (cds 2 6)
+-- the same with the record 2..5 before it, its CIGAR given, and the CDS moved up as if that were `2M`
+abbrev withLeft : List ℕ → Input
+withLeft text = record {
+  strand = pos 1;
+  start = Given (pos 2);
+  end = Given (pos 6);
+  records = record { alt-start = pos 2; alt-end = pos 5; tx-start = pos 0; tx-end = pos 2; ord = pos 0; cigar = text }
+      ∷ record { alt-start = pos 10; alt-end = pos 14; tx-start = pos 2; tx-end = pos 6; ord = pos 1; cigar = digit 4 ∷ letterM ∷ [] }
+      ∷ [];
+}
+
+abbrev pub spanned : Transcript
+spanned = build strand1 (exon 2 5 (2 of letterM ∷ 1 of letterI ∷ []) ∷ exon 10 14 (4 of letterM ∷ []) ∷ []) (cds 2 6)
 
 -- ---- the rows
 
@@ -252,9 +269,11 @@ rows =
     -- demand 3 speaks of answers: A g.34_33 refuses 14, and with an exon added it is c.*3+1_*3
     ∷ g-c strict A (gs 34 33) (refused outside)
     ∷ g-c strict A+ (gs 34 33) (certainly (cs (starC (pos 3)) (pos 1) (starC (pos 3)) (pos 0)))
-    -- and of records that span their bounds: g.11 moves from c.1 to c.2
+    -- 32: with `2M` on 2..5 added g.11 would move from c.1 to c.2; with `2MI` it stays
     ∷ g-c strict lone (g 11) (certainly (c (plainC (pos 1)) (pos 0)))
-    ∷ g-c strict unspanned (g 11) (certainly (c (plainC (pos 2)) (pos 0)))
+    ∷ builds (withLeft (digit 2 ∷ letterM ∷ [])) (refused notSpanning)
+    ∷ builds (withLeft (digit 2 ∷ letterM ∷ letterI ∷ [])) (answered spanned)
+    ∷ g-c strict spanned (g 11) (certainly (c (plainC (pos 1)) (pos 0)))
     ∷ []
 
 -- each row's question has the answer that is due

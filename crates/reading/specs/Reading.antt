@@ -1,13 +1,14 @@
--- The CIGARs of the records as elements, or the first of 3, 7 and 8: per record its CIGAR's size, the gap before it, and its elements in text order. Assumes nothing.
+-- The CIGARs of the records as elements, or the first of 3, 7, 8 and 32: per record its CIGAR's size, the gap before it, its elements in text order, and then how far they go. Assumes nothing.
 use Prim.Native.Nat.{ℕ, _+_, _-_}
+use mathlib.Core.Bool.{Bool}
 use mathlib.Core.List.{List, [], _∷_}
 use lib.Dec.{eqb, ltb}
-use lib.IntN.{natAbs}
+use lib.IntN.{ℤ, pos, natAbs, _+ℤ_}
 use lib.ListN.{length}
-use Rattle.refusals.specs.Numbers.{tooMuch, mostText, mostSegments}
-use Rattle.refusals.specs.Outcome.{Outcome, answered, refused, andThen, through}
-use Rattle.whole.specs.Whole.{if_then_else_}
-use Rattle.cigar.specs.Elements.{Element, letterN}
+use Rattle.refusals.specs.Numbers.{tooMuch, notSpanning, mostText, mostSegments}
+use Rattle.refusals.specs.Outcome.{Outcome, answered, refused, andThen, both}
+use Rattle.whole.specs.Whole.{if_then_else_, eqZ}
+use Rattle.cigar.specs.Elements.{Element, letterN, genome, total}
 use Rattle.cigar.specs.Text.{Reading, readAll}
 use Rattle.records.specs.Records.{Record}
 use Rattle.transcript.specs.Building.{Exon}
@@ -34,13 +35,23 @@ exonOf r es = record { alt-start = genomeStartOf r; alt-end = genomeEndOf r; par
 abbrev pub Exons : Type 0
 Exons = Outcome (List Exon)
 
--- one record more in front
-abbrev pub beforeAll : Exon → Exons → Exons
-beforeAll x = through (λ (xs : List Exon). x ∷ xs)
+-- a length along the genome is that of the bounds, and a record's elements have that length
+abbrev pub spans : ℤ → ℤ → ℕ → Bool
+spans start end n = eqZ (start +ℤ pos n) end
 
--- after a record's reading, what follows it
+abbrev pub isSpanned : Record → List Element → Bool
+isSpanned r es = spans (r .alt-start) (r .alt-end) (total genome es)
+
+-- a record's elements, or 32 where its CIGAR's genome length differs from its bounds
+unfoldable pub spanning : Record → List Element → Reading
+spanning r es = if isSpanned r es then answered es else refused notSpanning
+
+abbrev pub spanned : Record → Reading → Reading
+spanned r read = andThen read (spanning r)
+
+-- after a record's elements are read comes 32, and then what follows it: the first refusal counts
 abbrev pub followedBy : Record → Reading → (ℕ → Exons) → Exons
-followedBy r read next = andThen read (λ es. beforeAll (exonOf r es) (next (length es)))
+followedBy r read next = andThen read (λ es. both (λ own others. exonOf r own ∷ others) (spanning r es) (next (length es)))
 
 -- the first record: 3 where its CIGAR is over 4,096 bytes
 unfoldable pub readFirst : Record → Reading

@@ -1,8 +1,8 @@
-// The pass over the CIGARs of all records, which refuses 3, 7 and 8 and sums how far the elements go. Sums are of 64 bits: a total
+// The pass over the CIGARs of all records, which refuses 3, 7, 8 and 32 and sums how far the elements go. Sums are of 64 bits: a total
 // passes 32 bits before 9 is due.
 ghost use mathlib.Core.Path.{_≡_};
 ghost use mathlib.Core.Bool.{false};
-ghost use Prim.Native.Nat.{_+_, _-_, _≤_, _<_};
+ghost use Prim.Native.Nat.{_+_, _-_, _*_, _≤_, _<_};
 ghost use lib.IntN.{pos, natAbs};
 ghost use lib.Signed.{ltZ};
 ghost use lib.ListN.{length};
@@ -11,7 +11,7 @@ ghost use Rattle.cigar.specs.Text.{element, readAll};
 ghost use Rattle.records.specs.Layout.{cigarText};
 ghost use Rattle.records.specs.Records.{fieldAt, recordAt, recordsFrom};
 ghost use Rattle.records.specs.Walk.{Beside, Stands, Walk, Ready};
-ghost use Rattle.reading.specs.Reading.{readFirst, readNext, gapOf, between, genomeEndOf, exonsAfter, exonsOf};
+ghost use Rattle.reading.specs.Reading.{spans, spanned, readFirst, readNext, gapOf, between, genomeEndOf, exonsAfter, exonsOf};
 ghost use Rattle.reading.specs.Tallies.{Bounded, BoundedTally, oneOn, nothing, tallied, talliedAfter, talliedAll};
 use cigar::Step;
 use records::ALT_END;
@@ -19,6 +19,7 @@ use records::ALT_START;
 use records::CIGAR_TEXT;
 use refusals::MOST_SEGMENTS;
 use refusals::MOST_TEXT;
+use refusals::NOT_SPANNING;
 use refusals::TOO_MUCH;
 
 // How many segments there are, and how far they go along the genome and the transcript.
@@ -71,6 +72,41 @@ fn tally_text(text: &[u8], from: Sums) -> Tally
     }
 }
 
+// Whether a length along the genome is that of the bounds.
+fn spans(start: i32, end: i32, length: u64) -> bool
+    requires { ⌜ length ≤ mostSegments * 4294967296 ⌝ }
+    ensures { λ r. ⌜ r ≡ spans start end length ⌝ }
+{
+    let from = start as i64;
+    let along = length as i64;
+    let reached = from + along;
+    if reached == end as i64 {
+        return true;
+    }
+    false
+}
+
+// The sums with the elements of the record at `at`, or 32 where they are not as long along the genome as its bounds.
+fn tally_record(s: &[u8], at: usize, from: Sums) -> Tally
+    requires { ⌜ Stands (now s) at × Bounded from ⌝ }
+    ensures { λ r. ⌜ (r ≡ tallied from (spanned (recordAt (now (s .entry)) at) (readAll (mostSegments - from .count) (recordAt (now (s .entry)) at .cigar)))) × BoundedTally r ⌝ }
+{
+    let start = at + CIGAR_TEXT;
+    let end = records::next_at(s, at);
+    match tally_text(&s[start..end], from) {
+        Tally::Sums(to) => {
+            let alt_start = fields::i32_at(s, at + ALT_START);
+            let alt_end = fields::i32_at(s, at + ALT_END);
+            let length = to.genome - from.genome;
+            if spans(alt_start, alt_end, length) {
+                return Tally::Sums(to);
+            }
+            Tally::Refused(NOT_SPANNING)
+        }
+        Tally::Refused(k) => Tally::Refused(k),
+    }
+}
+
 // A bound that is not negative.
 pub fn bound(s: &[u8], at: usize) -> u32
     requires { ⌜ at + 4 ≤ length (now s) ⌝ }
@@ -94,7 +130,7 @@ pub fn gap_at(s: &[u8], previous: usize, at: usize) -> u32
 // The sums of the first record's elements.
 pub fn tally_first(s: &[u8]) -> Tally
     requires { ⌜ Stands (now s) 0 ⌝ }
-    ensures { λ r. ⌜ (r ≡ tallied nothing (readFirst (recordAt (now (s .entry)) 0))) × BoundedTally r ⌝ }
+    ensures { λ r. ⌜ (r ≡ tallied nothing (spanned (recordAt (now (s .entry)) 0) (readFirst (recordAt (now (s .entry)) 0)))) × BoundedTally r ⌝ }
 {
     let to = records::next_at(s, 0);
     if to - CIGAR_TEXT > MOST_TEXT {
@@ -105,7 +141,7 @@ pub fn tally_first(s: &[u8]) -> Tally
         genome: 0,
         transcript: 0,
     };
-    tally_text(&s[CIGAR_TEXT..to], from)
+    tally_record(s, 0, from)
 }
 
 // The sums with the gap before the record at `at` and its elements.
@@ -113,7 +149,7 @@ pub fn tally_next(s: &[u8], previous: usize, at: usize, from: Sums) -> Tally
     requires { ⌜ (previous + cigarText ≤ length (now s)) × Stands (now s) at ⌝ }
     requires { ⌜ Beside (recordAt (now s) previous) (recordAt (now s) at) ⌝ }
     requires { ⌜ Bounded from ⌝ }
-    ensures { λ r. ⌜ (r ≡ tallied (oneOn from (between (recordAt (now (s .entry)) previous) (recordAt (now (s .entry)) at))) (readNext (from .count) (recordAt (now (s .entry)) at))) × BoundedTally r ⌝ }
+    ensures { λ r. ⌜ (r ≡ tallied (oneOn from (between (recordAt (now (s .entry)) previous) (recordAt (now (s .entry)) at))) (spanned (recordAt (now (s .entry)) at) (readNext (from .count) (recordAt (now (s .entry)) at)))) × BoundedTally r ⌝ }
 {
     let start = at + CIGAR_TEXT;
     let to = records::next_at(s, at);
@@ -124,7 +160,7 @@ pub fn tally_next(s: &[u8], previous: usize, at: usize, from: Sums) -> Tally
         return Tally::Refused(TOO_MUCH);
     }
     let gap = gap_at(s, previous, at);
-    tally_text(&s[start..to], one_on(from, b'N', gap))
+    tally_record(s, at, one_on(from, b'N', gap))
 }
 
 // The sums with the records after the one at `previous`.

@@ -101,6 +101,10 @@ noOperation = 30
 abbrev pub noWord : ℕ
 noWord = 31
 
+-- a record's CIGAR is not as long along the genome as the record's bounds
+abbrev pub notSpanning : ℕ
+notSpanning = 32
+
 -- a worklist's positions fall somewhere
 abbrev pub falling : ℕ
 falling = 33

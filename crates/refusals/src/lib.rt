@@ -50,6 +50,8 @@ pub const NOT_TOGETHER: u8 = 23;
 pub const NO_OPERATION: u8 = 30;
 // A count that no BAM word can hold: below 0, or above the largest.
 pub const NO_WORD: u8 = 31;
+// A record's CIGAR is not as long along the genome as the record's bounds.
+pub const NOT_SPANNING: u8 = 32;
 // A worklist's positions fall somewhere.
 pub const FALLING: u8 = 33;
 

@@ -9,7 +9,7 @@ use Rattle.vectors.specs.Rows.{callOf, originOf, recordedAnswer}
 
 -- how many counts a tally has
 abbrev pub counts : ℕ
-counts = 82
+counts = 84
 
 -- one more at place i of so many from the first on
 unfoldable pub bumped : List ℕ → ℕ → ℕ → ℕ → List ℕ
@@ -17,7 +17,7 @@ bumped tally first size i = if ltb i size then set tally (first + i) ((getD tall
 
 -- a row: all, by call, by the refusal's number that it expects, by where that comes from
 abbrev pub rowCounted : List ℕ → List ℕ → List ℕ
-rowCounted tally row = bumped (bumped (bumped (bumped tally 0 1 0) 2 21 (callOf row)) 44 32 (recordedAnswer row 0)) 76 6 (originOf row)
+rowCounted tally row = bumped (bumped (bumped (bumped tally 0 1 0) 2 21 (callOf row)) 44 33 (recordedAnswer row 0)) 77 7 (originOf row)
 
 -- and where it agrees: all, by call
 abbrev pub counted : List ℕ → List ℕ → Bool → List ℕ

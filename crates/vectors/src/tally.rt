@@ -9,9 +9,9 @@ use crate::rows;
 use crate::say;
 
 // The refusals' numbers, and 0 for none.
-const NUMBERS: usize = refusals::NO_WORD as usize + 1;
-// Where an expectation comes from: nowhere, the crate's answer, its error, or the documents where the crate panics, is narrowed or has no such call.
-const ORIGINS: usize = 6;
+const NUMBERS: usize = refusals::NOT_SPANNING as usize + 1;
+// Where an expectation comes from: nowhere, the crate's answer, its error, or the documents where the crate panics, is narrowed, has no such call or is departed from.
+const ORIGINS: usize = 7;
 // Where the counts stand.
 const ROWS: usize = 0;
 
@@ -117,7 +117,7 @@ fn tell_number(number: usize, rows: u64) {
 // Tells how many expectations come from one origin.
 fn tell_origin(origin: usize, rows: u64) {
     say::line(
-        b"nothing expected\nexpected by the crate's answer\nexpected by the crate's error\nexpected by document 01, the crate panics\nexpected by document 01, which narrows the crate\nexpected by the documents, the crate has no such call",
+        b"nothing expected\nexpected by the crate's answer\nexpected by the crate's error\nexpected by document 01, the crate panics\nexpected by document 01, which narrows the crate\nexpected by the documents, the crate has no such call\nexpected by document 02, which departs from the crate",
         origin,
     );
     tell_rows(rows);

@@ -135,6 +135,8 @@ mod tests {
         assert!(card.is_empty());
         assert!(write(&A.replace("3 15", "- 15")).0.unwrap_err().starts_with("refused 11: "));
         assert!(write("exon 0 1 0 1 0 M").0.unwrap_err().contains("strand"));
-        assert!(write("strand 1\nexon 0 1 0 1 0 .").0.unwrap_err().starts_with("refused 10: "));
+        assert!(write("strand 1\nexon 0 0 0 1 0 .").0.unwrap_err().starts_with("refused 10: "));
+        let short = "refused 32: a CIGAR whose genome length differs from its bounds";
+        assert_eq!(write(&A.replace("8M", "5M")).0.unwrap_err(), short);
     }
 }

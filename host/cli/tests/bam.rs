@@ -1,34 +1,22 @@
 //! `card --bam` on files that `samtools` and `minimap2` make. What is expected comes from document 02 and from the SAM specification:
 //! the text of an alignment says where each of its bases lies.
 
+mod program;
+
 use std::{
     fs,
-    io::Write,
     path::{Path, PathBuf},
-    process::{Command, Output, Stdio},
+    process::Output,
     sync::atomic::{AtomicUsize, Ordering},
 };
 
+use program::{run, PULINDRAXI};
 use pulindraxi::{
     asked::{GInterval, NInterval, NPosition},
     Bounds, Mapped, Transcript,
 };
 
 // ---- Programs and files
-
-/// Runs a program with an input.
-fn run(program: &str, arguments: &[&str], input: &[u8]) -> Output {
-    let mut child = Command::new(program)
-        .args(arguments)
-        .stdin(Stdio::piped())
-        .stdout(Stdio::piped())
-        .stderr(Stdio::piped())
-        .spawn()
-        .unwrap_or_else(|error| panic!("{program}: {error} (host/install.sh installs it)"));
-    // A program that refuses its arguments may not read its input.
-    let _ = child.stdin.take().unwrap().write_all(input);
-    child.wait_with_output().unwrap()
-}
 
 /// The output of a program that must succeed.
 fn made(program: &str, arguments: &[&str], input: &[u8]) -> Vec<u8> {
@@ -38,7 +26,7 @@ fn made(program: &str, arguments: &[&str], input: &[u8]) -> Vec<u8> {
 }
 
 fn pulindraxi(arguments: &[&str]) -> Output {
-    run(env!("CARGO_BIN_EXE_pulindraxi"), arguments, b"")
+    run(PULINDRAXI, arguments, b"")
 }
 
 /// An empty folder of a test.
@@ -78,12 +66,12 @@ fn bam(folder: &Path, name: &str, lines: &[String]) -> PathBuf {
 
 /// The card of a text of records.
 fn card_of(records: &str) -> Vec<u8> {
-    made(env!("CARGO_BIN_EXE_pulindraxi"), &["card"], records.as_bytes())
+    made(PULINDRAXI, &["card"], records.as_bytes())
 }
 
 /// The card that is written of an alignment.
 fn card_from(bam: &Path, more: &[&str]) -> Vec<u8> {
-    made(env!("CARGO_BIN_EXE_pulindraxi"), &[&["card", "--bam", text(bam)], more].concat(), b"")
+    made(PULINDRAXI, &[&["card", "--bam", text(bam)], more].concat(), b"")
 }
 
 // ---- What becomes a card

@@ -130,6 +130,11 @@ fn name(kind: Kind, answer: Answer) -> Result<String, Refusal> {
     }
 }
 
+/// What is said in answer to a question.
+pub(crate) fn named(kind: Kind, answer: Answer) -> String {
+    said(name(kind, answer), String::from)
+}
+
 fn asked_name(question: &Question) -> String {
     let Question { kind, start, end, strict, .. } = *question;
     let g = asked::GInterval::from(question.g());
@@ -150,12 +155,11 @@ fn asked_name(question: &Question) -> String {
 
 /// A question on which a transcript of both sides differs.
 fn asking(about: &'static str, what: String, mapper: &mut Mapper, lent: &Lent, question: &Question) -> Row {
-    let named = |answer| said(name(question.kind, answer), String::from);
     Row {
         about,
         input: format!("{what}: {}", asked_name(question)),
-        original: outcome(original::ask(mapper, question), named),
-        port: named(question.ask(lent)),
+        original: outcome(original::ask(mapper, question), |answer| named(question.kind, answer)),
+        port: named(question.kind, question.ask(lent)),
     }
 }
 
@@ -201,7 +205,7 @@ fn narrowings() -> Vec<Row> {
             ),
         ),
         building("9", case(1, None, vec![record([0, 0, 0, 0, 0], "2000000001D")])),
-        building("9", case(1, None, vec![record([2_000_000_000, 2_000_000_000, 0, 0, 0], "M")])),
+        building("9", case(1, None, vec![record([2_000_000_000, 2_000_000_001, 0, 0, 0], "M")])),
         building_length("9", 2_000_000_001, None),
         building("10", case(1, None, vec![record([0, 0, 0, 0, 0], "")])),
         building("12", case(1, Some([1, 0]), one_base())),
@@ -225,6 +229,40 @@ fn damaged() -> Row {
     asking("23", what, &mut mapper, &lent, &at(Kind::GToN, 2, 0, true))
 }
 
+/// Strictly from one number to another.
+fn between(kind: Kind, start: i32, end: i32) -> Question {
+    let plain = |base| Asked { base, ..Asked::default() };
+    Question { kind, start: plain(start), end: plain(end), missing: 0, strict: kind != Kind::InBounds }
+}
+
+/// Where document 02 departs from the crate.
+fn departures() -> Vec<Row> {
+    let (plain, backwards) = (case(1, None, one_base()), case(-1, None, one_base()));
+    let coding = case(1, Some([0, 1]), one_base());
+    let coding_backwards = case(-1, Some([0, 1]), one_base());
+    let ended = case(1, Some([0, 1]), vec![record([0, 3, 0, 1, 0], "M2N")]);
+    vec![
+        building("32", case(1, None, vec![record([0, 0, 0, 0, 0], "M")])),
+        building("32", case(1, None, vec![record([0, 1, 0, 0, 0], "")])),
+        building("32", case(1, None, vec![record([0, 0, 0, 0, 0], "M"), record([0, 1, 0, 1, 1], "S")])),
+        building("32", case(1, None, vec![record([0, 0, 0, 0, 0], "2147483647M2147483647M2M")])),
+        asking_case("14", &plain, &between(Kind::GToN, 2, 2)),
+        asking_case("14", &backwards, &between(Kind::GToN, 2, 2)),
+        asking_case("14", &plain, &between(Kind::GToC, 2, 2)),
+        asking_case("14", &coding, &between(Kind::GToC, 2, 2)),
+        asking_case("14", &coding_backwards, &between(Kind::GToC, 2, 2)),
+        asking_case("14", &plain, &between(Kind::NToG, 2, 2)),
+        asking_case("14", &backwards, &between(Kind::NToG, -1, -1)),
+        asking_case("15", &coding, &between(Kind::NToC, 2, 1)),
+        asking_case("15", &coding, &between(Kind::NToC, 1, -1)),
+        asking_case("15", &coding, &between(Kind::NToC, 1, 0)),
+        asking_case("15", &ended, &between(Kind::GToC, 3, 1)),
+        asking_case("in bounds", &plain, &between(Kind::InBounds, 1, 2)),
+        asking_case("in bounds", &plain, &between(Kind::InBounds, 2, 1)),
+        asking_case("in bounds", &plain, &between(Kind::InBounds, 1, 0)),
+    ]
+}
+
 fn panics() -> Vec<Row> {
     let coding = case(1, Some([1, 1]), one_base());
     let plain = case(1, None, one_base());
@@ -232,7 +270,7 @@ fn panics() -> Vec<Row> {
     let star = |base| Asked { base, offset: 0, star: true };
     vec![
         building("8", case(1, None, vec![record([0, 0, 0, 0, 0], "2147483648M")])),
-        building("9", case(1, None, vec![record([0, 0, 0, 0, 0], "2147483647M2147483647M")])),
+        building("9", case(1, None, vec![record([0, 0, 0, 0, 0], "2147483647D2147483647D")])),
         asking_case("14", &plain, &at(Kind::GToN, i32::MIN, 0, true)),
         asking_case("16", &coding, &Question { start: star(-1), end: star(i32::MAX), ..at(Kind::CToN, 0, 0, true) }),
         asking_case("17", &plain, &at(Kind::GToN, i32::MIN, 0, false)),
@@ -283,7 +321,7 @@ fn texts() -> Vec<Row> {
 /// The tables of docs/DIFFERENCES.md, in markdown. Two sides that agree are no difference.
 pub fn run() -> Result<Vec<String>, String> {
     let mut lines = Vec::new();
-    for rows in [narrowings(), panics(), texts()] {
+    for rows in [narrowings(), departures(), panics(), texts()] {
         for Row { about, input, original, port } in rows {
             if original == port {
                 return Err(format!("{input}: both say {port}"));

@@ -132,25 +132,32 @@ impl<P: Port> Judge<P> {
 
     /// Writes the counts and the differences, and says whether there are none.
     pub fn report(&self) -> bool {
-        let all = [Origin::Answered, Origin::Refused, Origin::Panicked, Origin::Narrowed, Origin::Added];
-        println!("{:<16} {:>10} {:>10} {:>10} {:>10} {:>10}", "", "answered", "error", "panic", "narrowed", "added");
-        let mut sums = [0; 5];
+        let all = [
+            (Origin::Answered, "answered"),
+            (Origin::Refused, "error"),
+            (Origin::Requested, "requested"),
+            (Origin::Panicked, "panic"),
+            (Origin::Narrowed, "narrowed"),
+            (Origin::Added, "added"),
+        ];
+        println!("{:<16}{}", "", all.map(|(_, word)| format!(" {word:>10}")).concat());
+        let mut sums = [0; 6];
         for (entry, tally) in &self.tallies {
-            let counts = all.map(|origin| tally.origins.get(&origin).copied().unwrap_or(0));
+            let counts = all.map(|(origin, _)| tally.origins.get(&origin).copied().unwrap_or(0));
             for (sum, count) in sums.iter_mut().zip(counts) {
                 *sum += count;
             }
-            let [a, b, c, d, e] = counts;
-            println!("{entry:<16} {a:>10} {b:>10} {c:>10} {d:>10} {e:>10}");
+            println!("{entry:<16}{}", counts.map(|count| format!(" {count:>10}")).concat());
         }
         for fault in &self.faults {
             println!("{fault}");
         }
         let differences: u64 = self.tallies.values().map(|tally| tally.differences).sum();
         println!(
-            "{} calls compared with the crate, {} more with document 01 alone; {differences} differences",
+            "{} calls as the crate, {} as document 02 departs from it, {} more as the documents alone; {differences} differences",
             sums[0] + sums[1],
-            sums[2] + sums[3] + sums[4],
+            sums[2],
+            sums[3] + sums[4] + sums[5],
         );
         differences == 0
     }

@@ -17,7 +17,10 @@ use trials::{
     Kind, Lent, Question,
 };
 
-use crate::settle::{self, Built, Expected, Origin};
+use crate::{
+    differences,
+    settle::{self, Built, Expected, Origin},
+};
 
 /// The file is the same for the same seed.
 const SEED: u64 = 2024;
@@ -30,8 +33,8 @@ const ALIKE_OTHERS: u32 = 8;
 
 /// The refusals that each call can give, 0 for an answer. A sample that lacks one is no sample.
 const WANTED: [(Call, &[u32]); 19] = [
-    (Call::BuildCard, &[0, 1, 3, 4, 5, 6, 7, 8, 9, 10, 11, 12, 21, 22]),
-    (Call::Build, &[0, 1, 2, 3, 4, 5, 6, 7, 8, 9, 10, 11, 12, 21]),
+    (Call::BuildCard, &[0, 1, 3, 4, 5, 6, 7, 8, 9, 10, 11, 12, 21, 22, 32]),
+    (Call::Build, &[0, 1, 2, 3, 4, 5, 6, 7, 8, 9, 10, 11, 12, 21, 32]),
     (Call::BuildLength, &[0, 4, 9, 11, 12]),
     (Call::GToN, &[0, 14, 17, 18, 19, 23]),
     (Call::GToC, &[0, 13, 14, 15, 17, 18, 19, 23]),
@@ -43,7 +46,7 @@ const WANTED: [(Call, &[u32]); 19] = [
     (Call::IsCoding, &[0, 23]),
     (Call::ReadCigar, &[0, 3, 7, 8]),
     (Call::WriteCigar, &[0, 3, 7, 8, 20]),
-    (Call::WriteCard, &[0, 1, 2, 3, 4, 5, 6, 7, 8, 9, 10, 11, 12, 20, 21]),
+    (Call::WriteCard, &[0, 1, 2, 3, 4, 5, 6, 7, 8, 9, 10, 11, 12, 20, 21, 32]),
     (Call::TrimPrefix, &[0]),
     (Call::TrimSuffix, &[0]),
     (Call::Changed, &[0]),
@@ -225,6 +228,35 @@ impl Recorder {
         self.damaged(&built.source)
     }
 
+    /// A worked transcript, and the questions to it that are answered by name.
+    fn places(&mut self, index: usize, case: &Case) -> Result<(), String> {
+        let mut built = settle::build(case)?.1.ok_or("a worked transcript is not built")?;
+        let row = Row { payload: case.card(), ..Row::new(Call::BuildCard) };
+        self.push_built(row, &Ok(built.source.clone()), Origin::Answered);
+        for ((_, kind, numbers, name), strict) in places().into_iter().filter(|(place, _)| place.0 == index) {
+            let [start, end] = numbers.map(|base| Asked { base, ..Asked::default() });
+            let question = Question { kind, start, end, missing: 0, strict: strict && kind != Kind::InBounds };
+            let answer = differences::named(kind, question.expect(Some(&built.source)));
+            if answer != name {
+                return Err(format!("{question:?}: {answer}, not {name}"));
+            }
+            self.push_question(&question, Some(&mut built))?;
+        }
+        Ok(())
+    }
+
+    /// Records that may not span their bounds, as records and as a card.
+    fn span(&mut self, case: &Case, number: u32) -> Result<(), String> {
+        let ((expected, origin), _) = settle::build(case)?;
+        if self::number(&expected) != number {
+            return Err(format!("{case:?}: {expected:?}, not {number}"));
+        }
+        let bytes = case.lay();
+        self.push_built(row_of(Call::Build, case.laid(&bytes), 0), &expected, origin);
+        self.push_built(Row { payload: case.card(), ..Row::new(Call::BuildCard) }, &expected, origin);
+        Ok(())
+    }
+
     /// Now and then: memory changed in one place, and questions to it.
     fn damaged(&mut self, source: &Source) -> Result<(), String> {
         if !self.rng.gen_ratio(1, 3) {
@@ -386,51 +418,165 @@ impl Recorder {
     }
 }
 
-/// A record at 0 that holds a CIGAR.
-fn alone(ord: i32, cigar: &[u8]) -> Record {
-    Record { numbers: [0, 0, 0, 0, ord], cigar: cigar.to_vec() }
-}
-
-/// The transcripts of the table of places.
-fn worked() -> Vec<Case> {
-    let case = |strand, cds: Option<[i32; 2]>, records: &[([i32; 5], &str)]| Case {
+/// A transcript of records: genome bounds, tx bounds, `ord`, CIGAR.
+fn case(strand: i32, cds: Option<[i32; 2]>, records: &[([i32; 5], &str)]) -> Case {
+    let record = |(numbers, cigar): &([i32; 5], &str)| Record { numbers: *numbers, cigar: cigar.as_bytes().to_vec() };
+    Case {
         strand,
         cds_start: cds.map(|c| c[0]),
         cds_end: cds.map(|c| c[1]),
-        records: records
-            .iter()
-            .map(|(numbers, cigar)| Record { numbers: *numbers, cigar: cigar.as_bytes().to_vec() })
-            .collect(),
-    };
-    vec![
+        records: records.iter().map(record).collect(),
+    }
+}
+
+/// The transcripts of the table of places, and `4M2I`, whose last g. numbers stand beside its last base.
+fn worked() -> [Case; 6] {
+    [
         case(1, Some([3, 15]), &[([10, 20, 0, 10, 0], "10M"), ([25, 33, 10, 18, 1], "8M")]),
         case(-1, Some([3, 15]), &[([10, 20, 8, 18, 1], "10M"), ([25, 33, 0, 8, 0], "8M")]),
         case(1, None, &[([100, 110, 0, 8, 0], "4M2I4M")]),
         case(1, None, &[([100, 108, 0, 10, 0], "4M2D4M")]),
+        case(1, Some([0, 4]), &[([0, 6, 0, 4, 0], "4M2I")]),
+        case(-1, Some([0, 4]), &[([0, 6, 0, 4, 0], "4M2I")]),
     ]
+}
+
+/// A question to one of the worked transcripts: which of them, what is asked from where to where, and the answer's name or refusal.
+type Place = (usize, Kind, [i32; 2], &'static str);
+
+/// The table of places, asked strictly.
+const PLACES: [Place; 23] = [
+    (0, Kind::GToN, [11, 11], "n.1"),
+    (0, Kind::GToC, [11, 11], "c.-3"),
+    (0, Kind::GToC, [13, 13], "c.-1"),
+    (0, Kind::GToC, [14, 14], "c.1"),
+    (0, Kind::GToC, [21, 21], "c.7+1"),
+    (0, Kind::GToC, [23, 23], "c.7+3"),
+    (0, Kind::GToC, [24, 24], "c.8-2"),
+    (0, Kind::GToC, [33, 33], "c.*3"),
+    (0, Kind::GToN, [34, 34], "refuses 14"),
+    (0, Kind::GToN, [35, 35], "refuses 14"),
+    (0, Kind::GToN, [10, 10], "refuses 14"),
+    (1, Kind::GToN, [33, 33], "n.1"),
+    (1, Kind::GToC, [23, 23], "c.5+3"),
+    (1, Kind::GToN, [11, 33], "n.1_18"),
+    (1, Kind::GToN, [22, 33], "n.1_9-2"),
+    (1, Kind::NToG, [1, 18], "g.11_33"),
+    (2, Kind::GToN, [105, 105], "n.4_5, uncertain"),
+    (3, Kind::NToG, [5, 5], "g.104_105, uncertain"),
+    (3, Kind::GToN, [105, 105], "n.7"),
+    (4, Kind::GToN, [5, 5], "n.4_5, uncertain"),
+    (4, Kind::GToC, [5, 5], "refuses 15"),
+    (5, Kind::GToN, [1, 1], "n.4_5, uncertain"),
+    (5, Kind::GToC, [1, 1], "refuses 15"),
+];
+
+/// What lies at both ends of transcript A and of B, and behind them, asked strictly.
+const ENDS: [(Kind, [i32; 2], &str); 26] = [
+    (Kind::GToN, [34, 34], "refuses 14"),
+    (Kind::GToN, [11, 34], "refuses 14"),
+    (Kind::GToN, [34, 11], "refuses 14"),
+    (Kind::GToN, [10, 33], "refuses 14"),
+    (Kind::GToN, [33, 10], "refuses 14"),
+    (Kind::GToC, [34, 34], "refuses 14"),
+    (Kind::GToC, [34, 11], "refuses 14"),
+    (Kind::NToG, [19, 19], "refuses 14"),
+    (Kind::NToG, [1, 19], "refuses 14"),
+    (Kind::NToG, [19, 1], "refuses 14"),
+    (Kind::NToG, [-1, -1], "refuses 14"),
+    (Kind::NToG, [-1, 18], "refuses 14"),
+    (Kind::NToG, [18, -1], "refuses 14"),
+    (Kind::NToC, [18, 1], "c.*3_-3"),
+    (Kind::NToC, [19, 1], "refuses 15"),
+    (Kind::NToC, [1, 19], "refuses 15"),
+    (Kind::NToC, [-1, 1], "refuses 15"),
+    (Kind::NToC, [1, -1], "refuses 15"),
+    (Kind::NToC, [1, 0], "refuses 15"),
+    (Kind::InBounds, [11, 33], "yes"),
+    (Kind::InBounds, [33, 11], "yes"),
+    (Kind::InBounds, [11, 34], "no"),
+    (Kind::InBounds, [34, 11], "no"),
+    (Kind::InBounds, [34, 34], "no"),
+    (Kind::InBounds, [10, 33], "no"),
+    (Kind::InBounds, [33, 10], "no"),
+];
+
+/// The same ends, and n.0, asked leniently.
+const LENIENT_ENDS: [Place; 11] = [
+    (0, Kind::GToN, [10, 10], "n.-1"),
+    (0, Kind::GToC, [10, 10], "c.-4"),
+    (0, Kind::GToN, [34, 34], "n.19"),
+    (0, Kind::NToG, [19, 19], "g.34"),
+    (0, Kind::NToC, [19, 1], "c.*4_-3"),
+    (0, Kind::NToC, [1, -1], "c.-3_-4"),
+    (1, Kind::GToN, [34, 34], "n.-1"),
+    (1, Kind::GToC, [10, 10], "c.*4"),
+    (1, Kind::NToG, [-1, -1], "g.34"),
+    (1, Kind::NToG, [19, 19], "g.10"),
+    (4, Kind::NToC, [0, 0], "c.0"),
+];
+
+/// The worked questions, each with whether it is strict.
+fn places() -> Vec<(Place, bool)> {
+    let ends = (0..2).flat_map(|index| ENDS.map(|(kind, numbers, name)| (index, kind, numbers, name)));
+    let strict = PLACES.into_iter().chain(ends).map(|place| (place, true));
+    strict.chain(LENIENT_ENDS.map(|place| (place, false))).collect()
+}
+
+/// Records whose CIGARs go further or less far than their bounds, what else is wrong with them, and the refusal.
+fn spans() -> Vec<(Case, u32)> {
+    let mut cases = Vec::new();
+    for strand in [1, -1] {
+        let one = |end: i32, cigar: &str, number| (case(strand, None, &[([10, end, 0, 4, 0], cigar)]), number);
+        let two = |bounds: [[i32; 2]; 2], [left, right]: [&str; 2], number| {
+            let numbers = |index: usize| [bounds[index][0], bounds[index][1], 0, 0, strand * index as i32];
+            (case(strand, None, &[(numbers(0), left), (numbers(1), right)]), number)
+        };
+        cases.extend([
+            one(14, "4M", 0),
+            one(17, "4M", 32),
+            one(13, "4M", 32),
+            // As far as it goes along the transcript.
+            one(14, "4M2I", 32),
+            one(16, "4M2D", 32),
+            one(17, "4MS", 7),
+            one(17, "4M2", 7),
+            one(17, "2147483648M", 8),
+            one(11, "", 32),
+            one(10, "2147483647M2147483647M2M", 32),
+            one(10, "2000000001D", 9),
+        ]);
+        cases.extend([
+            two([[2, 5], [10, 14]], ["2M", "4M"], 32),
+            two([[2, 4], [10, 14]], ["2M", "5M"], 32),
+            two([[2, 5], [10, 14]], ["2M", "S"], 32),
+            two([[2, 4], [10, 15]], ["S", "4M"], 7),
+            two([[2, 2], [10, 11]], ["", ""], 32),
+        ]);
+    }
+    cases
 }
 
 /// What is over a limit, and what is just within.
 fn large() -> Vec<Case> {
-    let case = |strand: i32, records: Vec<Record>| Case { strand, cds_start: None, cds_end: None, records };
-    let many = |count: i32, cigar: &[u8]| (0..count).map(|ord| alone(ord, cigar)).collect::<Vec<_>>();
+    let many = |count: usize, cigar: &[u8]| draw::alike(1, count, cigar);
     let long = |length: usize| [vec![b'0'; length - 1], b"M".to_vec()].concat();
     vec![
-        case(1, many(512, b"=M=")),
-        case(1, many(513, b"")),
-        case(1, many(1, &vec![b'D'; MOST_SEGMENTS])),
-        case(1, many(1, &vec![b'D'; MOST_SEGMENTS + 1])),
-        case(1, many(1, &long(MOST_TEXT))),
-        case(1, many(1, &long(MOST_TEXT + 1))),
-        case(1, many(1, b"2000000000M")),
-        case(1, many(1, b"2000000001M")),
-        case(1, many(1, b"2147483647M2147483647M")),
-        case(1, many(1, b"99999999999M")),
-        case(1, many(1, b"99999999999S")),
-        case(1, many(1, b"99999999999")),
-        case(1, many(2, b"")),
-        case(1, many(1, b"")),
-        case(1, many(1, b"0M")),
+        many(512, b"=M="),
+        many(513, b""),
+        many(1, &vec![b'D'; MOST_SEGMENTS]),
+        many(1, &vec![b'D'; MOST_SEGMENTS + 1]),
+        many(1, &long(MOST_TEXT)),
+        many(1, &long(MOST_TEXT + 1)),
+        many(1, b"2000000000M"),
+        many(1, b"2000000001M"),
+        many(1, b"2147483647D2147483647D"),
+        many(1, b"99999999999M"),
+        many(1, b"99999999999S"),
+        many(1, b"99999999999"),
+        many(2, b""),
+        many(1, b""),
+        many(1, b"0M"),
     ]
 }
 
@@ -440,15 +586,16 @@ fn draw_all(recorder: &mut Recorder) -> Result<(), String> {
             recorder.transcript(case)?;
         }
     }
-    for (strand, g, n, strict) in [(1, 10, -1, false), (1, 34, 19, true), (-1, 23, 8, true)] {
-        let case = &worked()[usize::from(strand == -1)];
-        let mut built = settle::build(case)?.1.expect("the table's transcripts build");
-        let row = Row { payload: case.card(), ..Row::new(Call::BuildCard) };
-        recorder.push_built(row, &Ok(built.source.clone()), Origin::Answered);
-        let at = Asked { base: g, ..Asked::default() };
-        let question = Question { kind: Kind::GToN, start: at, end: at, missing: 0, strict };
-        recorder.push_question(&question, Some(&mut built))?;
-        assert_eq!(recorder.rows[recorder.rows.len() - 1].answer[2], n);
+    for (index, case) in worked().iter().enumerate() {
+        recorder.places(index, case)?;
+    }
+    // P14 and P15.
+    let elements = settle::read_cigar(b"M0X3=")?.0.unwrap_or_default();
+    recorder.read_cigar(b"M0X3=")?;
+    recorder.write_cigar(&elements, elements.len(), 5)?;
+    recorder.trim(b"ACGT", b"ACT")?;
+    for (case, number) in spans() {
+        recorder.span(&case, number)?;
     }
     recorder.card([b"TXC\x01\x00".to_vec(), vec![0; MOST_CARD - 4]].concat())?;
     for _ in 0..DRAWN {

@@ -1,4 +1,4 @@
-//! What to expect of the port: the crate's answer where it counts, and document 01's where it does not.
+//! What to expect of the port: the crate's answer where it counts, and the documents' where it does not.
 
 use hgvs::mapper::alignment::Mapper;
 use pulindraxi::{
@@ -12,7 +12,10 @@ use trials::{
     Question,
 };
 
-use crate::original::{self, Outcome};
+use crate::{
+    departures,
+    original::{self, Outcome},
+};
 
 /// Where an expected answer comes from.
 #[derive(Clone, Copy, Debug, PartialEq, Eq, PartialOrd, Ord)]
@@ -28,6 +31,19 @@ pub enum Origin {
     Narrowed = 4,
     /// The crate has no such question, or cannot be asked it.
     Added = 5,
+    /// Document 02 departs from the crate.
+    Requested = 6,
+}
+
+/// Whose answer is due on an input.
+#[derive(Clone, Copy, Debug, PartialEq, Eq)]
+pub enum Due {
+    /// The crate's.
+    Crates,
+    /// Document 01's, which narrows the crate here or differs from it as it is listed.
+    Narrowed,
+    /// Document 02's, which departs from the crate here.
+    Requested,
 }
 
 /// An expected answer or refusal, and where it comes from.
@@ -44,23 +60,26 @@ const NARROWING: [Refusal; 7] = [
     Refusal::BadCds,
 ];
 
-/// Puts the crate's outcome beside document 01's. Where the crate counts and they differ, that is the error.
+/// Puts the crate's outcome beside the documents'. Where the crate's is due and they differ, that is the error; so it is where a
+/// departure is due and there is none.
 pub fn settle<T: PartialEq + std::fmt::Debug>(
     outcome: Option<Outcome<T>>,
     paper: Result<T, Refusal>,
-    narrowed: bool,
+    due: Due,
 ) -> Result<Expected<T>, String> {
     let (said, origin) = match outcome {
         None => return Ok((paper, Origin::Added)),
-        Some(_) if narrowed => return Ok((paper, Origin::Narrowed)),
+        Some(_) if due == Due::Narrowed => return Ok((paper, Origin::Narrowed)),
+        Some(Outcome::Panicked) if due == Due::Requested => return Ok((paper, Origin::Requested)),
         Some(Outcome::Panicked) => return Ok((paper, Origin::Panicked)),
         Some(Outcome::Answered(answer)) => (Ok(answer), Origin::Answered),
         Some(Outcome::Refused(refusal)) => (Err(refusal), Origin::Refused),
     };
-    if said == paper {
-        Ok((said, origin))
-    } else {
-        Err(format!("the crate says {said:?}, document 01 {paper:?}"))
+    match (due == Due::Requested, said == paper) {
+        (false, true) => Ok((said, origin)),
+        (true, false) => Ok((paper, Origin::Requested)),
+        (false, false) => Err(format!("the crate says {said:?}, the documents {paper:?}")),
+        (true, true) => Err(format!("document 02 departs from the crate, but both say {paper:?}")),
     }
 }
 
@@ -76,13 +95,23 @@ fn is_in_order(case: &Case) -> bool {
     })
 }
 
-/// Whether a refusal narrows the crate on this input. Records out of order are refused by 5, or by 6 where an earlier record
-/// in the list isn't adjacent to the one before it.
-fn is_narrowed<T>(case: &Case, paper: &Result<T, Refusal>) -> bool {
+/// Whose answer is due where a narrowing refusal may apply.
+fn due(narrowed: bool) -> Due {
+    if narrowed {
+        Due::Narrowed
+    } else {
+        Due::Crates
+    }
+}
+
+/// Whose answer is due to building's input. Records out of order are refused by 5, or by 6 where an earlier record in the list isn't
+/// adjacent to the one before it. The crate holds no CIGAR to its bounds.
+fn due_to<T>(case: &Case, paper: &Result<T, Refusal>) -> Due {
     match paper {
-        Err(Refusal::NotAdjacent) => !is_in_order(case),
-        Err(refusal) => NARROWING.contains(refusal),
-        Ok(_) => false,
+        Err(Refusal::NotSpanning) => Due::Requested,
+        Err(Refusal::NotAdjacent) => due(!is_in_order(case)),
+        Err(refusal) => due(NARROWING.contains(refusal)),
+        Ok(_) => Due::Crates,
     }
 }
 
@@ -117,11 +146,7 @@ pub struct Built {
 pub type Building = Result<(Expected<Source>, Option<Built>), String>;
 
 /// Settles what was built.
-fn settle_built(
-    outcome: Option<Outcome<(Source, Mapper)>>,
-    paper: Result<Source, Refusal>,
-    narrowed: bool,
-) -> Building {
+fn settle_built(outcome: Option<Outcome<(Source, Mapper)>>, paper: Result<Source, Refusal>, due: Due) -> Building {
     let mut mapper = None;
     let outcome = outcome.map(|outcome| {
         outcome.map(|(source, built)| {
@@ -129,7 +154,7 @@ fn settle_built(
             source
         })
     });
-    let expected = settle(outcome, paper, narrowed)?;
+    let expected = settle(outcome, paper, due)?;
     let built = match (&expected.0, mapper) {
         (Ok(source), Some(mapper)) => Some(Built { source: source.clone(), mapper }),
         _ => None,
@@ -141,35 +166,36 @@ fn settle_built(
 pub fn build(case: &Case) -> Building {
     let bytes = case.lay();
     let paper = paper::build(case.laid(&bytes)).map(Source::Records);
-    let narrowed = is_narrowed(case, &paper);
+    let due = due_to(case, &paper);
     let outcome = original::build(case);
     let outcome = outcome.map(|built| built.map(|mapper| (Source::Records(aligned(&mapper)), mapper)));
-    settle_built(outcome, paper, narrowed)
+    settle_built(outcome, paper, due)
 }
 
 /// What to expect of building from a length.
 pub fn build_length(length: i32, cds_start: Option<i32>, cds_end: Option<i32>) -> Building {
     let paper = paper::build_length(length, Cds::new(cds_start, cds_end));
-    let narrowed = paper.as_ref().is_err_and(|refusal| NARROWING.contains(refusal));
+    let due = due(paper.as_ref().is_err_and(|refusal| NARROWING.contains(refusal)));
     let outcome = original::build_length(length, cds_start, cds_end);
     let outcome = outcome.map(|mapper| (Source::Length(i64::from(mapper.tgt_len), cds(&mapper)), mapper));
-    settle_built(Some(outcome), paper, narrowed)
+    settle_built(Some(outcome), paper, due)
 }
 
 /// What to expect of a question.
 pub fn ask(built: &mut Built, question: &Question) -> Result<Expected<Answer>, String> {
     let answer = question.expect(Some(&built.source));
     let paper = Refusal::check(answer.number).map(|()| answer);
-    let narrowed = paper == Err(Refusal::NoGenome);
-    settle(Some(original::ask(&mut built.mapper, question)), paper, narrowed)
+    let departs = departures::departs(&built.source, question);
+    let due = if departs { Due::Requested } else { due(paper == Err(Refusal::NoGenome)) };
+    settle(Some(original::ask(&mut built.mapper, question)), paper, due)
 }
 
 /// What to expect of reading CIGAR text: the elements.
 pub fn read_cigar(text: &[u8]) -> Result<Expected<Vec<Element>>, String> {
     let paper = paper::read_cigar(text, MOST_SEGMENTS);
-    let narrowed = paper == Err(Refusal::TooMuch);
+    let due = due(paper == Err(Refusal::TooMuch));
     let element = |(count, letter): paper::Counted| Element::new(count as i32, letter);
-    settle(original::read_cigar(text), paper.map(|elements| elements.into_iter().map(element).collect()), narrowed)
+    settle(original::read_cigar(text), paper.map(|elements| elements.into_iter().map(element).collect()), due)
 }
 
 /// What to expect of writing the first `number` elements into so many bytes: the text. The crate prints, into as many bytes
@@ -178,16 +204,16 @@ pub fn write_cigar(number: usize, elements: &[Element], room: usize) -> Result<E
     let elements = &elements[..number.min(elements.len())];
     let (counts, letters): (Vec<i32>, Vec<u8>) = elements.iter().map(|e| (e.count, e.letter)).unzip();
     let paper = paper::write_cigar(number, &counts, &letters, room);
-    let narrowed = paper.is_err() || counts.iter().any(|&count| count <= 0);
-    settle(Some(original::write_cigar(elements)), paper, narrowed)
+    let due = due(paper.is_err() || counts.iter().any(|&count| count <= 0));
+    settle(Some(original::write_cigar(elements)), paper, due)
 }
 
 /// What to expect of trimming the front and the back.
 pub fn trim(reference: &[u8], alternative: &[u8]) -> [Result<Expected<usize>, String>; 2] {
-    let beyond_ascii = !reference.is_ascii() || !alternative.is_ascii();
+    let due = due(!reference.is_ascii() || !alternative.is_ascii());
     let [front, back] = original::trim(reference, alternative).map_or([None, None], |trimmed| trimmed.map(Some));
     [
-        settle(front, Ok(paper::prefix(reference, alternative)), beyond_ascii),
-        settle(back, Ok(paper::suffix(reference, alternative)), beyond_ascii),
+        settle(front, Ok(paper::prefix(reference, alternative)), due),
+        settle(back, Ok(paper::suffix(reference, alternative)), due),
     ]
 }

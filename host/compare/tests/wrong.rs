@@ -1,8 +1,9 @@
 //! The comparison reports what is wrong: the proved entries with one answer changed differ just where they were changed. Among
 //! them are the wrong programs that document 01 names: a mapper that refuses everything or always says n.1, a trimmer that
-//! removes nothing, a builder that fills the first segment and leaves the rest zero.
+//! removes nothing, a builder that fills the first segment and leaves the rest zero. Others keep the crate's rules where document 02
+//! departs from them.
 
-use compare::{original, random, Entries, Judge, Port};
+use compare::{departures::departs, original, random, Entries, Judge, Port};
 use pulindraxi::{
     boundary::{Answer, Cds, Position},
     limits::MOST_SEGMENTS,
@@ -17,7 +18,13 @@ type Writing = fn(&[Element], Said<Vec<u8>>) -> Said<Vec<u8>>;
 /// The proved entries, and what becomes of each answer; by default nothing.
 struct Wrong {
     entries: Entries,
+    /// The transcript that was built last.
+    source: Option<Source>,
     build: fn(Source) -> Said<Source>,
+    /// What becomes of a refused building.
+    unbuilt: fn(Refusal) -> Said<Option<Source>>,
+    /// Which questions are answered by the crate's rules: leniently, or with yes.
+    kept: fn(&Source, &Question) -> bool,
     ask: fn(Kind, Answer) -> Said<Answer>,
     read: fn(Vec<Element>) -> Said<Vec<Element>>,
     write: Writing,
@@ -28,7 +35,10 @@ impl Default for Wrong {
     fn default() -> Wrong {
         Wrong {
             entries: Entries::default(),
+            source: None,
             build: Ok,
+            unbuilt: Err,
+            kept: |_, _| false,
             ask: |_, answer| Ok(answer),
             read: Ok,
             write: |_, text| text,
@@ -39,15 +49,25 @@ impl Default for Wrong {
 
 impl Port for Wrong {
     fn build(&mut self, case: &Case) -> Said<Option<Source>> {
-        self.entries.build(case)?.map(self.build).transpose()
+        match self.entries.build(case) {
+            Ok(source) => {
+                self.source.clone_from(&source);
+                source.map(self.build).transpose()
+            }
+            Err(refusal) => (self.unbuilt)(refusal),
+        }
     }
 
     fn build_length(&mut self, length: i32, cds: Cds) -> Said<Option<Source>> {
-        self.entries.build_length(length, cds)?.map(self.build).transpose()
+        self.source = self.entries.build_length(length, cds)?;
+        self.source.clone().map(self.build).transpose()
     }
 
     fn ask(&self, question: &Question) -> Said<Answer> {
-        (self.ask)(question.kind, self.entries.ask(question)?)
+        let is_kept = self.source.as_ref().is_some_and(|source| (self.kept)(source, question));
+        let answer = self.entries.ask(&Question { strict: question.strict && !is_kept, ..*question })?;
+        let yes = is_kept && question.kind == Kind::InBounds;
+        (self.ask)(question.kind, if yes { Answer { mark: 1, ..answer } } else { answer })
     }
 
     fn read_cigar(&self, text: &[u8]) -> Said<Vec<Element>> {
@@ -171,6 +191,42 @@ fn a_builder_that_fills_the_first_segment_alone() {
         ..Wrong::default()
     };
     assert_eq!(differing(port), ["txc_build"]);
+}
+
+#[test]
+fn a_mapper_that_keeps_the_crates_bounds() {
+    let keeping = |kept| differing(Wrong { kept, ..Wrong::default() });
+    assert_eq!(keeping(departs), ["txc_g_to_c", "txc_g_to_n", "txc_in_bounds", "txc_n_to_c", "txc_n_to_g"]);
+    // One side of one end alone.
+    assert_eq!(keeping(|of, asked| departs(of, asked) && asked.kind == Kind::GToN), ["txc_g_to_n"]);
+    assert_eq!(
+        keeping(|of, asked| departs(of, asked) && asked.kind == Kind::NToG && of.head().strand == -1),
+        ["txc_n_to_g"]
+    );
+    assert_eq!(
+        keeping(|of, asked| departs(of, asked) && asked.kind == Kind::NToC && asked.end.base <= 0),
+        ["txc_n_to_c"]
+    );
+    assert_eq!(
+        keeping(|of, asked| departs(of, asked)
+            && asked.kind == Kind::NToC
+            && asked.start.base > 0
+            && asked.end.base > 0),
+        ["txc_n_to_c"]
+    );
+    assert_eq!(
+        keeping(|of, asked| departs(of, asked) && asked.kind == Kind::InBounds && asked.start == asked.end),
+        ["txc_in_bounds"]
+    );
+}
+
+#[test]
+fn a_builder_that_holds_no_cigar_to_its_bounds() {
+    let unbuilt = |refusal| if refusal == Refusal::NotSpanning { Ok(None) } else { Err(refusal) };
+    assert_eq!(differing(Wrong { unbuilt, ..Wrong::default() }), ["txc_build"]);
+    // By another number.
+    let unbuilt = |refusal| Err(if refusal == Refusal::NotSpanning { Refusal::BadBound } else { refusal });
+    assert_eq!(differing(Wrong { unbuilt, ..Wrong::default() }), ["txc_build"]);
 }
 
 #[test]

@@ -133,7 +133,8 @@ fn narrow(number: i64) -> i32 {
     number.clamp(0, i64::from(i32::MAX)) as i32
 }
 
-/// A transcript that builds, unless its numbers grow too large. Records need not match their CIGARs.
+/// A transcript that builds, unless its numbers grow too large or a record's bounds are not as far apart as its CIGAR goes. The
+/// tx bounds need not match the CIGARs.
 pub fn whole<R: Rng>(rng: &mut R) -> Case {
     let strand = if rng.gen() { 1 } else { -1 };
     let (count, most_elements, largest) = match rng.gen_range(0..1000) {
@@ -143,7 +144,7 @@ pub fn whole<R: Rng>(rng: &mut R) -> Case {
         50..=449 => (rng.gen_range(4..=9), 5, 12),
         _ => (rng.gen_range(1..=3), 6, 5),
     };
-    let matching = rng.gen_ratio(2, 3);
+    let (spanning, matching) = (rng.gen_ratio(5, 6), rng.gen_ratio(2, 3));
     let largest_gap = *[0, 3, 9, 1000].choose(rng).expect("not empty");
     let mut at = match rng.gen_range(0..10) {
         0..=2 => 0,
@@ -156,7 +157,8 @@ pub fn whole<R: Rng>(rng: &mut R) -> Case {
     for _ in 0..count {
         let elements = rng.gen_range(usize::from(count == 1)..=most_elements);
         let (cigar, own) = cigar(rng, elements, largest);
-        let end = at + if matching { own.genome } else { rng.gen_range(0..=largest) };
+        let other = *[own.transcript, own.genome + 3, rng.gen_range(0..=largest)].choose(rng).expect("not empty");
+        let end = at + if spanning || rng.gen() { own.genome } else { other };
         let long = if matching { own.transcript } else { rng.gen_range(0..=largest) };
         records.push(Record { numbers: [narrow(at), narrow(end), 0, narrow(long), 0], cigar });
         reach.transcript += own.transcript;
@@ -195,6 +197,27 @@ fn cds<R: Rng>(rng: &mut R, length: i32) -> (Option<i32>, Option<i32>) {
     }
 }
 
+/// So many records with one CIGAR, one after the other, each as long on the genome as that goes.
+pub fn alike(strand: i32, count: usize, cigar: &[u8]) -> Case {
+    let span = paper::read_cigar(cigar, MOST_SEGMENTS).map_or(0, |elements| paper::span(&elements));
+    let record = |index: usize| {
+        let [start, end] = [index, index + 1].map(|index| narrow(index as i64 * span));
+        Record { numbers: [start, end, 0, 0, index as i32 * strand], cigar: cigar.to_vec() }
+    };
+    Case { strand, cds_start: None, cds_end: None, records: (0..count).map(record).collect() }
+}
+
+/// Moves a record's end to where its CIGAR ends, and the records after it along.
+fn fit(case: &mut Case, index: usize) {
+    let Record { numbers: [start, end, ..], cigar } = &case.records[index];
+    let Ok(elements) = paper::read_cigar(cigar, MOST_SEGMENTS) else { return };
+    let by = i64::from(*start) + paper::span(&elements) - i64::from(*end);
+    let bounds = case.records[index..].iter_mut().flat_map(|record| &mut record.numbers[..2]);
+    for bound in bounds.skip(1) {
+        *bound = narrow(i64::from(*bound) + by);
+    }
+}
+
 /// Puts one fault, or what may be one, into a transcript.
 pub fn spoil<R: Rng>(rng: &mut R, case: &mut Case) {
     let index = rng.gen_range(0..case.records.len());
@@ -214,12 +237,14 @@ pub fn spoil<R: Rng>(rng: &mut R, case: &mut Case) {
             case.records.swap(index, other);
         }
         8 => {
-            record.cigar = [&b""[..], b"0M", b"5", b"2147483647M", b"2147483648M", b"99999999999S"]
-                .choose(rng)
-                .expect("not empty")
-                .to_vec()
+            let texts = [&b""[..], b"0M", b"5", b"2147483647M", b"2147483648M", b"99999999999S", b"2147483647D"];
+            record.cigar = texts.choose(rng).expect("not empty").to_vec();
         }
-        9 => record.cigar.extend(b"2147483647M"),
+        9 => {
+            // The last goes 2 to the power of 32 along the genome, of which 32 bits keep 0.
+            let texts = [&b"2147483647M"[..], b"2147483647D", b"2147483647I2147483647N2X"];
+            record.cigar.extend(*texts.choose(rng).expect("not empty"));
+        }
         10 => {
             let at = rng.gen_range(0..=record.cigar.len());
             record.cigar.insert(at, *b"=DIMNXSHP*0129 \xc3-".choose(rng).expect("not empty"));
@@ -227,6 +252,9 @@ pub fn spoil<R: Rng>(rng: &mut R, case: &mut Case) {
         _ => {
             case.records.truncate(index);
         }
+    }
+    if index < case.records.len() && rng.gen() {
+        fit(case, index);
     }
 }
 

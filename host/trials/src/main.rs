@@ -12,7 +12,7 @@ use pulindraxi::{
 use rand::{seq::SliceRandom, Rng, SeedableRng};
 use rand_xorshift::XorShiftRng;
 use trials::{
-    draw::{self, Case, Record},
+    draw::{self, Case},
     paper::{self, Source, CARD_HEAD},
     Lent, Question,
 };
@@ -113,9 +113,11 @@ impl Trial {
         if let Some(last) = cigar.last_mut() {
             *last = b'D';
         }
-        let strand = if rng.gen() { 1 } else { -1 };
-        let record = |ord| Record { numbers: [0, 0, 0, 0, ord * strand], cigar: cigar.clone() };
-        Case { strand, cds_start: None, cds_end: None, records: (0..count as i32).map(record).collect() }
+        let mut case = draw::alike(if rng.gen() { 1 } else { -1 }, count, &cigar);
+        if let Some(last) = case.records.last_mut().filter(|_| rng.gen_ratio(1, 4)) {
+            last.numbers[1] = last.numbers[1].saturating_add(1);
+        }
+        case
     }
 
     fn build_much(&mut self) {

@@ -278,7 +278,12 @@ fn judge_record(strand: i32, before: Option<&Exon<'_>>, exon: &Exon<'_>) -> Resu
     Ok(())
 }
 
-/// The elements of all records in genomic order: per record 3 for the CIGAR's size, 3 for the gap, its elements.
+/// How far elements go along the genome.
+pub fn span(elements: &[Counted]) -> i64 {
+    elements.iter().filter(|(_, letter)| along_genome(*letter)).map(|(count, _)| count).sum()
+}
+
+/// The elements of all records in genomic order: per record 3 for the CIGAR's size, 3 for the gap, its elements, 32.
 fn elements(strand: i32, exons: &[Exon<'_>]) -> Result<Vec<Counted>, Refusal> {
     let mut all: Vec<Counted> = Vec::new();
     let mut before: Option<&Exon<'_>> = None;
@@ -293,6 +298,9 @@ fn elements(strand: i32, exons: &[Exon<'_>]) -> Result<Vec<Counted>, Refusal> {
             all.push((i64::from(exon.alt_start_i) - i64::from(before.alt_end_i), b'N'));
         }
         let mut own = read_cigar(exon.cigar, MOST_SEGMENTS - all.len())?;
+        if span(&own) != i64::from(exon.alt_end_i) - i64::from(exon.alt_start_i) {
+            return Err(Refusal::NotSpanning);
+        }
         if strand == -1 {
             own.reverse();
         }
@@ -482,8 +490,9 @@ fn map_place(from: &[i64], to: &[i64], letters: &[u8], p: i64, is_start: bool, f
     }
 }
 
+/// Strict: a place is below the last entry.
 fn inside(strict: bool, from: &[i64], p: i64) -> Result<(), Refusal> {
-    if strict && !(0..=last(from)).contains(&p) {
+    if strict && !(0..last(from)).contains(&p) {
         return Err(Refusal::Outside);
     }
     Ok(())
@@ -593,10 +602,11 @@ impl Source {
         Ok(answer(mark(&a, &b), g(&a, a_offset)?, g(&b, b_offset)?))
     }
 
-    /// n. to c.: 13, 15, 17.
+    /// n. to c.: 13, 15, 17. Strict: both numbers are those of a base.
     pub fn n_to_c(&self, start: Asked, end: Asked, strict: bool) -> Result<Answer, Refusal> {
         let (s, e) = self.cds().ok_or(Refusal::NotCoding)?;
-        if strict && (start.base <= 0 || i64::from(end.base) > self.length()) {
+        let is_base = |n: Asked| (1..=self.length()).contains(&i64::from(n.base));
+        if strict && !(is_base(start) && is_base(end)) {
             return Err(Refusal::NOutside);
         }
         let c = |n: Asked| {
@@ -639,11 +649,11 @@ impl Source {
         self.n_to_g(n.start.into(), n.end.into(), strict)
     }
 
-    /// In bounds: 18, 19.
+    /// In bounds: 18, 19. Both places are below the length, and neither is below 0.
     pub fn in_bounds(&self, g: AskedG) -> Result<Said, Refusal> {
         let t = self.aligned()?;
         let (start, end) = t.places(g)?;
-        let yes = start >= 0 && end <= last(&t.genome);
+        let yes = [start, end].iter().all(|place| (0..last(&t.genome)).contains(place));
         Ok(Said { number: 0, yes: u32::from(yes) })
     }
 
@@ -687,6 +697,58 @@ mod tests {
         let (counts, letters): (Vec<_>, Vec<_>) =
             elements.iter().map(|&(count, letter)| (count as i32, letter)).unzip();
         assert_eq!(write_bam(6, &counts, &letters, 6).unwrap(), words);
+    }
+
+    /// Records of genome bounds and CIGARs, laid out for building.
+    fn built(strand: i32, cds: Cds, exons: &[([i32; 2], &str)]) -> Result<Source, Refusal> {
+        let mut records = Vec::new();
+        for (index, ([start, end], cigar)) in exons.iter().enumerate() {
+            for number in [*start, *end, 0, 0, strand * index as i32] {
+                records.extend(number.to_le_bytes());
+            }
+            records.extend((cigar.len() as u16).to_le_bytes());
+            records.extend(cigar.bytes());
+        }
+        build(Laid { strand, cds, count: exons.len(), records: &records }).map(Source::Records)
+    }
+
+    #[test]
+    fn a_cigar_is_held_to_its_bounds_after_its_elements_and_before_the_next_record() {
+        let number = |exons: &[([i32; 2], &str)]| built(1, Cds::new(None, None), exons).err().map(Refusal::number);
+        assert_eq!(number(&[([10, 14], "4M")]), None);
+        assert_eq!(number(&[([10, 17], "4M")]), Some(32));
+        assert_eq!(number(&[([10, 14], "4M2I")]), Some(32));
+        assert_eq!(number(&[([10, 17], "4MS")]), Some(7));
+        assert_eq!(number(&[([2, 5], "2M"), ([10, 14], "S")]), Some(32));
+        assert_eq!(number(&[([0, 1], "")]), Some(32));
+        assert_eq!(number(&[([0, 0], "2147483647M2147483647M2M")]), Some(32));
+        assert_eq!(number(&[([0, 0], "2000000001D")]), Some(9));
+    }
+
+    #[test]
+    fn strict_bounds_end_with_the_last_base() {
+        for strand in [1, -1] {
+            let source = built(strand, Cds::new(Some(3), Some(15)), &[([10, 20], "10M"), ([25, 33], "8M")]).unwrap();
+            let asked = |base| Asked { base, ..Asked::default() };
+            let g = |start, end| AskedG { start, end, missing: 0 };
+            for number in [10, 34] {
+                assert_eq!(source.g_to_n(g(number, number), true), Err(Refusal::Outside));
+                assert_eq!(source.in_bounds(g(number, 11)).unwrap().yes, 0);
+                assert_eq!(source.in_bounds(g(11, number)).unwrap().yes, 0);
+            }
+            assert_eq!(source.in_bounds(g(33, 11)).unwrap().yes, 1);
+            for number in [-1, 19] {
+                assert_eq!(source.n_to_g(asked(number), asked(number), true), Err(Refusal::Outside));
+                assert_eq!(source.n_to_c(asked(number), asked(1), true), Err(Refusal::NOutside));
+                assert_eq!(source.n_to_c(asked(1), asked(number), true), Err(Refusal::NOutside));
+                assert!(source.n_to_c(asked(1), asked(number), false).is_ok());
+            }
+        }
+        let inserted = built(1, Cds::new(Some(0), Some(4)), &[([0, 6], "4M2I")]).unwrap();
+        let g = AskedG { start: 5, end: 5, missing: 0 };
+        let n = inserted.g_to_n(g, true).unwrap();
+        assert_eq!((n.mark, n.start.base, n.end.base), (Answer::UNCERTAIN, 4, 5));
+        assert_eq!(inserted.g_to_c(g, true), Err(Refusal::NOutside));
     }
 
     #[test]

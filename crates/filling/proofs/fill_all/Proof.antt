@@ -3,7 +3,7 @@ use mathlib.Core.Path.{_≡_, sym, ap, subst, _∙_}
 use Prim.Native.Nat.{_-_}
 use Rattle.records.specs.Records.{nextAt, recordAt, recordsFrom}
 use Rattle.cigar.specs.Text.{elementsIn}
-use Rattle.reading.specs.Reading.{genomeEndOf, readFirst, exonsAfter}
+use Rattle.reading.specs.Reading.{spanned, genomeEndOf, readFirst, exonsAfter}
 use Rattle.reading.specs.Tallies.{nothing, BoundedTally, tallied, talliedAfter}
 use Rattle.segments.specs.Tables.{tables}
 use Rattle.filling.specs.Filling.{fill, ordered, elementsPast, SmallSums, SmallTally}
@@ -11,7 +11,7 @@ use Rattle.reading.specs.declared.Sums.{Sums}
 use Rattle.reading.specs.declared.Tally.the-variants as tally
 use Rattle.reading.specs.laws.Tallied.{first-sums, first-refused}
 use Rattle.filling.proofs.Fills.{long-after}
-use Rattle.filling.proofs.Past.{fill-then, small-so-far, first-ends, all-one}
+use Rattle.filling.proofs.Past.{fill-then, small-so-far, first-told, first-ends, all-one}
 use borrow.Author.Needs.{needs}
 use Rattle.filling.proofs.fill_all.Statement.{statement}
 use Rattle.filling.proofs.fill_all.Tie as tie
@@ -24,7 +24,7 @@ module _ (c : tie.After-known-told) where
   abbrev first : Sums
   first = c .before .first .given .0 .0
 
-  told : tallied nothing (readFirst (recordAt (begin .args .s .now) 0)) ≡ tally.Sums first
+  told : let r = recordAt (begin .args .s .now) 0 in tallied nothing (spanned r (readFirst r)) ≡ tally.Sums first
   told = sym (c .before .before .before .tally-first .ensures .0) ∙ c .before .first .given .1
 
   small-rest : let s = begin .args .s .now in
@@ -37,7 +37,7 @@ module _ (c : tie.After-known-told) where
 fill-first-requires : tie.Need-fill-first-requires
 fill-first-requires c κs =
     let k = c .before .before .before in
-    (begin k .pre .0, ((begin k .pre .1 .0 .stands, small-first k), told k))
+    (begin k .pre .0, ((begin k .pre .1 .0 .stands, small-first k), first-told (begin k .args .forward) (begin k .args .s .now) (begin k .args .count) 0 (begin k .pre .1 .0 .some) (told k)))
 
 next-at-requires : tie.Need-next-at-requires
 next-at-requires c κs = begin (c .before .before .before .before .before .before .before .before .before .before) .pre .1 .0 .stands .numbers

@@ -6,7 +6,7 @@ use native.Mathlib.Omega.{arith}
 use Rattle.records.specs.Records.{Record, nextAt, recordAt, recordsFrom}
 use Rattle.records.specs.Walk.{Walk, Turn}
 use Rattle.records.specs.laws.Walk.{turn}
-use Rattle.reading.specs.Reading.{genomeEndOf, between, readNext, exonsAfter}
+use Rattle.reading.specs.Reading.{genomeEndOf, between, spanned, readNext, exonsAfter}
 use Rattle.reading.specs.Tallies.{oneOn, Bounded, BoundedTally, tallied, talliedAfter}
 use Rattle.segments.specs.Tables.{tables}
 use Rattle.filling.specs.Filling.{Long, fill, nextElements, elementsPast, SmallSums, SmallTally}
@@ -14,7 +14,7 @@ use Rattle.reading.specs.declared.Sums.{Sums}
 use Rattle.reading.specs.declared.Tally.the-variants as tally
 use Rattle.reading.specs.laws.Tallied.{rest-sums, rest-refused}
 use Rattle.filling.proofs.Fills.{long-after}
-use Rattle.filling.proofs.Past.{fill-then, small-so-far, next-ends, past-one, past-none}
+use Rattle.filling.proofs.Past.{fill-then, small-so-far, next-told, next-ends, past-one, past-none}
 use borrow.Author.Needs.{needs}
 use Rattle.filling.proofs.fill_rest.Statement.{statement}
 use Rattle.filling.proofs.fill_rest.Tie as tie
@@ -76,8 +76,11 @@ module _ (c : tie.After-known-told Inv-loop μ-loop) where
   some : 0 < left
   some = omega arith
 
-  told : tallied (oneOn sums (between there here)) (readNext (sums .count) here) ≡ tally.Sums to
+  told : tallied (oneOn sums (between there here)) (spanned here (readNext (sums .count) here)) ≡ tally.Sums to
   told = sym (c .before .before .before .tally-next .ensures .0) ∙ c .before .to .given .1
+
+  own-told : tallied (oneOn sums (between there here)) (readNext (sums .count) here) ≡ tally.Sums to
+  own-told = next-told (begin .args .forward) bytes left place some there sums to told
 
   small-rest : SmallTally (talliedAfter (genomeEndOf here) to (exonsAfter (to .count) (recordsFrom (left - 1) bytes (nextAt bytes place))))
   small-rest = subst SmallTally (rest-sums bytes left place some there sums (sym told)) (c .before .before .before .before .before .loop .inv .3)
@@ -90,7 +93,7 @@ fill-next-requires c κs =
     let k = c .before .before .before in
     let l = k .before .before .before .before .before .loop in
     let r = turn-here (k .before .before .before .before) in
-    (l .inv .0, ((l .inv .1 .inside, r .stands, r .beside), (told k, (l .inv .2, small-to k))))
+    (l .inv .0, ((l .inv .1 .inside, r .stands, r .beside), (own-told k, (l .inv .2, small-to k))))
 
 next-at-requires : tie.Need-next-at-requires Inv-loop μ-loop
 next-at-requires c κs = let filled = c .before .before .before .before .before .before .before in turn-here (filled .before .before .before .before .before .before .before) .stands .numbers

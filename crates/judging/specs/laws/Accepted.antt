@@ -1,20 +1,21 @@
 -- What is known of an input that building accepts.
 --     accepted-means, records-mean, measured-means    the judgment taken apart: no test refused, and what was made of the input
 --     sane, judged-sane                               what is known of what records make: few segments, six letters, none of 9, 10 and 12, records in order
+--     accepted-spanning                               each record's CIGAR spans exactly its genome bounds
 --     measured-inside                                 what is known of what a length makes
 -- Assumes nothing.
 use Prim.Native.Nat.{ℕ, zero, suc, _+_, _-_, _%_, _≤_, _<_}
 use native.Mathlib.Omega.{arith}
 use mathlib.Core.Bool.{Bool, true, false}
 use mathlib.Core.List.{List, [], _∷_}
-use mathlib.Core.Path.{_≡_, refl, sym, ap}
+use mathlib.Core.Path.{_≡_, refl, sym, ap, _∙_}
 use lib.Dec.{eqb, ltb, leb}
-use lib.IntN.{ℤ, pos, negsuc, natAbs}
+use lib.IntN.{ℤ, pos, negsuc, natAbs, _+ℤ_}
 use lib.ListN.{length, length-append, length-reverse}
 use lib.Signed.{ltZ}
 use borrow.Author.Tests.{eqb-true, eqb-false, ltb-true, ltb-false, leb-true, leb-false}
 use Rattle.refusals.specs.Numbers.{mostRecords, mostSegments, mostText, mostBases}
-use Rattle.refusals.specs.Outcome.{answered, refused, unless}
+use Rattle.refusals.specs.Outcome.{answered, refused, andThen, unless}
 use Rattle.refusals.specs.laws.Outcomes.{clash, same, passed}
 use Rattle.whole.specs.Whole.{eqZ}
 use Rattle.whole.specs.laws.Whole.{by-test, order, eq-by, eq-yes-says}
@@ -31,7 +32,8 @@ use Rattle.transcript.specs.Transcript.{Cds}
 use Rattle.transcript.specs.Transcript.Cds.{noCds, cds}
 use Rattle.transcript.specs.Building.{Exon, partsOf, elementsAfter, elementsOf, firstStart}
 use Rattle.judging.specs.Input.{Input, inputOf}
-use Rattle.reading.specs.Reading.{genomeEndOf as genomeEnd, exonOf, Exons, beforeAll, followedBy, readFirst, readNext, exonsAfter, exonsOf}
+use Rattle.reading.specs.Reading.{genomeEndOf as genomeEnd, exonOf, Exons, isSpanned, spanned, followedBy, readFirst, readNext, exonsAfter, exonsOf}
+use Rattle.reading.specs.laws.Spans.{beforeAll, ahead, followed, spanned-is}
 use Rattle.judging.specs.Judging.{Made, Measured, halfFault, rangeFault, cdsFault, cdsOf, lastFault, judgeExons, judgeOn, judgeInput, judge, lengthFault, judgeLength, elementsMade}
 use Rattle.transcript.specs.Heads.{bothBits, startOf, endOf, numberOf, bitsOf, startIn, endIn, strandOf}
 use Rattle.transcript.specs.declared.Bound.{Bound}
@@ -195,21 +197,25 @@ last-pass start end n first g t =
 
 -- ---- records that were read
 
--- a record that was read, and those after it
+-- a record that was read and passed 32, and those after it
 pub record Split (r : Record) (p : Reading) (next : ℕ → Exons) (xs : List Exon) : Type 0 where
   pub own : List Element
   pub rest : List Exon
   pub was-read : p ≡ answered own
+  pub spans : isSpanned r own ≡ true
   pub others : next (length own) ≡ answered rest
   pub is : xs ≡ exonOf r own ∷ rest
 
 pub split : (r : Record) (p : Reading) (next : ℕ → Exons) (xs : List Exon) → followedBy r p next ≡ answered xs → Split r p next xs
-split r (answered es) next xs h = go (next (length es)) refl h
+split r p next xs h = go (spanned r p) refl (sym (followed r p next) ∙ h)
   where
-    go : (q : Exons) → next (length es) ≡ q → beforeAll (exonOf r es) q ≡ answered xs → Split r (answered es) next xs
-    go (answered ys) e h = record { own = es; rest = ys; was-read = refl; others = e; is = let is : exonOf r es ∷ ys ≡ xs = cc in sym is }
-    go (refused k) e h = let z : _≡_ {A = ℕ} 0 1 = cc in absurd (omega arith)
-split r (refused k) next xs h = let z : _≡_ {A = ℕ} 0 1 = cc in absurd (omega arith)
+    go : (q : Reading) → spanned r p ≡ q → andThen q (ahead r next) ≡ answered xs → Split r p next xs
+    go (answered es) e h = with-rest (next (length es)) refl h
+      where
+        with-rest : (q : Exons) → next (length es) ≡ q → beforeAll (exonOf r es) q ≡ answered xs → Split r p next xs
+        with-rest (answered ys) n h = let (read, spans) = spanned-is r p e in record { own = es; rest = ys; was-read = read; spans = spans; others = n; is = sym (same h) }
+        with-rest (refused k) n h = absurd (clash h)
+    go (refused k) e h = absurd (clash h)
 
 none-left : (xs : List Exon) → answered [] ≡ answered xs → xs ≡ []
 none-left xs h = let is : [] ≡ xs = cc in sym is
@@ -292,6 +298,35 @@ module _ (forward : Bool) where
         fits = omega (arith, length-append (partsOf forward x) es, parts-length forward x, own .fits, rest .fits);
         letters = lettered-append (partsOf forward x) es (parts-lettered forward x (own .letters)) (rest .letters);
       })
+
+-- ---- 32
+
+-- each record's elements are just as long along the genome as its bounds
+abbrev pub AllSpanning : List Record → List Exon → Type 0
+AllSpanning [] xs = Unit {0}
+AllSpanning (r ∷ rs) [] = ⊥
+AllSpanning (r ∷ rs) (x ∷ xs) = (r .alt-start +ℤ pos (total genome (x .parts)) ≡ r .alt-end) × AllSpanning rs xs
+
+own-span : (r : Record) (es : List Element) → isSpanned r es ≡ true → r .alt-start +ℤ pos (total genome es) ≡ r .alt-end
+own-span r es h = let z = r .alt-start +ℤ pos (total genome es) in eq-by z (r .alt-end) (eq-yes-says z (r .alt-end) h)
+
+after-spanning : (used : ℕ) (rs : List Record) (xs : List Exon) → exonsAfter used rs ≡ answered xs → AllSpanning rs xs
+unfolding exonsAfter
+after-spanning used [] xs h = tt
+after-spanning used (r ∷ rs) xs h =
+    let s = split r (readNext used r) (λ n. exonsAfter (used + 1 + n) rs) xs h in
+    rw (s .is) (own-span r (s .own) (s .spans), after-spanning (used + 1 + length (s .own)) rs (s .rest) (s .others))
+
+all-spanning : (rs : List Record) (xs : List Exon) → exonsOf rs ≡ answered xs → AllSpanning rs xs
+unfolding exonsOf
+all-spanning [] xs h = tt
+all-spanning (r ∷ rs) xs h =
+    let s = split r (readFirst r) (λ n. exonsAfter n rs) xs h in
+    rw (s .is) (own-span r (s .own) (s .spans), after-spanning (length (s .own)) rs (s .rest) (s .others))
+
+-- where records are accepted, each one's CIGAR spans exactly its genome bounds
+pub accepted-spanning : (i : Input) (m : Made) → On i m → AllSpanning (i .records) (m .exon-list)
+accepted-spanning i m on = all-spanning (i .records) (m .exon-list) (on .were-read)
 
 -- ---- records in order
 

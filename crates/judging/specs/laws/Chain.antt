@@ -7,7 +7,7 @@ use native.Mathlib.Omega.{arith}
 use lib.ListN.{length}
 use borrow.Author.Tests.{eq-eqb, ne-eqb, lt-ltb, le-ltb}
 use Rattle.refusals.specs.Numbers.{tooMuch, mostRecords}
-use Rattle.refusals.specs.Outcome.{Outcome, answered, refused, unless}
+use Rattle.refusals.specs.Outcome.{Outcome, answered, refused, andThen, unless}
 use Rattle.cigar.specs.Elements.{Element, genome, transcript, total}
 use Rattle.cigar.specs.Text.{Reading}
 use Rattle.records.specs.Records.{nextAt, recordAt, recordsFrom}
@@ -15,11 +15,12 @@ use Rattle.records.specs.Faults.{faults}
 use Rattle.records.specs.laws.Walk.{records-one}
 use Rattle.transcript.specs.Building.{Exon, elementsOf, firstStart}
 use Rattle.judging.specs.Input.{Input}
-use Rattle.reading.specs.Reading.{Exons, beforeAll, followedBy, genomeStartOf, exonOf, readFirst, exonsAfter, exonsOf}
+use Rattle.reading.specs.Reading.{Exons, spanned, genomeStartOf, exonOf, readFirst, exonsAfter, exonsOf}
 use Rattle.judging.specs.Judging.{halfFault, lastFault, judgeExons, judgeOn, toldOf}
 use Rattle.reading.specs.Tallies.{sumsOf, talliedAll}
 use Rattle.reading.specs.declared.Sums.{Sums}
 use Rattle.reading.specs.declared.Tally.the-variants as tally
+use Rattle.reading.specs.laws.Spans.{beforeAll, ahead, followed}
 use Rattle.reading.specs.laws.Tallied.{either-strand}
 
 -- ---- a test in the chain
@@ -60,13 +61,16 @@ FirstIs n (refused k) = Unit {0}
 
 pub first-is : (k : ℕ) (s : List ℕ) (at : ℕ) → 0 < k → FirstIs (genomeStartOf (recordAt s at)) (exonsOf (recordsFrom k s at))
 unfolding exonsOf firstStart
-first-is k s at h = rw (records-one k s at h) (go (readFirst (recordAt s at)))
+first-is k s at h = let r = recordAt s at in rw (records-one k s at h, followed r (readFirst r) following) (go (spanned r (readFirst r)))
   where
+    following : ℕ → Exons
+    following n = exonsAfter n (recordsFrom (k - 1) s (nextAt s at))
+
     after : (es : List Element) (x : Exons) → FirstIs (genomeStartOf (recordAt s at)) (beforeAll (exonOf (recordAt s at) es) x)
     after es (answered xs) = refl
     after es (refused k) = tt
 
-    go : (r : Reading) → FirstIs (genomeStartOf (recordAt s at)) (followedBy (recordAt s at) r (λ i. exonsAfter i (recordsFrom (k - 1) s (nextAt s at))))
+    go : (r : Reading) → FirstIs (genomeStartOf (recordAt s at)) (andThen r (ahead (recordAt s at) following))
     go (answered es) = after es (exonsAfter (length es) (recordsFrom (k - 1) s (nextAt s at)))
     go (refused i) = tt
 

@@ -5,10 +5,10 @@ use mathlib.Core.List.{List, [], _∷_, _++_, map}
 use mathlib.Core.Path.{_≡_, refl}
 use lib.IntN.{ℤ, pos, negsuc}
 use lib.ListN.{length, replicate}
-use Rattle.refusals.specs.Numbers.{noRecords, noStrand, badBound, badOrd, notAdjacent, noElement, badCount, tooLong, noSegment, halfCds, badCds, noCard, notTogether}
+use Rattle.refusals.specs.Numbers.{noRecords, noStrand, badBound, badOrd, notAdjacent, noElement, badCount, tooLong, noSegment, halfCds, badCds, noCard, notTogether, notSpanning}
 use Rattle.refusals.specs.Outcome.{Outcome, answered, refused}
 use Rattle.fields.specs.Fields.{le16, le32}
-use Rattle.cigar.specs.Elements.{isLetter, kindOf, genome, transcript, total, letterD, letterEqual, letterM, letterN}
+use Rattle.cigar.specs.Elements.{isLetter, kindOf, genome, transcript, total, letterD, letterEqual, letterI, letterM, letterN}
 use Rattle.cigar.specs.Text.{element, readFrom}
 use Rattle.records.specs.Records.{Record, recordText, exactly, recordAt, recordsFrom}
 use Rattle.records.specs.Faults.{faults, faultsAfter, ownFault, pairFault, followFault, spanFault, startFault, riseFault, joinFault}
@@ -16,7 +16,7 @@ use Rattle.transcript.specs.Transcript.{Cds}
 use Rattle.transcript.specs.Transcript.Cds.{noCds, cds}
 use Rattle.transcript.specs.Building.{Exon, elementsOf, elementsAfter, partsOf, firstStart}
 use Rattle.judging.specs.Input.{numbersOf}
-use Rattle.reading.specs.Reading.{exonsOf, exonsAfter, readFirst, readNext}
+use Rattle.reading.specs.Reading.{exonsOf, exonsAfter, spanning, readFirst, readNext}
 use Rattle.judging.specs.Judging.{Made, judge, judgeInput, judgeOn, judgeLength, lengthFault, lastFault, rangeFault}
 
 -- ---- what is judged
@@ -58,9 +58,9 @@ eight = digit 8 ∷ letterM ∷ []
 abbrev pub nines : List ℕ
 nines = replicate 11 (digit 9)
 
--- `2147483647M`
-abbrev largest : List ℕ
-largest = map digit (2 ∷ 1 ∷ 4 ∷ 7 ∷ 4 ∷ 8 ∷ 3 ∷ 6 ∷ 4 ∷ 7 ∷ []) ++ letterM ∷ []
+-- `2147483647` and a letter
+abbrev largest : ℕ → List ℕ
+largest letter = map digit (2 ∷ 1 ∷ 4 ∷ 7 ∷ 4 ∷ 8 ∷ 3 ∷ 6 ∷ 4 ∷ 7 ∷ []) ++ letter ∷ []
 
 abbrev pub rowsA : List Record
 rowsA = row (pos 10) (pos 20) (pos 0) (pos 10) (pos 0) ten ∷ row (pos 25) (pos 33) (pos 10) (pos 18) (pos 1) eight ∷ []
@@ -68,9 +68,12 @@ rowsA = row (pos 10) (pos 20) (pos 0) (pos 10) (pos 0) ten ∷ row (pos 25) (pos
 abbrev rowsB : List Record
 rowsB = row (pos 10) (pos 20) (pos 8) (pos 18) (pos 1) ten ∷ row (pos 25) (pos 33) (pos 0) (pos 8) (pos 0) eight ∷ []
 
--- one record from a genome start on, with this CIGAR
+-- one record of genome bounds and a CIGAR, and one whose bounds are empty
+abbrev pub bounded : ℕ → ℕ → List ℕ → List Record
+bounded start end text = row (pos start) (pos end) (pos 0) (pos 0) (pos 0) text ∷ []
+
 abbrev pub one : ℕ → List ℕ → List Record
-one start text = row (pos start) (pos start) (pos 0) (pos 0) (pos 0) text ∷ []
+one start text = bounded start start text
 
 -- the exons of A and of B
 abbrev exonsAB : List Exon
@@ -80,20 +83,20 @@ exonsAB = record { alt-start = 10; alt-end = 20; parts = element 10 letterM ∷ 
 
 -- what a judgment is computed by, named once: to unfold this is to unfold all of it
 unfoldable pub computing : Unit {0}
-unfolding judge judgeInput judgeOn lastFault rangeFault exactly recordsFrom recordAt recordText le16 le32 faults faultsAfter ownFault pairFault followFault spanFault startFault riseFault joinFault exonsOf exonsAfter readFirst readNext readFrom isLetter elementsOf elementsAfter partsOf firstStart total genome transcript kindOf
+unfolding judge judgeInput judgeOn lastFault rangeFault exactly recordsFrom recordAt recordText le16 le32 faults faultsAfter ownFault pairFault followFault spanFault startFault riseFault joinFault exonsOf exonsAfter spanning readFirst readNext readFrom isLetter elementsOf elementsAfter partsOf firstStart total genome transcript kindOf
 computing = tt
 
 -- A; B; A with a start and an end that are not given; two records with empty CIGARs; `0M` alone
 built : judged (pos 1) 3 (pos 3) (pos 15) rowsA
     ∷ judged (negsuc 0) 3 (pos 3) (pos 15) rowsB
     ∷ judged (pos 1) 0 (negsuc 4) (pos 99) rowsA
-    ∷ plain (row (pos 5) (pos 5) (pos 0) (pos 0) (negsuc 6) [] ∷ row (pos 5) (pos 7) (pos 0) (pos 0) (pos 3) [] ∷ [])
+    ∷ plain (row (pos 5) (pos 5) (pos 0) (pos 0) (negsuc 6) [] ∷ row (pos 7) (pos 7) (pos 0) (pos 0) (pos 3) [] ∷ [])
     ∷ plain (one 7 (digit 0 ∷ letterM ∷ []))
     ∷ []
     ≡ made true exonsAB (cds 3 15)
     ∷ made false exonsAB (cds 3 15)
     ∷ made true exonsAB noCds
-    ∷ made true (record { alt-start = 5; alt-end = 5; parts = [] } ∷ record { alt-start = 5; alt-end = 7; parts = [] } ∷ []) noCds
+    ∷ made true (record { alt-start = 5; alt-end = 5; parts = [] } ∷ record { alt-start = 7; alt-end = 7; parts = [] } ∷ []) noCds
     ∷ made true (record { alt-start = 7; alt-end = 7; parts = element 0 letterM ∷ [] } ∷ []) noCds
     ∷ []
 unfolding computing
@@ -114,7 +117,7 @@ denied : judge (numbersOf (pos 1) 4 (pos 0) (pos 0) 0) (0 ∷ [])
     ∷ judged (pos 1) 3 (pos 2) (pos 1) (one 2000000001 (letterS ∷ []))
     ∷ plain (one 0 (nines ++ (letterS ∷ [])))
     ∷ plain (one 0 (nines ++ (letterM ∷ letterS ∷ [])))
-    ∷ plain (row (pos 0) (pos 0) (pos 0) (pos 0) (pos 0) (largest ++ largest) ∷ row (pos 0) (pos 0) (pos 0) (pos 0) (pos 1) (letterS ∷ []) ∷ [])
+    ∷ plain (row (pos 0) (pos 0) (pos 0) (pos 0) (pos 0) (largest letterD ++ largest letterD) ∷ row (pos 0) (pos 0) (pos 0) (pos 0) (pos 1) (letterS ∷ []) ∷ [])
     ∷ judged (pos 1) 3 (pos 2) (pos 1) (one 2000000001 [])
     ∷ judged (pos 1) 3 (pos 2) (pos 1) (one 2000000001 (digit 5 ∷ letterD ∷ []))
     ∷ judged (pos 1) 3 (pos 3) (pos 19) rowsA
@@ -138,6 +141,31 @@ denied : judge (numbersOf (pos 1) 4 (pos 0) (pos 0) 0) (0 ∷ [])
     ∷ []
 unfolding computing
 denied = refl
+
+-- 32, by the genome length and not by the transcript's: `2M3I` spans 0..5, `2M3D` and `4M` do not, and 2^32 bases do not span 0..0;
+-- a record's own `S` comes first, and a later record's does not; nor do no segment at all, a first start above the largest, and a CDS end above the length
+spanned-or-not : plain (bounded 0 5 (digit 2 ∷ letterM ∷ digit 3 ∷ letterI ∷ []))
+    ∷ plain (bounded 0 5 (digit 2 ∷ letterM ∷ digit 3 ∷ letterD ∷ []))
+    ∷ plain (bounded 0 5 (digit 4 ∷ letterM ∷ []))
+    ∷ plain (one 0 (largest letterM ++ largest letterM ++ digit 2 ∷ letterM ∷ []))
+    ∷ plain (bounded 0 5 (digit 4 ∷ letterM ∷ letterS ∷ []))
+    ∷ plain (row (pos 0) (pos 5) (pos 0) (pos 0) (pos 0) (digit 4 ∷ letterM ∷ []) ∷ row (pos 5) (pos 6) (pos 0) (pos 0) (pos 1) (letterS ∷ []) ∷ [])
+    ∷ plain (bounded 0 5 [])
+    ∷ plain (bounded 2000000001 2000000006 (digit 4 ∷ letterM ∷ []))
+    ∷ judged (pos 1) 3 (pos 2) (pos 9) (bounded 0 5 (digit 4 ∷ letterM ∷ []))
+    ∷ []
+    ≡ made true (record { alt-start = 0; alt-end = 5; parts = element 2 letterM ∷ element 3 letterI ∷ [] } ∷ []) noCds
+    ∷ refused notSpanning
+    ∷ refused notSpanning
+    ∷ refused notSpanning
+    ∷ refused noElement
+    ∷ refused notSpanning
+    ∷ refused notSpanning
+    ∷ refused notSpanning
+    ∷ refused notSpanning
+    ∷ []
+unfolding computing
+spanned-or-not = refl
 
 -- the elements of `2M1D` and, touching it, `3=`: on strand -1 each record's are reversed, and the N of length 0 stands on both
 abbrev touching : List Exon

@@ -26,6 +26,11 @@ module _ (s : List ℕ) (at : ℕ) (stands : Stands s at) where
   size : length text ≡ nextAt s at - (at + cigarText)
   size = length-take-le _ (drop (at + cigarText) s) (rw (length-drop (at + cigarText) s) (omega (arith, stands .text))) ∙ same-size
 
+  -- the CIGAR's bytes, as far as the next record
+  pub cigar-is : recordAt s at .cigar ≡ take (nextAt s at - (at + cigarText)) (drop (at + cigarText) s)
+  unfolding recordAt
+  cigar-is = rw (← same-size)
+
   large : mostText < nextAt s at - (at + cigarText) → ltb mostText (length text) ≡ true
   large h = lt-ltb mostText (length text) (omega (arith, size))
 
@@ -36,10 +41,9 @@ module _ (s : List ℕ) (at : ℕ) (stands : Stands s at) where
   unfolding readFirst recordAt
   first-large h = rw (large h)
 
-  pub first-read : nextAt s at - (at + cigarText) ≤ mostText
-      → readFirst (recordAt s at) ≡ readAll mostSegments (take (nextAt s at - (at + cigarText)) (drop (at + cigarText) s))
+  pub first-read : nextAt s at - (at + cigarText) ≤ mostText → readFirst (recordAt s at) ≡ readAll mostSegments (recordAt s at .cigar)
   unfolding readFirst recordAt
-  first-read h = rw (← same-size, small h)
+  first-read h = rw (small h)
 
   pub next-large : (used : ℕ) → mostText < nextAt s at - (at + cigarText) → readNext used (recordAt s at) ≡ refused tooMuch
   unfolding readNext recordAt
@@ -50,6 +54,6 @@ module _ (s : List ℕ) (at : ℕ) (stands : Stands s at) where
   next-full used h e = rw (small h, eq-eqb used mostSegments e)
 
   pub next-read : (used : ℕ) → nextAt s at - (at + cigarText) ≤ mostText → (used ≡ mostSegments → ⊥)
-      → readNext used (recordAt s at) ≡ readAll (mostSegments - (used + 1)) (take (nextAt s at - (at + cigarText)) (drop (at + cigarText) s))
+      → readNext used (recordAt s at) ≡ readAll (mostSegments - (used + 1)) (recordAt s at .cigar)
   unfolding readNext recordAt
-  next-read used h e = rw (← same-size, small h, ne-eqb used mostSegments e)
+  next-read used h e = rw (small h, ne-eqb used mostSegments e)

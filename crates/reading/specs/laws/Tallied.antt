@@ -5,19 +5,20 @@ use mathlib.Core.List.{List, [], _∷_, _++_}
 use Prim.Native.Nat.{ℕ, _+_, _-_, _<_}
 use native.Mathlib.Omega.{arith}
 use lib.ListN.{length, length-append, length-reverse}
-use Rattle.refusals.specs.Outcome.{answered, refused}
+use Rattle.refusals.specs.Outcome.{answered, refused, andThen}
 use Rattle.cigar.specs.Elements.{Element, Side, genome, transcript, total}
 use Rattle.cigar.specs.Text.{Reading}
 use Rattle.records.specs.Records.{Record, nextAt, recordAt, recordsFrom}
 use Rattle.records.specs.laws.Walk.{records-one, records-none}
 use Rattle.segments.specs.laws.Totals.{total-append, total-reverse}
 use Rattle.transcript.specs.Building.{Exon, partsOf, gap, elementsAfter, elementsOf}
-use Rattle.reading.specs.Reading.{Exons, beforeAll, followedBy, genomeEndOf, between, exonOf, readFirst, readNext, exonsAfter, exonsOf}
+use Rattle.reading.specs.Reading.{Exons, spanned, genomeEndOf, between, exonOf, readFirst, readNext, exonsAfter, exonsOf}
 use Rattle.reading.specs.Tallies.{nothing, sumsOf, oneOn, sumsOn, tallied, talliedAfter, talliedAll}
 use Rattle.reading.specs.declared.Sums.{Sums}
 use Rattle.reading.specs.declared.Tally.{Tally}
 use Rattle.reading.specs.declared.Tally.the-variants as tally
 use Rattle.reading.specs.laws.Texts.{sums-eq, on-one, on-none}
+use Rattle.reading.specs.laws.Spans.{beforeAll, ahead, followed}
 
 -- ---- the strand changes the order of a record's elements alone
 
@@ -92,14 +93,18 @@ module _ (s : List ℕ) (k at : ℕ) (some : 0 < k) where
     all = talliedAfter (genomeEndOf p) from (exonsAfter (from .count) (recordsFrom k s at))
 
     abbrev own : Tally
-    own = tallied (oneOn from (between p here)) (readNext (from .count) here)
+    own = tallied (oneOn from (between p here)) (spanned here (readNext (from .count) here))
+
+    -- the records after it, by the number of its elements
+    abbrev after : ℕ → Exons
+    after n = exonsAfter (from .count + 1 + n) others
 
     pub rest-sums : {to : Sums} → tally.Sums to ≡ own → all ≡ talliedAfter (genomeEndOf here) to (exonsAfter (to .count) others)
     unfolding exonsAfter
-    rest-sums {to} q = rw (records-one k s at some) (go (readNext (from .count) here) q)
+    rest-sums {to} q = rw (records-one k s at some, followed here (readNext (from .count) here) after) (go (spanned here (readNext (from .count) here)) q)
       where
         go : (r : Reading) → tally.Sums to ≡ tallied (oneOn from (between p here)) r
-            → talliedAfter (genomeEndOf p) from (followedBy here r (λ i. exonsAfter (from .count + 1 + i) others)) ≡ talliedAfter (genomeEndOf here) to (exonsAfter (to .count) others)
+            → talliedAfter (genomeEndOf p) from (andThen r (ahead here after)) ≡ talliedAfter (genomeEndOf here) to (exonsAfter (to .count) others)
         go (answered es) q =
             let is : to ≡ sumsOn (oneOn from (between p here)) es = cc in
             rw is (one-after (genomeEndOf p) from (exonOf here es) (exonsAfter (from .count + 1 + length es) others))
@@ -107,32 +112,35 @@ module _ (s : List ℕ) (k at : ℕ) (some : 0 < k) where
 
     pub rest-refused : {i : ℕ} → tally.Refused i ≡ own → all ≡ tally.Refused i
     unfolding exonsAfter
-    rest-refused {i} q = rw (records-one k s at some) (go (readNext (from .count) here) q)
+    rest-refused {i} q = rw (records-one k s at some, followed here (readNext (from .count) here) after) (go (spanned here (readNext (from .count) here)) q)
       where
         go : (r : Reading) → tally.Refused i ≡ tallied (oneOn from (between p here)) r
-            → talliedAfter (genomeEndOf p) from (followedBy here r (λ j. exonsAfter (from .count + 1 + j) others)) ≡ tally.Refused i
+            → talliedAfter (genomeEndOf p) from (andThen r (ahead here after)) ≡ tally.Refused i
         go (answered es) q = let z : _≡_ {A = ℕ} 0 1 = cc in absurd (omega arith)
         go (refused j) q = sym q
 
   -- the first record
-  pub first-sums : {to : Sums} → tally.Sums to ≡ tallied nothing (readFirst here)
+  abbrev after-first : ℕ → Exons
+  after-first n = exonsAfter n others
+
+  pub first-sums : {to : Sums} → tally.Sums to ≡ tallied nothing (spanned here (readFirst here))
       → talliedAll (exonsOf (recordsFrom k s at)) ≡ talliedAfter (genomeEndOf here) to (exonsAfter (to .count) others)
   unfolding exonsOf
-  first-sums {to} q = rw (records-one k s at some) (go (readFirst here) q)
+  first-sums {to} q = rw (records-one k s at some, followed here (readFirst here) after-first) (go (spanned here (readFirst here)) q)
     where
       go : (r : Reading) → tally.Sums to ≡ tallied nothing r
-          → talliedAll (followedBy here r (λ i. exonsAfter i others)) ≡ talliedAfter (genomeEndOf here) to (exonsAfter (to .count) others)
+          → talliedAll (andThen r (ahead here after-first)) ≡ talliedAfter (genomeEndOf here) to (exonsAfter (to .count) others)
       go (answered es) q =
           let is : to ≡ sumsOn nothing es = cc in
           let n : length es ≡ to .count = omega (arith, ap (λ (t : Sums). t .count) is) in
           one-first (exonOf here es) (exonsAfter (length es) others) ∙ ap₂ (λ (t : Sums) (i : ℕ). talliedAfter (genomeEndOf here) t (exonsAfter i others)) (sym is) n
       go (refused i) q = let z : _≡_ {A = ℕ} 0 1 = cc in absurd (omega arith)
 
-  pub first-refused : {i : ℕ} → tally.Refused i ≡ tallied nothing (readFirst here) → talliedAll (exonsOf (recordsFrom k s at)) ≡ tally.Refused i
+  pub first-refused : {i : ℕ} → tally.Refused i ≡ tallied nothing (spanned here (readFirst here)) → talliedAll (exonsOf (recordsFrom k s at)) ≡ tally.Refused i
   unfolding exonsOf
-  first-refused {i} q = rw (records-one k s at some) (go (readFirst here) q)
+  first-refused {i} q = rw (records-one k s at some, followed here (readFirst here) after-first) (go (spanned here (readFirst here)) q)
     where
-      go : (r : Reading) → tally.Refused i ≡ tallied nothing r → talliedAll (followedBy here r (λ j. exonsAfter j others)) ≡ tally.Refused i
+      go : (r : Reading) → tally.Refused i ≡ tallied nothing r → talliedAll (andThen r (ahead here after-first)) ≡ tally.Refused i
       go (answered es) q = let z : _≡_ {A = ℕ} 0 1 = cc in absurd (omega arith)
       go (refused j) q = sym q
 

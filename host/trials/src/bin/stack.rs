@@ -7,12 +7,12 @@ use std::{arch::asm, collections::BTreeMap};
 use clap::Parser;
 use pulindraxi::{
     boundary::{self, Asked, AskedG, Cds, Laid},
-    limits::MOST_SEGMENTS,
+    limits::{MOST_RECORDS, MOST_SEGMENTS},
 };
 use rand::{Rng, SeedableRng};
 use rand_xorshift::XorShiftRng;
 use trials::{
-    draw::{self, Case, Record},
+    draw::{self, Case},
     Lent,
 };
 
@@ -105,9 +105,7 @@ fn input(rng: &mut XorShiftRng) -> Case {
     if !rng.gen_ratio(1, 50) {
         return draw::case(rng);
     }
-    let strand = if rng.gen() { 1 } else { -1 };
-    let record = |ord: i32| Record { numbers: [0, 0, 0, 0, ord * strand], cigar: b"2147483X0000I7=".to_vec() };
-    Case { strand, cds_start: None, cds_end: None, records: (0..512).map(record).collect() }
+    draw::alike(if rng.gen() { 1 } else { -1 }, MOST_RECORDS, b"2147483X0000I7=")
 }
 
 fn measure(count: usize) -> BTreeMap<&'static str, usize> {

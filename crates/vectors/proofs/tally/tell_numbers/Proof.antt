@@ -8,7 +8,7 @@ abbrev Inv-loop : tie.InvT-loop
 Inv-loop tally number₀ number = Unit {0}
 
 abbrev μ-loop : tie.MeasureT-loop
-μ-loop tally number₀ number = 32 - number
+μ-loop tally number₀ number = 33 - number
 
 pub tell-numbers-spec : {M : Type 1} → statement M
 tell-numbers-spec =

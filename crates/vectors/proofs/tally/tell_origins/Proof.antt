@@ -8,7 +8,7 @@ abbrev Inv-loop : tie.InvT-loop
 Inv-loop tally origin₀ origin = Unit {0}
 
 abbrev μ-loop : tie.MeasureT-loop
-μ-loop tally origin₀ origin = 6 - origin
+μ-loop tally origin₀ origin = 7 - origin
 
 pub tell-origins-spec : {M : Type 1} → statement M
 tell-origins-spec =
