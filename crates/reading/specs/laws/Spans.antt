@@ -41,7 +41,11 @@ module _ (r : Record) where
   -- where 32 refuses, what follows is not looked at
   pub followed : (read : Reading) (next : ℕ → Exons) → followedBy r read next ≡ andThen (spanned r read) (ahead r next)
   unfolding spanning
-  followed (answered es) next = by-test (isSpanned r es) (λ t. rw t) (λ t. rw t)
+  followed (answered es) next = go (next (length es)) refl
+    where
+      go : (x : Exons) → next (length es) ≡ x → followedBy r (answered es) next ≡ andThen (spanned r (answered es)) (ahead r next)
+      go (answered xs) e = by-test (isSpanned r es) (λ t. simp (t, e) refl) (λ t. simp (t, e) refl)
+      go (refused k) e = by-test (isSpanned r es) (λ t. simp (t, e) refl) (λ t. simp (t, e) refl)
   followed (refused k) next = refl
 
   -- a reading that was not refused is the text's own, and passed 32
