@@ -5,7 +5,7 @@ use mathlib.Core.Bool.{Bool, true, false, not, false≢true}
 use mathlib.Core.List.{List, [], _∷_, map}
 use mathlib.Core.Path.{_≡_, refl, sym, ap, ap₂, _∙_}
 use lib.Dec.{T, eqb, lit<}
-use lib.IntN.{ℤ, natAbs}
+use lib.IntN.{natAbs}
 use Rattle.refusals.specs.Numbers.{noGenome, notTogether, falling}
 use Rattle.refusals.specs.Outcome.{answered, refused}
 use Rattle.whole.specs.Whole.{if_then_else_}

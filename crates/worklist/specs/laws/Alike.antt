@@ -3,16 +3,13 @@ use Prim.Native.Nat.{ℕ, zero, suc, _<_}
 use mathlib.Core.List.{List}
 use mathlib.Core.Option.{Option, none, some}
 use mathlib.Core.Path.{_≡_, refl, sym, _∙_}
-use mathlib.Core.Bool.{true}
 use lib.IntN.{ℤ, pos}
 use lib.ListN.{getD, length}
 use Rattle.cigar.specs.Elements.{genome}
 use Rattle.segments.specs.Tables.{Tables, Holds, read, entriesOf}
 use Rattle.segments.specs.laws.Made.{entry-total}
 use Rattle.segments.specs.laws.Reading.{last-genome, index-by-genome}
-use Rattle.transcript.specs.Transcript.{Transcript}
-use Rattle.places.specs.Mapping.{inside}
-use Rattle.worklist.specs.Worklist.{Track, placeOn, within, segmentOf, wider, largest, segmentOr0, stepsAfter, stepsOf}
+use Rattle.worklist.specs.Worklist.{Track, placeOn, segmentOf, wider, largest, segmentOr0, stepsAfter, stepsOf}
 
 module _ (first : ℕ) (a b : List ℕ) (n m : ℕ) (last : getD a n 0 ≡ getD b m 0) where
   abbrev one : Track

@@ -2,15 +2,15 @@
 use Prim.Native.Nat.{ℕ, zero, suc, _+_, _-_, _≤_, _<_}
 use native.Mathlib.Omega.{arith}
 use native.Mathlib.Numerals.{add-one}
-use mathlib.Core.Bool.{Bool, true, false}
+use mathlib.Core.Bool.{true}
 use mathlib.Core.List.{List}
-use mathlib.Core.Path.{_≡_, sym}
+use mathlib.Core.Path.{_≡_}
 use lib.IntN.{ℤ, pos}
 use lib.ListN.{getD, length}
 use Rattle.whole.specs.laws.Whole.{by-test}
 use Rattle.segments.specs.Places.{endsAbove, indexOf}
 use Rattle.segments.specs.laws.Finding.{walk-goes-on}
-use Rattle.worklist.specs.Worklist.{Track, placeOn, within, segmentOf, stepsAfter, stepsOf, neverFalls}
+use Rattle.worklist.specs.Worklist.{Track, placeOn, within, stepsAfter, stepsOf, neverFalls}
 use Rattle.worklist.specs.Looks.{looksFrom, looksAt, looksAfter}
 use Rattle.worklist.specs.laws.Along.{index-on, walk-ready, walk-here, walk-stays}
 

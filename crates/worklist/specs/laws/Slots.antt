@@ -1,6 +1,6 @@
 -- The slots afterwards: as many as before, each with its position; and the slots of a list that is refused. Assumes nothing.
 use mathlib.Core.List.{List, [], _∷_, map}
-use mathlib.Core.Path.{_≡_, refl, ap, ap₂, _∙_}
+use mathlib.Core.Path.{_≡_, refl, ap}
 use lib.IntN.{ℤ}
 use lib.ListN.{length, length-map}
 use Prim.Native.Nat.{ℕ}

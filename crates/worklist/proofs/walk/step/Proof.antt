@@ -1,6 +1,5 @@
 -- `worklist::walk::step` meets its contract: the place that is tested is the position's, and where it lies inside, the walk was not past its segment. Assumes nothing.
 use mathlib.Core.Path.{_≡_, sym, _∙_}
-use mathlib.Core.Bool.{true}
 use native.Mathlib.Omega.{arith}
 use mir.Syntax.{w32, w64}
 use Rattle.whole.specs.laws.Whole.{told}
