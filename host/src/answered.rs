@@ -2,7 +2,7 @@
 //! becomes a question by `into` (see [`asked`](crate::asked)).
 
 use crate::{
-    boundary::{Answer, Position},
+    boundary::{Answer, Position, Slot},
     Refusal,
 };
 
@@ -82,6 +82,20 @@ impl<T> Mapped<T> {
 }
 
 // ---- From the boundary
+
+impl Slot {
+    /// A slot for a g. position. Until a worklist answers it, it says 23: nothing is known of its transcript.
+    pub const fn new(position: i32) -> Slot {
+        let at = Position { base: 0, offset: 0, star: 0 };
+        let answer = Answer { number: Refusal::NotTogether.number(), mark: 0, start: at, end: at };
+        Slot { position, answer }
+    }
+
+    /// The n. interval of its position, as g. to n. answers it in strict mode.
+    pub fn n(&self) -> Result<Mapped<NInterval>, Refusal> {
+        self.answer.try_into()
+    }
+}
 
 impl From<Position> for NPosition {
     fn from(n: Position) -> NPosition {

@@ -226,6 +226,26 @@ pub struct Said {
     pub yes: u32,
 }
 
+/// A place of a worklist: a g. position, and room for its answer.
+#[repr(C)]
+#[derive(Clone, Copy, Debug, PartialEq, Eq)]
+pub struct Slot {
+    /// The g. position, which stays.
+    pub position: i32,
+    /// What [`g_to_n`] says of that one base in strict mode, its refusal included.
+    pub answer: Answer,
+}
+
+/// What a worklist answers; where `number` is not 0, `steps` is 0 and no slot has changed.
+#[repr(C)]
+#[derive(Clone, Copy, Debug, Default, PartialEq, Eq)]
+pub struct Steps {
+    /// The refusal's number, 0 for none.
+    pub number: u32,
+    /// The number, from 0, of the segment that holds the largest position within strict bounds, or 0 where there is none.
+    pub steps: u32,
+}
+
 /// How much was read or written.
 #[repr(C)]
 #[derive(Clone, Copy, Debug, Default, PartialEq, Eq)]
@@ -342,8 +362,17 @@ questions! {
     txc_is_coding();
 }
 
-// SAFETY: as above. Those with a pointer and a length read, or write, just that many bytes, or numbers.
+// SAFETY: as above. Those with a pointer and a length read, or write, just that many bytes, numbers or slots.
 unsafe extern "C" {
+    fn txc_worklist(
+        head: &Head,
+        genome: &Starts,
+        transcript: &Starts,
+        letters: &Letters,
+        slots: *mut Slot,
+        slots_len: usize,
+    ) -> Steps;
+
     fn txc_build(
         strand: i32,
         cds: u32,
@@ -405,6 +434,14 @@ unsafe extern "C" {
         alternative_len: usize,
     ) -> usize;
     fn txc_changed(reference: *const u8, reference_len: usize, alternative: *const u8, alternative_len: usize) -> Part;
+}
+
+/// Answers the slots of a sorted worklist in one walk, and says how many segments it stepped over.
+#[inline]
+pub fn worklist(of: Reading<'_>, slots: &mut [Slot]) -> Steps {
+    let Reading { head, genome, transcript, letters } = of;
+    // SAFETY: pointer and length are the slice's.
+    unsafe { txc_worklist(head, genome, transcript, letters, slots.as_mut_ptr(), slots.len()) }
 }
 
 /// Builds a transcript from records, and says the refusal's number.

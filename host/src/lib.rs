@@ -3,7 +3,8 @@
 //! A [`Transcript`] is built from exon records, from a card or from a length alone, and is then asked. Positions are read
 //! and written as HGVS names; those that are [`asked`] and those that are [`answered`] are types of their own, and an answer
 //! becomes a question by `into`. What cannot be answered is a [`Refusal`] with the number and the words of the documents. A
-//! record's CIGAR is text; [`cigar`] makes it from BAM's words too.
+//! record's CIGAR is text; [`cigar`] makes it from BAM's words too. Sorted g. positions are answered in one walk
+//! ([`Room::worklist`]).
 //!
 //! ```
 //! use pulindraxi::{Bounds, Exon, Input, Transcript};
@@ -36,6 +37,7 @@ mod refusal;
 mod transcript;
 
 pub use answered::Mapped;
+pub use boundary::Slot;
 pub use cigar::Element;
 pub use input::{Exon, Input};
 pub use name::{Named, NoName};

@@ -87,6 +87,7 @@ refusals! {
     30 NoOperation "a BAM word whose operation is none of M, I, D, N, = and X"
     31 NoWord "in writing BAM words, a count below 0 or above 268,435,455"
     32 NotSpanning "a CIGAR whose genome length differs from its bounds"
+    33 Falling "a worklist that falls anywhere"
 }
 
 impl Refusal {
@@ -114,7 +115,7 @@ mod tests {
     #[test]
     fn document_01_has_1_to_23_and_document_02_goes_on_from_30() {
         let numbers: Vec<_> = Refusal::NAMED.iter().map(|refusal| refusal.number()).collect();
-        assert!(numbers.is_sorted() && numbers.starts_with(&(1..=23).chain(30..=32).collect::<Vec<_>>()));
+        assert!(numbers.is_sorted() && numbers.starts_with(&(1..=23).chain(30..=33).collect::<Vec<_>>()));
     }
 
     #[test]

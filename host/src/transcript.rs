@@ -5,7 +5,7 @@ use std::ops::Deref;
 use crate::{
     answered::{self, Mapped},
     asked,
-    boundary::{self, Cds, Filling, Head, Letters, Reading, Starts},
+    boundary::{self, Cds, Filling, Head, Letters, Reading, Slot, Starts},
     input::Input,
     limits::{MOST_SEGMENTS, MOST_STARTS},
     Refusal,
@@ -145,6 +145,35 @@ impl Room {
     /// Whether the transcript codes.
     pub fn is_coding(&self) -> Result<bool, Refusal> {
         said(boundary::is_coding(self.reading()))
+    }
+
+    /// Answers a sorted worklist in place: each slot gets what [`Room::g_to_n`] says of its position with strict bounds, its
+    /// refusal included, in one walk along the segments. Positions may be equal; where one is below the one before it, the
+    /// whole list is refused (33) and no slot changes.
+    ///
+    /// It says how many segments were stepped over: the number, from 0, of the segment that holds the largest position within
+    /// bounds, or 0 where there is none.
+    ///
+    /// ```
+    /// use pulindraxi::{Exon, Input, Refusal, Slot, Transcript};
+    ///
+    /// let exons = [
+    ///     Exon { alt_start_i: 10, alt_end_i: 20, tx_start_i: 0, tx_end_i: 10, ord: 0, cigar: b"10M" },
+    ///     Exon { alt_start_i: 25, alt_end_i: 33, tx_start_i: 10, tx_end_i: 18, ord: 1, cigar: b"8M" },
+    /// ];
+    /// let a = Transcript::build(&Input { strand: 1, cds_start: None, cds_end: None, exons: &exons })?;
+    ///
+    /// let mut slots = [11, 23, 26, 34].map(Slot::new);
+    /// assert_eq!(a.worklist(&mut slots), Ok(2));
+    /// assert_eq!(slots[1].n()?.to_string(), "n.10+3");
+    /// assert_eq!(slots[3].n(), Err(Refusal::Outside));
+    /// assert_eq!(a.worklist(&mut [24, 23].map(Slot::new)), Err(Refusal::Falling));
+    /// # Ok::<(), Refusal>(())
+    /// ```
+    pub fn worklist(&self, slots: &mut [Slot]) -> Result<u32, Refusal> {
+        let walked = boundary::worklist(self.reading(), slots);
+        Refusal::check(walked.number)?;
+        Ok(walked.steps)
     }
 
     /// How many segments the head counts, at most those that have a place. A length-only transcript has none.

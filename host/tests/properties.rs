@@ -6,7 +6,7 @@ use pulindraxi::{
     alleles,
     asked::{CInterval, CPosition, GInterval, NInterval, NPosition},
     boundary::Head,
-    cigar, Bounds, Element, Exon, Input, Refusal, Room, Transcript,
+    cigar, Bounds, Element, Exon, Input, Refusal, Room, Slot, Transcript,
 };
 
 /// Elements with counts from 0 on.
@@ -155,6 +155,30 @@ proptest! {
             for g in [GInterval::at(g), GInterval::at(first + h), GInterval::new(first + h, first + h + 3)] {
                 if let Ok(n) = room.g_to_n(g, Bounds::Strict) {
                     prop_assert_eq!(room.g_to_n(g, Bounds::Lenient), Ok(n));
+                }
+            }
+        }
+    }
+
+    #[test]
+    fn a_worklist_answers_as_each_position_alone((strand, first, parts, coding) in transcripts(), mut steps in vec(-5..300i32, 0..30), sorted in any::<bool>()) {
+        if let Ok(room) = with_input(strand, first, &parts, coding, Transcript::build) {
+            if sorted {
+                steps.sort_unstable();
+            }
+            let mut slots: Vec<_> = steps.iter().map(|step| Slot::new(first + step)).collect();
+            let before = slots.clone();
+            match room.worklist(&mut slots) {
+                Ok(stepped) => {
+                    prop_assert!(steps.is_sorted() && (stepped as usize) < room.segment_count());
+                    for (slot, asked) in slots.iter().zip(&before) {
+                        prop_assert_eq!(slot.position, asked.position);
+                        prop_assert_eq!(slot.n(), room.g_to_n(GInterval::at(slot.position), Bounds::Strict));
+                    }
+                }
+                Err(refusal) => {
+                    prop_assert_eq!(refusal, Refusal::Falling);
+                    prop_assert!(!steps.is_sorted() && slots == before);
                 }
             }
         }

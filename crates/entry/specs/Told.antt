@@ -1,12 +1,16 @@
--- What the boundary's questions tell of what is lent: an answer's numbers, as include/txc.h has them, and what building leaves in lent memory. Assumes nothing.
+-- What the boundary's questions tell of what is lent: an answer's numbers, as include/txc.h has them, and what a worklist's slots then hold. Assumes nothing.
 use Prim.Native.Nat.{ℕ}
 use mathlib.Core.Bool.{Bool}
+use mathlib.Core.List.{List}
 use lib.IntN.{ℤ}
 use Rattle.holding.specs.Holding.{Lent, checked}
 use Rattle.mapper.specs.Asking.{askGToN, askNToG, askNToC, askCToN, askGToC, askCToG, askCoding, askInBounds}
 use Rattle.layout.specs.Layout.{gAsked, nAsked, cAsked, gLaid, nLaid, cLaid, laid, saidLaid}
 use Rattle.layout.specs.declared.lay.Answer.{Answer}
 use Rattle.layout.specs.declared.lay.Said.{Said}
+use Rattle.worklist.specs.Worklist.{listed, stepsLaid, slotsAfter}
+use Rattle.worklist.specs.declared.Slot.{Slot}
+use Rattle.worklist.specs.declared.Steps.{Steps}
 
 module _ (x : Lent) where
   abbrev pub toldGToN : ℤ → ℤ → ℕ → Bool → Answer
@@ -32,3 +36,10 @@ module _ (x : Lent) where
 
   abbrev pub toldCoding : Said
   toldCoding = saidLaid (checked x askCoding)
+
+  -- what a worklist tells, and its slots afterwards
+  abbrev pub toldSteps : List Slot → Steps
+  toldSteps slots = stepsLaid (listed x slots)
+
+  abbrev pub toldSlots : List Slot → List Slot
+  toldSlots slots = slotsAfter x slots

@@ -3,4 +3,5 @@
 pub mod ask;
 pub mod bam;
 pub mod build;
+pub mod slots;
 pub mod text;

@@ -1,8 +1,10 @@
 -- What is shown of the definitions.
+--     Known        what is known of what is lent, and what each question then is
 --     Refusing     which refusals each question can give
 --     Occurring    each of them occurs
 --     Keeping      a strict answer is also the lenient one
 --     Marks        when an answer of a chain is uncertain
+pub mod Known
 pub mod Refusing
 pub mod Occurring
 pub mod Keeping

@@ -24,7 +24,7 @@ pub enum Known {
 }
 
 // How a transcript that was built from records lies on the genome.
-fn alignment(head: Head) -> Alignment
+pub fn alignment(head: Head) -> Alignment
     requires { ⌜ headHolds head ≡ true ⌝ }
     ensures { λ r. ⌜ r ≡ alignmentOf head ⌝ }
 {

@@ -19,7 +19,7 @@ use refusals::NO_GENOME;
 use refusals::NOT_TOGETHER;
 use transcript::Head;
 
-mod knowing;
+pub mod knowing;
 mod steps;
 
 // g. to n.: 23, 18, 19, 14, 17.

@@ -9,11 +9,11 @@ use Rattle.refusals.specs.Outcome.{refused}
 use Rattle.numbering.specs.Numbers.{placeOfN}
 use Rattle.segments.specs.Tables.{Tables}
 use Rattle.cigar.specs.Elements.{genome, transcript}
-use Rattle.segments.specs.Places.{Spot, stopOf}
+use Rattle.segments.specs.Places.{Spot, indexOf, segmentAt, spotOf, stopOf, mapByTables}
 use Rattle.segments.specs.Places.End.{start, stop}
 use Rattle.segments.specs.laws.Finding.{stop-of-place}
 use Rattle.segments.specs.laws.Meaning.{holds-means}
-use Rattle.segments.specs.laws.Reading.{last-genome, last-transcript}
+use Rattle.segments.specs.laws.Reading.{last-genome, last-transcript, by-genome}
 use Rattle.segments.specs.Paper.{toTranscript, toGenome}
 use Rattle.transcript.specs.Transcript.{genomeLength, transcriptLength}
 use Rattle.positions.specs.Positions.{NAsked}
@@ -63,6 +63,11 @@ module _ (a : Alignment) (x : Tables) (sound : Aligns a x) where
 
     pub one-refused : inside strict (getD (x .genome) (a .count) 0) (g-from strict g g) ≡ false → gToN strict (alignedBy a x) (record { from = g; to = g }) ≡ refused outside
     one-refused e = n-refused strict g g (rw e refl)
+
+    -- by the segment that holds its place
+    pub spot-at : (number : ℕ) → number ≡ indexOf (x .genome) (a .count) (g-from strict g g) → spotOf (segmentAt (x .genome) (x .transcript) (x .letters) number) (g-from strict g g) start (a .forward) ≡ n-from strict g g
+    unfolding mapByTables
+    spot-at number e = rw e (by-genome x (a .count) (holds-means x (a .count) (sound .segments)) (sound .count-from) (g-from strict g g) start (a .forward))
 
   -- n. to g. of two positions in genomic order, likewise
   module _ (strict : Bool) (u v : NAsked) where

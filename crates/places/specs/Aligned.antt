@@ -1,18 +1,20 @@
 -- How a transcript lies on the genome as the code holds it, and what the steps of g. to n. and back give at one end. Assumes nothing.
-use Prim.Native.Nat.{ℕ, _≤_}
+use Prim.Native.Nat.{ℕ, _≤_, _<_}
 use mathlib.Core.Path.{_≡_}
 use mathlib.Core.Bool.{Bool, true, _&&_}
+use mathlib.Core.List.{List}
 use lib.IntN.{ℤ, pos, _+ℤ_}
+use lib.ListN.{getD}
 use Rattle.refusals.specs.Numbers.{mostSegments}
 use Rattle.refusals.specs.Outcome.{Outcome}
 use Rattle.numbering.specs.Numbers.{nOfPlace}
-use Rattle.segments.specs.Places.{Spot}
+use Rattle.segments.specs.Places.{Spot, indexOf}
 use Rattle.segments.specs.Tables.{Tables, segmentsHold, read}
 use Rattle.transcript.specs.Transcript.{Transcript}
 use Rattle.transcript.specs.Transcript.Cds.{noCds}
 use Rattle.positions.specs.Positions.{GPosition, NPosition}
 use Rattle.positions.specs.Answers.{Answer, markOf, ends, gFits, nFits, ifFits}
-use Rattle.places.specs.Mapping.{turned, signed, earlier, later}
+use Rattle.places.specs.Mapping.{inside, turned, signed, earlier, later, placeOfG}
 use Rattle.places.specs.declared.Alignment.{Alignment}
 
 -- the transcript that lies so. Between g. and n. its CDS is not looked at
@@ -24,6 +26,11 @@ pub record Aligns (a : Alignment) (x : Tables) : Type 0 where
   pub count-from : 1 ≤ a .count
   pub count-to : a .count ≤ mostSegments
   pub segments : segmentsHold x (a .count) ≡ true
+
+-- this is the number of a segment, and of the one that holds the place of g, where that place lies within strict bounds
+pub record InSegment (a : Alignment) (genome : List ℕ) (number : ℕ) (g : ℤ) : Type 0 where
+  pub on : number < a .count
+  pub here : inside true (getD genome (a .count) 0) (placeOfG (a .first) g) ≡ true → number ≡ indexOf genome (a .count) (placeOfG (a .first) g)
 
 -- a spot of a transcript of that strand and length as an n. position, or 17
 abbrev pub nEndAt : Bool → ℕ → Spot → Outcome NPosition

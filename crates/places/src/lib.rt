@@ -1,6 +1,6 @@
 // Between g. and n. of a transcript that lies on the genome: places, then ends, then intervals.
 ghost use mathlib.Core.Path.{_≡_};
-ghost use mathlib.Core.Bool.{_&&_};
+ghost use mathlib.Core.Bool.{true, _&&_};
 ghost use Prim.Native.Nat.{_≤_};
 ghost use lib.ListN.{getD};
 ghost use Rattle.refusals.specs.Numbers.{mostSegments};
@@ -12,7 +12,7 @@ ghost use Rattle.segments.specs.Places.{stopOf};
 ghost use Rattle.positions.specs.Answers.{gFits, fitting};
 ghost use Rattle.positions.specs.Paper.{paperNAsked, paperNQuestion, paperGEnd, paperNEnd, paperG, paperN};
 ghost use Rattle.places.specs.Mapping.{inside, turned, signed, placeOfG, gToN, gOfEnds, nToG, inBounds};
-ghost use Rattle.places.specs.Aligned.{alignedBy, Aligns, nEndAt, nJoined, gEndAt, gJoined};
+ghost use Rattle.places.specs.Aligned.{alignedBy, Aligns, InSegment, nEndAt, nJoined, gEndAt, gJoined};
 use numbering::Place;
 use positions::GAnswer;
 use positions::NAnswer;
@@ -42,7 +42,7 @@ pub fn last(starts: &[u32; MOST_STARTS], count: usize) -> u32
 }
 
 // The place of a g. number. g. numbers are counted from 1 and run through 0, so this 1 is not the missing zero's.
-fn place_of_g(first: u32, g: i32) -> Place
+pub fn place_of_g(first: u32, g: i32) -> Place
     ensures { λ r. ⌜ (r .0 ≡ placeOfG first g) × Within 36 (r .0) ⌝ }
 {
     let number = g as i64;
@@ -52,7 +52,7 @@ fn place_of_g(first: u32, g: i32) -> Place
 }
 
 // Whether a place lies at or above 0 and below the last entry, which is asked in strict mode alone.
-fn is_inside(strict: bool, len: u32, p: Place) -> bool
+pub fn is_inside(strict: bool, len: u32, p: Place) -> bool
     ensures { λ r. ⌜ r ≡ inside strict len (p .0) ⌝ }
 {
     if strict {
@@ -177,6 +177,37 @@ fn one_to_n(
             letters,
             count,
             p,
+            End::Start,
+            forward,
+        );
+        return n_of_one(forward, last(transcript, count), start);
+    }
+    NAnswer::Refused(refusals::OUTSIDE)
+}
+
+// The same in strict mode, by the number of the segment that holds the base, which is at hand.
+pub fn one_to_n_at(
+    at: Alignment,
+    genome: &[u32; MOST_STARTS],
+    transcript: &[u32; MOST_STARTS],
+    letters: &[u8; MOST_SEGMENTS],
+    number: usize,
+    g: i32,
+) -> NAnswer
+    requires { ⌜ Aligns at (tables (now genome) (now transcript) (now letters)) ⌝ }
+    requires { ⌜ InSegment at (now genome) number g ⌝ }
+    ensures { λ r. ⌜ paperN r ≡ gToN true (alignedBy at (tables (now (genome .entry)) (now (transcript .entry)) (now (letters .entry)))) (record { from = g; to = g }) ⌝ }
+{
+    let forward = at.forward;
+    let count = at.count;
+    let p = place_of_g(at.first, g);
+    if is_inside(true, last(genome, count), p) {
+        let start = segments::map_at(
+            genome,
+            transcript,
+            letters,
+            number,
+            p.0,
             End::Start,
             forward,
         );

@@ -10,6 +10,7 @@ use Rattle.refusals.specs.Numbers.{noGenome}
 use Rattle.refusals.specs.Outcome.{Outcome, answered, refused, Answered, andThen}
 use Rattle.refusals.specs.laws.Outcomes.{clash, same}
 use Rattle.refusals.specs.Refusing.{oneOf, Only}
+use Rattle.whole.specs.laws.Whole.{by-test}
 use Rattle.segments.specs.Tables.{Tables, tablesOf}
 use Rattle.transcript.specs.Transcript.{Transcript, Source, Cds}
 use Rattle.transcript.specs.Transcript.Source.{aligned, lengthOnly}
@@ -35,6 +36,7 @@ use Rattle.mapper.specs.laws.Refusing.{gToCRefusals, cToGRefusals, g-to-c-refus
 use Rattle.layout.specs.Layout.{headAt, gAsked as asked, nAsked, cAsked, gLaid, nLaid, cLaid, laid, saidLaid}
 use Rattle.layout.specs.declared.lay.Position.{Position}
 use Rattle.entry.specs.Boundary.{builtNumber, builtHead}
+use Rattle.worklist.specs.Worklist.{positionsOf, neverFalls, askSteps, stepsLaid}
 use Rattle.promises.specs.Bases.{Name}
 use Rattle.promises.specs.Demands.{ours, strict, madeOf, Builds, Named, BasesNamed, Keeps}
 use Rattle.promises.specs.Refusals.{buildingRefusals, cardRefusals, lengthRefusals}
@@ -91,7 +93,7 @@ chained s t (answered i) = refl
 chained s t (refused k) = refl
 
 sees : (x : Lent) (t : Transcript) → holds x ≡ true → sourceOf x ≡ aligned t → Sees ours x t
-unfolding askGToN askNToG askNToC askCToN askGToC askCToG askCoding askInBounds cToG
+unfolding askGToN askNToG askNToC askCToN askGToC askCToG askCoding askInBounds askSteps cToG
 sees x t held stands = record {
   g-to-n = λ a b missing s. ap (laid nLaid) (it (askGToN s (asked a b missing)));
   g-to-c = λ a b missing s. ap (laid cLaid) (it (askGToC s (asked a b missing)) ∙ chained s t (given (asked a b missing)));
@@ -101,6 +103,8 @@ sees x t held stands = record {
   c-to-g = λ a o star b u starred s. ap (laid gLaid) (it (askCToG s (cAsked a o star b u starred)));
   in-bounds = λ a b missing. ap saidLaid (it (askInBounds (asked a b missing)));
   coding = ap saidLaid (it askCoding);
+  steps = λ list. ap stepsLaid (it (askSteps (positionsOf list)));
+  slots = λ list. by-test (neverFalls (positionsOf list)) (λ e. rw (it (askSteps (positionsOf list)), e) refl) (λ e. rw (it (askSteps (positionsOf list)), e) refl);
 }
   where
     it : {A : Type 0} (ask : Source → Outcome A) → checked x ask ≡ ask (aligned t)
@@ -133,7 +137,7 @@ host-sees w head was z = let (m, judged) = way-made w z in (madeOf m, way-builds
 -- ---- a length
 
 sees-length : (x : Lent) (len : ℕ) (c : Cds) → holds x ≡ true → sourceOf x ≡ lengthOnly len c → SeesLength x len c
-unfolding askGToN askNToG askNToC askCToN askGToC askCToG askCoding askInBounds
+unfolding askGToN askNToG askNToC askCToN askGToC askCToG askCoding askInBounds askSteps
 sees-length x len c held stands = record {
   g-to-n = λ a b missing s. ap (laid nLaid) (it (askGToN s (asked a b missing)));
   g-to-c = λ a b missing s. ap (laid cLaid) (it (askGToC s (asked a b missing)));
@@ -143,6 +147,8 @@ sees-length x len c held stands = record {
   c-to-g = λ a o star b u starred s. ap (laid gLaid) (it (askCToG s (cAsked a o star b u starred)) ∙ ended (cToN s len c (cAsked a o star b u starred)));
   in-bounds = λ a b missing. ap saidLaid (it (askInBounds (asked a b missing)));
   coding = ap saidLaid (it askCoding);
+  steps = λ list. ap stepsLaid (it (askSteps (positionsOf list)));
+  slots = λ list. rw (it (askSteps (positionsOf list))) refl;
 }
   where
     it : {A : Type 0} (ask : Source → Outcome A) → checked x ask ≡ ask (lengthOnly len c)

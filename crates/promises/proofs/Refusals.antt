@@ -38,6 +38,7 @@ use Rattle.card.specs.Writing.{judgeRead, judgeCard, ifTaken, cardWriting}
 use Rattle.card.specs.laws.RoundTrips.{IsCard, read-means}
 use Rattle.card.specs.declared.ReadCard.{ReadCard}
 use Rattle.card.specs.declared.ReadCard.the-variants as read
+use Rattle.worklist.specs.laws.Refusing.{worklist-refuses}
 use Rattle.promises.specs.Refusals.{Refusals, readingRefusals, writingRefusals, readingWordsRefusals, writingWordsRefusals, recordsRefusals, buildingRefusals, cardRefusals, lengthRefusals, cardWritingRefusals}
 
 -- ---- rows
@@ -338,4 +339,5 @@ refusals = record {
   build-card = card-only;
   build-length = length-only;
   write-card = card-writing-only;
+  worklist = worklist-refuses;
 }

@@ -4,11 +4,12 @@
 --     Host-2, Host-3        demands 2 and 3 in the numbers that the host is told
 use Prim.Native.Nat.{ℕ}
 use mathlib.Core.Bool.{Bool}
-use mathlib.Core.List.{List}
+use mathlib.Core.List.{List, map}
 use mathlib.Core.Path.{_≡_}
 use lib.IntN.{ℤ}
-use Rattle.refusals.specs.Numbers.{noGenome}
+use Rattle.refusals.specs.Numbers.{noGenome, falling}
 use Rattle.refusals.specs.Outcome.{Outcome, answered, refused, andThen, through}
+use Rattle.whole.specs.Whole.{if_then_else_}
 use Rattle.segments.specs.Tables.{Tables}
 use Rattle.transcript.specs.Transcript.{Transcript, Cds, genomeLength}
 use Rattle.transcript.specs.Transcript.Cds.{cds}
@@ -25,7 +26,9 @@ use Rattle.places.specs.Mapping.{inBounds}
 use Rattle.mapper.specs.Asking.{given, codes}
 use Rattle.layout.specs.Layout.{headAt, gAsked as asked, nAsked, cAsked, gLaid, nLaid, cLaid, laid, refusal, saidLaid}
 use Rattle.entry.specs.Boundary.{builtNumber, builtHead}
-use Rattle.entry.specs.Told.{toldGToN, toldGToC, toldNToG, toldNToC, toldCToN, toldCToG, toldInBounds, toldCoding}
+use Rattle.entry.specs.Told.{toldGToN, toldGToC, toldNToG, toldNToC, toldCToN, toldCToG, toldInBounds, toldCoding, toldSteps, toldSlots}
+use Rattle.worklist.specs.Worklist.{positionsOf, neverFalls, trackOf, stepsOf, stepsLaid}
+use Rattle.worklist.specs.declared.Slot.{Slot}
 use Rattle.promises.specs.Bases.{Name, nName, cName}
 use Rattle.promises.specs.Demands.{Mapper, strict, Builds, gNumber, gAt, nAt, cAt, BasesNamed, Lengthens}
 
@@ -55,6 +58,10 @@ writtenBy w head was = record { head = headAt (builtHead (builtAnswer (judgment 
 
 -- ---- asking
 
+-- a slot with what g. to n. tells of its position in strict mode
+abbrev pub toldSlot : Lent → Slot → Slot
+toldSlot x s = record { position = s .position; answer = toldGToN x (s .position) (s .position) 0 strict }
+
 -- over x the answer's numbers are those of the mapper m about t; an end of a g. interval that is missing refuses as `given` says
 pub record Sees (m : Mapper) (x : Lent) (t : Transcript) : Type 0 where
   pub g-to-n : (a b : ℤ) (missing : ℕ) (s : Bool) → toldGToN x a b missing s ≡ laid nLaid (andThen (given (asked a b missing)) (m .g-to-n s t))
@@ -65,6 +72,9 @@ pub record Sees (m : Mapper) (x : Lent) (t : Transcript) : Type 0 where
   pub c-to-g : (a o : ℤ) (star : Bool) (b u : ℤ) (starred s : Bool) → toldCToG x a o star b u starred s ≡ laid gLaid (m .c-to-g s t (cAsked a o star b u starred))
   pub in-bounds : (a b : ℤ) (missing : ℕ) → toldInBounds x a b missing ≡ saidLaid (through (inBounds (t .first) (genomeLength t)) (given (asked a b missing)))
   pub coding : toldCoding x ≡ saidLaid (answered (codes (t .coding)))
+  -- a worklist: the steps along the transcript, and in each slot what g. to n. tells of its position in strict mode; 33 for a list that falls, whose slots stay
+  pub steps : (list : List Slot) → toldSteps x list ≡ stepsLaid (if neverFalls (positionsOf list) then answered (stepsOf (trackOf t) (positionsOf list)) else refused falling)
+  pub slots : (list : List Slot) → toldSlots x list ≡ (if neverFalls (positionsOf list) then map (toldSlot x) list else list)
 
 -- where building tells 0, a transcript builds from the input that the bytes lay out, and the host sees it
 abbrev pub Host-sees : Mapper → Type 0
@@ -86,6 +96,8 @@ pub record SeesLength (x : Lent) (len : ℕ) (c : Cds) : Type 0 where
   pub c-to-g : (a o : ℤ) (star : Bool) (b u : ℤ) (starred s : Bool) → toldCToG x a o star b u starred s ≡ laid gLaid (andThen (cToN s len c (cAsked a o star b u starred)) (λ n. refused noGenome))
   pub in-bounds : (a b : ℤ) (missing : ℕ) → toldInBounds x a b missing ≡ saidLaid (refused noGenome)
   pub coding : toldCoding x ≡ saidLaid (answered (codes c))
+  pub steps : (list : List Slot) → toldSteps x list ≡ stepsLaid (refused noGenome)
+  pub slots : (list : List Slot) → toldSlots x list ≡ list
 
 -- where building from a length tells 0, it measured that length and that CDS, and the host sees them
 abbrev pub Host-sees-length : Type 0

@@ -1,4 +1,4 @@
--- The table of refusals, of what is not a question: which numbers building, CIGAR text, BAM's words and a card can give. That of the questions stands in `mapper`. Assumes nothing.
+-- The table of refusals, of what is not a question: which numbers building, CIGAR text, BAM's words, a card and a worklist can give. That of the questions stands in `mapper`. Assumes nothing.
 use Prim.Native.Nat.{ℕ}
 use mathlib.Core.List.{List, [], _∷_}
 use lib.IntN.{ℤ}
@@ -10,6 +10,10 @@ use Rattle.words.specs.Words.{readWords, writeWords}
 use Rattle.transcript.specs.declared.Numbers.{Numbers}
 use Rattle.judging.specs.Judging.{judge, judgeLength}
 use Rattle.card.specs.Writing.{judgeCard, cardWriting}
+use Rattle.holding.specs.Holding.{Lent}
+use Rattle.worklist.specs.Worklist.{listed}
+use Rattle.worklist.specs.laws.Refusing.{worklistRefusals}
+use Rattle.worklist.specs.declared.Slot.{Slot}
 
 -- txc_read_cigar
 abbrev pub readingRefusals : List ℕ
@@ -56,3 +60,4 @@ pub record Refusals : Type 0 where
   pub build-card : (bytes : List ℕ) → Only cardRefusals (judgeCard bytes)
   pub build-length : (len : ℤ) (bits : ℕ) (start end : ℤ) → Only lengthRefusals (judgeLength len bits start end)
   pub write-card : (n : Numbers) (bytes : List ℕ) (room : ℕ) → Only cardWritingRefusals (cardWriting n bytes room)
+  pub worklist : (x : Lent) (slots : List Slot) → Only worklistRefusals (listed x slots)

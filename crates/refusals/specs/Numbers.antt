@@ -105,6 +105,10 @@ noWord = 31
 abbrev pub notSpanning : ℕ
 notSpanning = 32
 
+-- a worklist's positions fall somewhere
+abbrev pub falling : ℕ
+falling = 33
+
 -- the most exon records of a transcript
 abbrev pub mostRecords : ℕ
 mostRecords = 512

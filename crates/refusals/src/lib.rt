@@ -52,6 +52,8 @@ pub const NO_OPERATION: u8 = 30;
 pub const NO_WORD: u8 = 31;
 // A record's CIGAR is not as long along the genome as the record's bounds.
 pub const NOT_SPANNING: u8 = 32;
+// A worklist's positions fall somewhere.
+pub const FALLING: u8 = 33;
 
 // The most exon records of a transcript.
 pub const MOST_RECORDS: usize = 512;

@@ -56,6 +56,23 @@ fn find(starts: &[u32; MOST_STARTS], count: usize, p: i64) -> usize
     low
 }
 
+// The number of the segment of the place p, from a segment on that is not past it: one step at a time, and none back.
+pub fn find_from(starts: &[u32; MOST_STARTS], count: usize, from: usize, p: i64) -> usize
+    requires { ⌜ (1 ≤ count) × (count ≤ mostSegments) ⌝ }
+    requires { ⌜ from ≤ indexOf (now starts) count p ⌝ }
+    ensures { λ r. ⌜ r ≡ indexOf (now (starts .entry)) count p ⌝ }
+{
+    let last = count - 1;
+    let mut i = from;
+    while i < last {
+        if is_above(starts[i + 1], p) {
+            return i;
+        }
+        i += 1;
+    }
+    i
+}
+
 // Whether the left edge of an N is the nearer one; halfway it is on strand 1.
 fn is_left_nearer(forward: bool, left: i64, right: i64) -> bool
     ensures { λ r. ⌜ r ≡ leftNearer forward left right ⌝ }

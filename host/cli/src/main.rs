@@ -34,7 +34,8 @@ enum Command {
     ///
     /// Beside each stand its names of the other two kinds, an uncertain one in parentheses, or the refusal's number and
     /// words. Empty lines and lines that begin with # are skipped. A line that is no position is reported with its
-    /// number, and the run goes on; the exit status is then 1.
+    /// number, and the run goes on; the exit status is then 1. Single g. positions that come in order are put to the
+    /// transcript as sorted worklists; each line says the same either way.
     Map {
         /// The transcript's card
         card: PathBuf,

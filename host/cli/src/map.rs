@@ -2,12 +2,13 @@
 
 use std::{
     fmt::Display,
-    io::{BufRead, Write},
+    io::{self, BufRead, Write},
 };
 
 use pulindraxi::{
+    answered,
     asked::{CInterval, GInterval, NInterval},
-    Bounds, NoName, Refusal, Transcript,
+    Bounds, Mapped, NoName, Refusal, Slot, Transcript,
 };
 
 use crate::Outcome;
@@ -37,12 +38,61 @@ fn said<T: Display>(answer: Result<T, Refusal>) -> String {
     answer.map_or_else(|refusal| refusal.to_string(), |name| name.to_string())
 }
 
-/// The position and its names of the two other kinds.
-fn names(transcript: &Transcript, asked: &Asked, bounds: Bounds) -> [String; 3] {
+/// What g. to n. answers.
+type Numbered = Result<Mapped<answered::NInterval>, Refusal>;
+
+/// The position and its names of the two other kinds. A g. position's n. answer may be at hand already.
+fn names(transcript: &Transcript, asked: &Asked, bounds: Bounds, at_hand: Option<Numbered>) -> [String; 3] {
     match *asked {
-        Asked::G(g) => [g.to_string(), said(transcript.g_to_n(g, bounds)), said(transcript.g_to_c(g, bounds))],
+        Asked::G(g) => {
+            let n = at_hand.unwrap_or_else(|| transcript.g_to_n(g, bounds));
+            [g.to_string(), said(n), said(transcript.g_to_c(g, bounds))]
+        }
         Asked::N(n) => [n.to_string(), said(transcript.n_to_g(n, bounds)), said(transcript.n_to_c(n, bounds))],
         Asked::C(c) => [c.to_string(), said(transcript.c_to_g(c, bounds)), said(transcript.c_to_n(c, bounds))],
+    }
+}
+
+/// The position as a worklist takes it: one base of the genome, asked with strict bounds.
+fn listed(asked: &Asked, bounds: Bounds) -> Option<i32> {
+    match *asked {
+        Asked::G(GInterval { start: Some(start), end: Some(end) }) if start == end && bounds == Bounds::Strict => {
+            Some(start)
+        }
+        _ => None,
+    }
+}
+
+/// What g. to n. answers for each position with strict bounds: a worklist for each run of them that does not fall.
+fn walk(transcript: &Transcript, positions: impl Iterator<Item = i32>) -> Vec<Numbered> {
+    let mut slots: Vec<_> = positions.map(Slot::new).collect();
+    let mut answers = Vec::new();
+    for run in slots.chunk_by_mut(|before, after| before.position <= after.position) {
+        let walked = transcript.worklist(run).is_ok();
+        let answer = |slot: &Slot| match walked {
+            true => slot.n(),
+            false => transcript.g_to_n(GInterval::at(slot.position), Bounds::Strict),
+        };
+        answers.extend(run.iter().map(answer));
+    }
+    answers
+}
+
+/// The next lines, as many as have come together, and none at the end: what is there is answered before more is waited for.
+fn lines_at_hand(input: &mut impl BufRead) -> io::Result<Vec<u8>> {
+    let mut lines = Vec::new();
+    loop {
+        let come = match input.fill_buf() {
+            Err(error) if error.kind() == io::ErrorKind::Interrupted => continue,
+            come => come?,
+        };
+        let newline = come.iter().rposition(|&byte| byte == b'\n');
+        let taken = newline.map_or(come.len(), |at| at + 1);
+        lines.extend_from_slice(&come[..taken]);
+        input.consume(taken);
+        if newline.is_some() || taken == 0 {
+            return Ok(lines);
+        }
     }
 }
 
@@ -50,53 +100,176 @@ fn names(transcript: &Transcript, asked: &Asked, bounds: Bounds) -> [String; 3] 
 pub fn run(
     transcript: &Transcript,
     bounds: Bounds,
-    input: impl BufRead,
+    mut input: impl BufRead,
     mut output: impl Write,
     mut complaints: impl Write,
 ) -> Outcome {
-    let mut bad = 0u64;
-    for (index, line) in input.split(b'\n').enumerate() {
-        let line = line?;
-        let line = String::from_utf8_lossy(&line);
-        let line = line.trim();
-        if line.is_empty() || line.starts_with('#') {
-            continue;
+    let (mut before, mut bad) = (0, 0u64);
+    loop {
+        let lines = lines_at_hand(&mut input)?;
+        if lines.is_empty() {
+            break;
         }
-        match read(line) {
-            Ok(asked) => {
-                let [asked, first, second] = names(transcript, &asked, bounds);
-                if first == second {
-                    // Both are the same refusal.
-                    writeln!(output, "{asked:<15} {first}")?;
-                } else {
-                    writeln!(output, "{asked:<15} {first:<15} {second}")?;
+        let lines: Vec<_> = lines.split_inclusive(|&byte| byte == b'\n').map(String::from_utf8_lossy).collect();
+        let is_asked = |line: &&str| !line.is_empty() && !line.starts_with('#');
+        let asked: Vec<_> = lines.iter().map(|line| Some(line.trim()).filter(is_asked).map(read)).collect();
+        let positions = asked.iter().flatten().flatten().filter_map(|asked| listed(asked, bounds));
+        let mut walked = walk(transcript, positions).into_iter();
+        for (number, (line, asked)) in (before + 1..).zip(lines.iter().zip(&asked)) {
+            match asked {
+                None => (),
+                Some(Ok(asked)) => {
+                    let at_hand = listed(asked, bounds).and_then(|_| walked.next());
+                    write_row(&mut output, names(transcript, asked, bounds, at_hand))?;
+                }
+                Some(Err(why)) => {
+                    bad += 1;
+                    writeln!(complaints, "line {number}: `{}`: {why}", line.trim())?;
                 }
             }
-            Err(why) => {
-                bad += 1;
-                writeln!(complaints, "line {}: `{line}`: {why}", index + 1)?;
-            }
         }
+        before += lines.len();
     }
     output.flush()?;
     Ok(bad == 0)
+}
+
+/// Writes a position and its two other names, or the refusal once where both are the same.
+fn write_row(output: &mut impl Write, [asked, first, second]: [String; 3]) -> io::Result<()> {
+    if first == second {
+        writeln!(output, "{asked:<15} {first}")
+    } else {
+        writeln!(output, "{asked:<15} {first:<15} {second}")
+    }
 }
 
 #[cfg(test)]
 mod tests {
     use super::*;
     use pulindraxi::{Exon, Input};
+    use rand::{seq::SliceRandom, Rng, SeedableRng};
+    use rand_xorshift::XorShiftRng;
+    use std::{
+        cell::RefCell,
+        io::{BufReader, Read},
+    };
+
+    fn transcript(strand: i32) -> Transcript {
+        let ords = if strand == 1 { [0, 1] } else { [1, 0] };
+        let tx = if strand == 1 { [[0, 10], [10, 18]] } else { [[8, 18], [0, 8]] };
+        let exon = |index: usize, alt_start_i, alt_end_i, cigar| Exon {
+            alt_start_i,
+            alt_end_i,
+            tx_start_i: tx[index][0],
+            tx_end_i: tx[index][1],
+            ord: ords[index],
+            cigar,
+        };
+        let exons = [exon(0, 10, 20, &b"10M"[..]), exon(1, 25, 33, b"4M2I2M")];
+        Transcript::build(&Input { strand, cds_start: Some(3), cds_end: Some(15), exons: &exons }).unwrap()
+    }
+
+    fn map_of(transcript: &Transcript, bounds: Bounds, input: impl BufRead) -> (bool, String, String) {
+        let (mut output, mut complaints) = (Vec::new(), Vec::new());
+        let done = run(transcript, bounds, input, &mut output, &mut complaints).unwrap();
+        (done, String::from_utf8(output).unwrap(), String::from_utf8(complaints).unwrap())
+    }
 
     fn map(bounds: Bounds, lines: &str) -> (bool, String, String) {
-        let exons = [
-            Exon { alt_start_i: 10, alt_end_i: 20, tx_start_i: 0, tx_end_i: 10, ord: 0, cigar: b"10M" },
-            Exon { alt_start_i: 25, alt_end_i: 33, tx_start_i: 10, tx_end_i: 18, ord: 1, cigar: b"4M2I2M" },
-        ];
-        let input = Input { strand: 1, cds_start: Some(3), cds_end: Some(15), exons: &exons };
-        let (mut output, mut complaints) = (Vec::new(), Vec::new());
-        let transcript = Transcript::build(&input).unwrap();
-        let done = run(&transcript, bounds, lines.as_bytes(), &mut output, &mut complaints).unwrap();
-        (done, String::from_utf8(output).unwrap(), String::from_utf8(complaints).unwrap())
+        map_of(&transcript(1), bounds, lines.as_bytes())
+    }
+
+    /// What each line gives where it is asked by itself, with no worklist.
+    fn one_by_one(transcript: &Transcript, bounds: Bounds, lines: &str) -> (bool, String, String) {
+        let (mut output, mut complaints) = (Vec::new(), String::new());
+        for (index, line) in lines.split('\n').map(str::trim).enumerate() {
+            if line.is_empty() || line.starts_with('#') {
+                continue;
+            }
+            match read(line) {
+                Ok(asked) => write_row(&mut output, names(transcript, &asked, bounds, None)).unwrap(),
+                Err(why) => complaints += &format!("line {}: `{line}`: {why}\n", index + 1),
+            }
+        }
+        (complaints.is_empty(), String::from_utf8(output).unwrap(), complaints)
+    }
+
+    /// Single g. positions, with what else may stand on a line here and there.
+    fn lines(rng: &mut XorShiftRng) -> String {
+        let (count, is_sorted) = (rng.gen_range(0..60), rng.gen_ratio(2, 3));
+        let mut positions: Vec<i32> = (0..count).map(|_| rng.gen_range(8..37)).collect();
+        if is_sorted {
+            positions.sort_unstable();
+        }
+        let mut text = String::new();
+        for at in positions {
+            text += &match rng.gen_range(0..20) {
+                0 => "\n".to_string(),
+                1 => "# a remark\n".to_string(),
+                2 => ["x 3\n", "g\n", "g 12z\n", "g 2147483648\n"].choose(rng).unwrap().to_string(),
+                3 => format!("n {at}\n"),
+                4 => format!("c.{at}-1\n"),
+                5 => format!("g {at}_{}\n", rng.gen_range(8..37)),
+                6 => format!("g {at}_{at}\n"),
+                7 => ["g ?\n", "g -2147483648\n", "g 2147483647\n"].choose(rng).unwrap().to_string(),
+                8..=10 => format!("  g.{at} \r\n"),
+                _ => format!("g {at}\n"),
+            };
+        }
+        if rng.gen() {
+            text.pop();
+        }
+        text
+    }
+
+    #[test]
+    fn a_worklist_gives_what_each_line_gives_by_itself() {
+        let mut rng = XorShiftRng::seed_from_u64(4);
+        for transcript in [transcript(1), transcript(-1), Transcript::of_length(18, Some(3), Some(15)).unwrap()] {
+            for _ in 0..400 {
+                let lines = lines(&mut rng);
+                for bounds in [Bounds::Strict, Bounds::Lenient] {
+                    let expected = one_by_one(&transcript, bounds, &lines);
+                    assert_eq!(map_of(&transcript, bounds, lines.as_bytes()), expected, "{lines}");
+                    let in_pieces = BufReader::with_capacity(rng.gen_range(1..80), lines.as_bytes());
+                    assert_eq!(map_of(&transcript, bounds, in_pieces), expected, "{lines}");
+                }
+            }
+        }
+    }
+
+    #[test]
+    fn what_is_there_is_answered_before_more_is_waited_for() {
+        /// Gives a piece at a time, and sees by then the answers to the lines that it gave.
+        struct Typed<'a> {
+            pieces: &'a [(&'a str, usize)],
+            output: &'a RefCell<Vec<u8>>,
+            answered: usize,
+        }
+        impl Read for Typed<'_> {
+            fn read(&mut self, buffer: &mut [u8]) -> io::Result<usize> {
+                assert_eq!(self.output.borrow().split_inclusive(|&byte| byte == b'\n').count(), self.answered);
+                let Some(((piece, lines), rest)) = self.pieces.split_first() else { return Ok(0) };
+                self.pieces = rest;
+                self.answered += lines;
+                piece.as_bytes().read(buffer)
+            }
+        }
+        struct Shared<'a>(&'a RefCell<Vec<u8>>);
+        impl Write for Shared<'_> {
+            fn write(&mut self, bytes: &[u8]) -> io::Result<usize> {
+                self.0.borrow_mut().write(bytes)
+            }
+
+            fn flush(&mut self) -> io::Result<()> {
+                Ok(())
+            }
+        }
+        let output = RefCell::new(Vec::new());
+        let pieces = [("g 11\n", 1), ("g 12\ng 13\ng 1", 2), ("4", 0), ("\n\n", 1), ("g 15", 0), ("", 1)];
+        let input = BufReader::new(Typed { pieces: &pieces, output: &output, answered: 0 });
+        assert!(run(&transcript(1), Bounds::Strict, input, Shared(&output), Vec::new()).unwrap());
+        assert_eq!(output.borrow().split_inclusive(|&byte| byte == b'\n').count(), 5);
     }
 
     #[test]

@@ -2,8 +2,12 @@
 
 use std::{collections::BTreeMap, fmt::Debug};
 
-use pulindraxi::{boundary::Cds, limits::MOST_TEXT, Element, Refusal};
-use trials::{draw::Case, paper::Source, Question};
+use pulindraxi::{
+    boundary::{Asked, Cds},
+    limits::MOST_TEXT,
+    Element, Refusal,
+};
+use trials::{draw::Case, paper::Source, Kind, Question};
 
 use crate::{
     settle::{self, Built, Expected, Origin},
@@ -97,6 +101,17 @@ impl<P: Port> Judge<P> {
         let port = self.port.ask(question);
         let settled = settle::ask(built, question);
         self.compare(question.kind.entry(), settled, port, &(question, &built.source));
+    }
+
+    /// Asks the transcript that was built last a sorted worklist, and holds each slot to the crate's answer to its position alone.
+    pub fn worklist(&mut self, built: &mut Built, positions: &[i32]) {
+        let answers = self.port.worklist(positions);
+        for (&base, port) in positions.iter().zip(answers) {
+            let at = Asked { base, ..Asked::default() };
+            let question = Question { kind: Kind::GToN, start: at, end: at, missing: 0, strict: true };
+            let settled = settle::ask(built, &question);
+            self.compare("txc_worklist", settled, port, &(base, positions, &built.source));
+        }
     }
 
     /// Reads CIGAR text, and writes what it stands for.

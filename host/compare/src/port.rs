@@ -1,7 +1,7 @@
 //! What is compared: the proved entries, or in a test something that answers otherwise.
 
 use pulindraxi::{
-    boundary::{self, Answer, Cds},
+    boundary::{self, Answer, Cds, Slot},
     cigar, Element, Refusal,
 };
 use trials::{draw::Case, paper::Source, Lent, Question};
@@ -14,6 +14,8 @@ pub trait Port {
     fn build_length(&mut self, length: i32, cds: Cds) -> Result<Option<Source>, Refusal>;
     /// Answers a question to what was built last.
     fn ask(&self, question: &Question) -> Result<Answer, Refusal>;
+    /// Answers each position of a sorted worklist to what was built last. A list that is refused has its refusal everywhere.
+    fn worklist(&self, positions: &[i32]) -> Vec<Result<Answer, Refusal>>;
     /// Reads CIGAR text.
     fn read_cigar(&self, text: &[u8]) -> Result<Vec<Element>, Refusal>;
     /// Writes CIGAR text into so many bytes.
@@ -48,6 +50,13 @@ impl Port for Entries {
     fn ask(&self, question: &Question) -> Result<Answer, Refusal> {
         let answer = question.ask(&self.lent);
         Refusal::check(answer.number).map(|()| answer)
+    }
+
+    fn worklist(&self, positions: &[i32]) -> Vec<Result<Answer, Refusal>> {
+        let mut slots: Vec<_> = positions.iter().copied().map(Slot::new).collect();
+        let whole = Refusal::check(boundary::worklist(self.lent.reading(), &mut slots).number);
+        let answer = |slot: Slot| whole.and(Refusal::check(slot.answer.number)).map(|()| slot.answer);
+        slots.into_iter().map(answer).collect()
     }
 
     fn read_cigar(&self, text: &[u8]) -> Result<Vec<Element>, Refusal> {

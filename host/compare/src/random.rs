@@ -45,7 +45,10 @@ pub fn run<P: Port>(judge: &mut Judge<P>, seed: u64, count: u64) {
                 let question = draw::question(&mut rng, &built.source);
                 judge.ask(&mut built, &question);
             }
-            calls += QUESTIONS;
+            let mut positions = draw::worklist(&mut rng, &built.source);
+            positions.sort_unstable();
+            judge.worklist(&mut built, &positions);
+            calls += QUESTIONS + positions.len() as u64;
         }
         judge.cigar(&text(&mut rng));
         let (elements, room) = draw::elements(&mut rng);

@@ -53,8 +53,8 @@ fn case(strand: i32, first: i32, lists: &[&[Small]], gap: i32, beyond: i32) -> C
     Case { strand, cds_start: None, cds_end: None, records }
 }
 
-/// Asks every question about a built transcript: g. numbers from `first - 1` to beyond the end, n. numbers and c. numbers
-/// likewise.
+/// Asks every question about a built transcript: g. numbers from `first - 1` to beyond the end, each pair and all of them as a
+/// worklist; n. numbers and c. numbers likewise.
 fn ask_all<P: Port>(judge: &mut Judge<P>, built: &mut Built, first: i32, genome: i32, transcript: i32) {
     let ask = |judge: &mut Judge<P>, built: &mut Built, kind, start, end| {
         for strict in [true, false] {
@@ -62,8 +62,10 @@ fn ask_all<P: Port>(judge: &mut Judge<P>, built: &mut Built, first: i32, genome:
         }
     };
     let plain = |base| Asked { base, ..Asked::default() };
-    for start in first - 1..=first + genome + 3 {
-        for end in first - 1..=first + genome + 3 {
+    let around: Vec<_> = (first - 1..=first + genome + 3).collect();
+    judge.worklist(built, &around);
+    for &start in &around {
+        for &end in &around {
             for kind in [Kind::GToN, Kind::GToC, Kind::InBounds] {
                 ask(judge, built, kind, plain(start), plain(end));
             }

@@ -26,6 +26,8 @@ struct Wrong {
     /// Which questions are answered by the crate's rules: leniently, or with yes.
     kept: fn(&Source, &Question) -> bool,
     ask: fn(Kind, Answer) -> Said<Answer>,
+    /// The answers of a worklist, made from the right ones.
+    list: fn(Vec<Said<Answer>>) -> Vec<Said<Answer>>,
     read: fn(Vec<Element>) -> Said<Vec<Element>>,
     write: Writing,
     trim: fn(usize) -> usize,
@@ -40,6 +42,7 @@ impl Default for Wrong {
             unbuilt: Err,
             kept: |_, _| false,
             ask: |_, answer| Ok(answer),
+            list: |answers| answers,
             read: Ok,
             write: |_, text| text,
             trim: |length| length,
@@ -68,6 +71,10 @@ impl Port for Wrong {
         let answer = self.entries.ask(&Question { strict: question.strict && !is_kept, ..*question })?;
         let yes = is_kept && question.kind == Kind::InBounds;
         (self.ask)(question.kind, if yes { Answer { mark: 1, ..answer } } else { answer })
+    }
+
+    fn worklist(&self, positions: &[i32]) -> Vec<Said<Answer>> {
+        (self.list)(self.entries.worklist(positions))
     }
 
     fn read_cigar(&self, text: &[u8]) -> Said<Vec<Element>> {
@@ -174,6 +181,19 @@ fn a_mapper_that_always_says_n_1() {
         ..Wrong::default()
     };
     assert_eq!(differing(port), ["txc_c_to_n", "txc_g_to_n"]);
+}
+
+#[test]
+fn a_walk_that_skips_a_slot_or_refuses_the_list() {
+    let listing = |list| differing(Wrong { list, ..Wrong::default() });
+    let skips = |mut answers: Vec<Said<Answer>>| {
+        if let [.., before, last] = &mut answers[..] {
+            last.clone_from(before);
+        }
+        answers
+    };
+    assert_eq!(listing(skips), ["txc_worklist"]);
+    assert_eq!(listing(|answers| vec![Err(Refusal::Falling); answers.len()]), ["txc_worklist"]);
 }
 
 #[test]

@@ -450,6 +450,27 @@ fn asked<R: Rng>(rng: &mut R, kind: Kind, source: &Source) -> Asked {
     Asked { base, offset: offset(rng), star }
 }
 
+/// The positions of a worklist for a transcript: few, or now and then many, mostly in order and with equal ones among them. Some fall,
+/// in one place or throughout.
+pub fn worklist<R: Rng>(rng: &mut R, source: &Source) -> Vec<i32> {
+    let count = if rng.gen_ratio(1, 40) { rng.gen_range(200..600) } else { rng.gen_range(0..24) };
+    let mut positions: Vec<_> = (0..count).map(|_| asked(rng, Kind::GToN, source).base).collect();
+    if rng.gen_ratio(1, 12) {
+        return positions;
+    }
+    positions.sort_unstable();
+    if count > 1 && rng.gen_ratio(1, 4) {
+        // The last pair as often as any other.
+        let at = if rng.gen() { count - 1 } else { rng.gen_range(1..count) };
+        match rng.gen_range(0..3) {
+            0 => positions[at] = positions[at - 1],
+            1 => positions[at] = positions[at - 1].saturating_sub(1),
+            _ => positions.swap(at - 1, at),
+        }
+    }
+    positions
+}
+
 /// A question to a transcript.
 pub fn question<R: Rng>(rng: &mut R, source: &Source) -> Question {
     let kind = if rng.gen_ratio(1, 40) { Kind::IsCoding } else { Kind::ALL[rng.gen_range(0..7)] };

@@ -5,7 +5,7 @@ use std::collections::BTreeMap;
 
 use clap::Parser;
 use pulindraxi::{
-    boundary::{self, Cds, Laid, Length},
+    boundary::{self, Answer, Cds, Laid, Length, Position, Slot, Steps},
     limits::MOST_SEGMENTS,
     Element, Refusal,
 };
@@ -163,6 +163,35 @@ impl Trial {
         }
     }
 
+    /// A list of slots between two others, each painted. Where it is refused, none changes.
+    fn judge_worklist(&mut self, positions: &[i32], source: Option<&Source>) {
+        let painted = Position { base: -7, offset: 7, star: 7 };
+        let answer = Answer { number: 77, mark: 7, start: painted, end: painted };
+        let slot = |position| Slot { position, answer };
+        let mut slots: Vec<_> = [&[7], positions, &[-7]].concat().into_iter().map(slot).collect();
+        let mut after = slots.clone();
+        let expected = source.ok_or(Refusal::NotTogether).and_then(|source| source.worklist(positions));
+        let number = number_of(&expected);
+        let (answers, steps) = expected.unwrap_or_default();
+        for (slot, answer) in after[1..].iter_mut().zip(answers) {
+            slot.answer = answer;
+        }
+        let walked = boundary::worklist(self.lent.reading(), &mut slots[1..=positions.len()]);
+        let of = &self.lent.head;
+        assert_eq!(walked, Steps { number, steps }, "txc_worklist {positions:?} of {of:?}, call {}", self.calls);
+        assert_eq!(slots, after, "txc_worklist {positions:?} of {of:?}, call {}", self.calls);
+        assert!(self.lent == self.before, "txc_worklist {positions:?} changed lent memory, call {}", self.calls);
+        self.count("txc_worklist", number);
+    }
+
+    fn worklist(&mut self) {
+        let source = self.lent.source();
+        for _ in 0..3 {
+            let positions = draw::worklist(&mut self.rng, source.as_ref().unwrap_or(&self.source));
+            self.judge_worklist(&positions, source.as_ref());
+        }
+    }
+
     fn ask_damaged(&mut self) {
         let whole = self.lent.clone();
         for _ in 0..self.rng.gen_range(1..3) {
@@ -174,6 +203,8 @@ impl Trial {
             let question = draw::question(&mut self.rng, &self.source);
             self.judge_question(&question, source.as_ref());
         }
+        let positions = draw::worklist(&mut self.rng, &self.source);
+        self.judge_worklist(&positions, source.as_ref());
         self.before = whole.clone();
         self.lent = whole;
     }
@@ -301,8 +332,9 @@ impl Trial {
             10 => self.build_much(),
             11..=24 => self.build_card(),
             25..=27 => self.build_length(),
-            28..=52 => self.ask(),
-            53..=79 => self.ask_damaged(),
+            28..=50 => self.ask(),
+            51..=56 => self.worklist(),
+            57..=79 => self.ask_damaged(),
             80..=84 => self.read_cigar(),
             85..=87 => self.write_cigar(),
             88..=90 => self.read_bam(),

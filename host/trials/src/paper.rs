@@ -538,6 +538,11 @@ fn answer(mark: u32, start: Position, end: Position) -> Answer {
     Answer { number: 0, mark, start, end }
 }
 
+/// A refusal in the form of an answer.
+pub fn refused(refusal: Refusal) -> Answer {
+    Answer { number: refusal.number(), ..Answer::default() }
+}
+
 fn mark(a: &Spot, b: &Spot) -> u32 {
     if a.sure && b.sure {
         Answer::CERTAIN
@@ -661,6 +666,21 @@ impl Source {
     pub fn is_coding(&self) -> Said {
         Said { number: 0, yes: u32::from(self.cds().is_some()) }
     }
+
+    /// A worklist (document 02, Ask 4): 18, then 33 where it falls anywhere. Else each position's answer or refusal, which is that of
+    /// the strict g. to n. of this one base, and the index of the segment that holds the largest position within strict bounds, 0 if none.
+    pub fn worklist(&self, positions: &[i32]) -> Result<(Vec<Answer>, u32), Refusal> {
+        let t = self.aligned()?;
+        if positions.windows(2).any(|pair| pair[1] < pair[0]) {
+            return Err(Refusal::Falling);
+        }
+        let single = |base: i32| self.g_to_n(AskedG { start: base, end: base, missing: 0 }, true);
+        let answers = positions.iter().map(|&base| single(base).unwrap_or_else(refused)).collect();
+        let places = positions.iter().map(|&base| i64::from(base) - 1 - t.first);
+        let largest = places.filter(|&place| inside(true, &t.genome, place).is_ok()).max();
+        let holds = |place: i64| t.genome.windows(2).position(|ends| (ends[0]..ends[1]).contains(&place));
+        Ok((answers, largest.and_then(holds).map_or(0, |index| index as u32)))
+    }
 }
 
 // ---- Trimming
@@ -749,6 +769,27 @@ mod tests {
         let n = inserted.g_to_n(g, true).unwrap();
         assert_eq!((n.mark, n.start.base, n.end.base), (Answer::UNCERTAIN, 4, 5));
         assert_eq!(inserted.g_to_c(g, true), Err(Refusal::NOutside));
+    }
+
+    #[test]
+    fn a_worklist_is_answered_as_document_02_says() {
+        let a = built(1, Cds::new(None, None), &[([10, 20], "10M"), ([25, 33], "8M")]).unwrap();
+        let steps = |positions: &[i32]| a.worklist(positions).map(|(_, steps)| steps);
+        assert_eq!(steps(&[]), Ok(0));
+        assert_eq!(steps(&[i32::MIN, 10, 34, i32::MAX]), Ok(0));
+        assert_eq!(steps(&[11, 20, 20, 34]), Ok(0));
+        assert_eq!(steps(&[11, 21]), Ok(1));
+        assert_eq!(steps(&[25, 26]), Ok(2));
+        assert_eq!(steps(&[33, 33, 32]), Err(Refusal::Falling));
+        let (answers, _) = a.worklist(&[10, 23, 23, 34]).unwrap();
+        let numbers: Vec<_> =
+            answers.iter().map(|answer| (answer.number, answer.start.base, answer.end.offset)).collect();
+        assert_eq!(numbers, [(14, 0, 0), (0, 10, 3), (0, 10, 3), (14, 0, 0)]);
+        assert_eq!(Source::Length(18, None).worklist(&[2, 1]), Err(Refusal::NoGenome));
+        // A segment of no bases holds none.
+        let hollow = built(1, Cds::new(None, None), &[([0, 4], "2M0I3D2M")]).unwrap();
+        assert_eq!(hollow.worklist(&[2]).unwrap().1, 0);
+        assert_eq!(hollow.worklist(&[3]).unwrap().1, 3);
     }
 
     #[test]

@@ -5,7 +5,10 @@ use pulindraxi::{
     Refusal,
 };
 
-use crate::{paper::Source, Lent};
+use crate::{
+    paper::{self, Source},
+    Lent,
+};
 
 /// Which entry is asked.
 #[derive(Clone, Copy, Debug, PartialEq, Eq, Hash, PartialOrd, Ord)]
@@ -102,7 +105,7 @@ impl Question {
 
     /// What document 01 answers; without a source the memory doesn't hold together.
     pub fn expect(&self, source: Option<&Source>) -> Answer {
-        self.expect_of(source).unwrap_or_else(|refusal| Answer { number: refusal.number(), ..Answer::default() })
+        self.expect_of(source).unwrap_or_else(paper::refused)
     }
 
     fn expect_of(&self, source: Option<&Source>) -> Result<Answer, Refusal> {

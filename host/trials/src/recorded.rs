@@ -3,7 +3,7 @@
 //! `host/compare/README.md` describes the layout, for readers in other languages too.
 
 use pulindraxi::{
-    boundary::{self, Answer, Asked, Cds, Counts, Head, Laid, Length, Letters, Part},
+    boundary::{self, Answer, Asked, Cds, Counts, Head, Laid, Length, Letters, Part, Slot, Steps},
     limits::MOST_SEGMENTS,
 };
 
@@ -346,26 +346,71 @@ fn call(row: &Row, lent: &mut Lent) -> Result<[i32; 8], String> {
     }
 }
 
-/// Calls the boundary as every row of a file says, and compares. Gives the number of rows, or what is wrong first.
-pub fn replay(file: &[u8]) -> Result<usize, String> {
+/// The rows of a file.
+fn rows(file: &[u8]) -> Result<Vec<Row>, String> {
     let (head, mut rest) = Row::read(file).ok_or("no rows")?;
     if head.call != Call::Head || head.numbers[0] != 1 {
         return Err("no layout of version 1".into());
     }
-    let mut lent = Lent::filled(0);
-    let mut rows = 0;
+    let mut rows = Vec::new();
     while !rest.is_empty() {
-        let (row, after) = Row::read(rest).ok_or_else(|| format!("row {rows} is cut off"))?;
-        let answer = call(&row, &mut lent).map_err(|why| format!("row {rows}, {:?}: {why}", row.call))?;
-        if answer != row.answer {
-            return Err(format!("row {rows}, {:?} {:?}: {answer:?}, recorded {:?}", row.call, row.numbers, row.answer));
-        }
+        let (row, after) = Row::read(rest).ok_or_else(|| format!("row {} is cut off", rows.len()))?;
+        rows.push(row);
         rest = after;
-        rows += 1;
     }
-    if rows == head.numbers[1] as usize {
+    if rows.len() == head.numbers[1] as usize {
         Ok(rows)
     } else {
-        Err(format!("{rows} rows, but the first says {}", head.numbers[1]))
+        Err(format!("{} rows, but the first says {}", rows.len(), head.numbers[1]))
     }
+}
+
+/// Calls the boundary as every row of a file says, and compares. Gives the number of rows, or what is wrong first.
+pub fn replay(file: &[u8]) -> Result<usize, String> {
+    let rows = rows(file)?;
+    let mut lent = Lent::filled(0);
+    for (index, row) in rows.iter().enumerate() {
+        let answer = call(row, &mut lent).map_err(|why| format!("row {index}, {:?}: {why}", row.call))?;
+        if answer != row.answer {
+            return Err(format!(
+                "row {index}, {:?} {:?}: {answer:?}, recorded {:?}",
+                row.call, row.numbers, row.answer
+            ));
+        }
+    }
+    Ok(rows.len())
+}
+
+/// Puts positions with their recorded answers to one worklist. A list that is refused as a whole has that number in each answer.
+fn list(recorded: &mut [(i32, [i32; 8])], lent: &Lent) -> Result<(), String> {
+    recorded.sort();
+    let mut slots: Vec<_> = recorded.iter().map(|&(position, _)| Slot::new(position)).collect();
+    let Steps { number, .. } = boundary::worklist(lent.reading(), &mut slots);
+    for (slot, &(position, answer)) in slots.iter().zip(&*recorded) {
+        let got = if number == 0 { words(slot.answer) } else { [number as i32, 0, 0, 0, 0, 0, 0, 0] };
+        if (slot.position, got) != (position, answer) {
+            return Err(format!("g.{position} in a worklist: {got:?}, recorded {answer:?}"));
+        }
+    }
+    Ok(())
+}
+
+/// Puts the strict g. to n. answers of one base that a file records to worklists, one for each state of the lent memory. Gives the
+/// number of slots, or what is wrong first.
+pub fn replay_lists(file: &[u8]) -> Result<usize, String> {
+    let mut lent = Lent::filled(0);
+    let (mut recorded, mut slots) = (Vec::new(), 0);
+    for row in rows(file)? {
+        let Row { call: called, flags, numbers: [start, _, end, ..], answer, .. } = row;
+        if called == Call::GToN && flags == 1 && start == end {
+            recorded.push((start, answer));
+            slots += 1;
+        } else if matches!(called, Call::BuildCard | Call::Build | Call::BuildLength | Call::Damage) {
+            list(&mut recorded, &lent)?;
+            recorded.clear();
+            call(&row, &mut lent)?;
+        }
+    }
+    list(&mut recorded, &lent)?;
+    Ok(slots)
 }

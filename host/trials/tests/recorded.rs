@@ -2,9 +2,18 @@
 
 use std::fs;
 
+use trials::recorded;
+
+fn file() -> Vec<u8> {
+    fs::read(concat!(env!("CARGO_MANIFEST_DIR"), "/../../crates/vectors/stdin")).unwrap()
+}
+
 #[test]
 fn the_port_answers_as_recorded() {
-    let file = concat!(env!("CARGO_MANIFEST_DIR"), "/../../crates/vectors/stdin");
-    let rows = trials::recorded::replay(&fs::read(file).unwrap()).unwrap();
-    assert!(rows > 4_000);
+    assert!(recorded::replay(&file()).unwrap() > 4_000);
+}
+
+#[test]
+fn a_worklist_answers_as_recorded() {
+    assert!(recorded::replay_lists(&file()).unwrap() > 80);
 }

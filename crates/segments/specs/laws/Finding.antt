@@ -8,7 +8,7 @@ use mathlib.Core.Path.{_≡_, refl, sym, ap, subst, _∙_}
 use lib.Dec.{ltb}
 use lib.IntN.{ℤ, pos, _+ℤ_, _-ℤ_}
 use lib.ListN.{getD, length}
-use lib.Signed.{ltZ}
+use lib.Signed.{ltZ, leZ}
 use borrow.Author.Tests.{ltb-true, ltb-false}
 use Rattle.whole.specs.laws.Whole.{order, sum, dif, by-test}
 use Rattle.cigar.specs.Elements.{Element, Side, Kind, total}
@@ -55,6 +55,42 @@ module _ (from : List ℕ) (n : ℕ) (p : ℤ) where
   pub index-is : {i : ℕ} → Found (endsAbove from p) n i → i ≡ indexOf from n p
   unfolding indexOf
   index-is {i} s = let v : n ≡ suc (n - 1) = omega (arith, s .below) in first-is (endsAbove from p) (n - 1) i (subst (λ (m : ℕ). Found (endsAbove from p) m i) v s)
+
+-- a test that is passed wherever another is, is passed no later
+first-sooner : (f g : ℕ → Bool) → ((i : ℕ) → g i ≡ true → f i ≡ true) → (n : ℕ) → firstBelow f n ≤ firstBelow g n
+unfolding firstBelow
+first-sooner f g h zero = omega arith
+first-sooner f g h (suc n) =
+    by-test (g 0)
+    (λ e. let sooner : f 0 ≡ true = h 0 e in rw (e, sooner) (omega arith))
+    (λ e.
+    by-test (f 0)
+    (λ u. rw (e, u) (omega arith))
+    (λ u. rw (e, u) (omega (arith, first-sooner (λ (i : ℕ). f (suc i)) (λ (i : ℕ). g (suc i)) (λ i. h (suc i)) n))))
+
+-- the segment of a later place is that of an earlier one, or lies behind it: over any table
+pub index-rises : (from : List ℕ) (n : ℕ) (p q : ℤ) → leZ p q ≡ true → indexOf from n p ≤ indexOf from n q
+unfolding indexOf
+index-rises from n p q p≤q = first-sooner (endsAbove from p) (endsAbove from q) (λ i e. omega order) (n - 1)
+
+-- what a walk goes by that stands on the segment i, which is not past the one sought: at an end above the place it has arrived, at any other it goes on, and the last is where it ends
+module _ (from : List ℕ) (n : ℕ) (p : ℤ) (some : 0 < n) (i : ℕ) (before : i ≤ indexOf from n p) where
+  pub walk-arrives : endsAbove from p i ≡ true → i ≡ indexOf from n p
+  walk-arrives e =
+      by-test (ltb i (indexOf from n p))
+      (λ l. absurd (false≢true (sym (index-says from n p some .passed i (ltb-true _ _ l)) ∙ e)))
+      (λ l. omega (arith, ltb-false))
+
+  pub walk-goes-on : i + 1 < n → endsAbove from p i ≡ false → i + 1 ≤ indexOf from n p
+  walk-goes-on l e =
+      by-test (ltb i (indexOf from n p))
+      (λ h. omega (arith, ltb-true))
+      (λ h.
+      let here : i ≡ indexOf from n p = omega (arith, ltb-false) in
+      absurd (false≢true (sym e ∙ ap (endsAbove from p) here ∙ index-says from n p some .here (omega arith))))
+
+  pub walk-ends : n ≤ i + 1 → i ≡ indexOf from n p
+  walk-ends l = omega (arith, index-says from n p some .below)
 
 -- tables that have the same ends find the same segment
 pub same-index : (a b : List ℕ) (n : ℕ) (p : ℤ) → 0 < n → ((k : ℕ) → k ≤ n → getD a k 0 ≡ getD b k 0) → indexOf a n p ≡ indexOf b n p

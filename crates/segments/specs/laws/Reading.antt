@@ -101,6 +101,10 @@ module _ (a : Tables) (n : ℕ) (holds : Holds a n) where
   pub last-transcript : total transcript (read a n) ≡ getD (a .transcript) n 0
   last-transcript = last-is transcript (a .transcript) transcript-alike
 
+  -- the finder over the table of genome starts is the finder over the elements
+  pub index-by-genome : 0 < n → (p : ℤ) → indexOf (a .genome) n p ≡ indexOf (entriesOf genome (read a n)) (length (read a n)) p
+  index-by-genome some p = rw (read-length a n) (same-index (a .genome) (entriesOf genome (read a n)) n p some (λ k h. genome-alike k (omega arith)))
+
   -- both directions
   module _ (some : 0 < n) (p : ℤ) (e : End) (forward : Bool) where
     pub by-genome : mapByTables (a .genome) (a .transcript) (a .letters) n p e forward ≡ mapPlace genome transcript (read a n) p e forward

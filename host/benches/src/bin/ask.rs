@@ -2,6 +2,7 @@
 
 use benches::{Asking, Letters, POSITIONS};
 use clap::{Parser, ValueEnum};
+use pulindraxi::boundary::{self, Slot};
 use trials::{Kind, Lent};
 
 /// Asks one kind of question many times.
@@ -25,6 +26,14 @@ enum Which {
     GToN,
     GToC,
     CToG,
+    Worklist,
+}
+
+/// Asks so many positions in one worklist.
+fn list(asking: &Asking, count: usize) {
+    let mut slots: Vec<_> = (0..count).map(|index| Slot::new(asking.g[index * POSITIONS / count])).collect();
+    slots.sort_unstable_by_key(|slot| slot.position);
+    assert_eq!(boundary::worklist(asking.lent.reading(), &mut slots).number, 0);
 }
 
 fn main() {
@@ -43,6 +52,11 @@ fn main() {
             Which::GToN => asking.about_g(Kind::GToN, index),
             Which::GToC => asking.about_g(Kind::GToC, index),
             Which::CToG => asking.about_c(Kind::CToG, index),
+            // All at once.
+            Which::Worklist => {
+                list(&asking, count);
+                break;
+            }
         };
         assert_eq!(question.ask(&asking.lent).number, 0);
     }

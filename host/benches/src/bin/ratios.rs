@@ -12,7 +12,7 @@ use benches::{Bench, Letters, POSITIONS, SIZES};
 use clap::Parser;
 use compare::original::{self, Outcome};
 use pulindraxi::{
-    boundary::{self, Asked, AskedG},
+    boundary::{self, Asked, AskedG, Slot},
     limits::MOST_SEGMENTS,
     Room,
 };
@@ -78,6 +78,38 @@ fn questions(rounds: usize, letters: Letters) {
                     "| {segments} | {strand} | {name} | {original:.1} | {port:.1} | {ratio:.2} | {check:.1} | {rest:.1} |"
                 );
             }
+        }
+    }
+}
+
+/// Sorted positions: one by one in the crate and by the port, and as a worklist.
+fn worklists(rounds: usize, letters: Letters) {
+    println!("| segments | strand | crate one by one, ns a position | port one by one, ns | worklist, ns | crate / worklist | one by one / worklist |");
+    println!("|---|---|---|---|---|---|---|");
+    for segments in SIZES {
+        for strand in [1, -1] {
+            let Bench { asking, mapper, mut g_to_n, .. } = Bench::new(letters, segments, strand);
+            g_to_n.sort_unstable_by_key(|question| question.start.base);
+            let crate_g: Vec<_> = g_to_n.iter().map(original::g_interval).collect();
+            let of = black_box(&asking.lent).reading();
+            let slots = RefCell::new(g_to_n.iter().map(|question| Slot::new(question.start.base)).collect::<Vec<_>>());
+            let by_crate = || crate_g.iter().for_each(|g| drop(black_box(mapper.g_to_n(g))));
+            let by_port = || {
+                for question in &g_to_n {
+                    black_box(boundary::g_to_n(of, question.g(), true));
+                }
+            };
+            let walk = || {
+                black_box(boundary::worklist(of, black_box(&mut slots.borrow_mut())));
+            };
+            walk();
+            assert!(slots.borrow().iter().zip(&g_to_n).all(|(slot, asked)| slot.answer == asked.ask(&asking.lent)));
+            let [original, single, walked] = best(rounds, POSITIONS, [&by_crate, &by_port, &walk]);
+            println!(
+                "| {segments} | {strand} | {original:.1} | {single:.1} | {walked:.2} | {:.1} | {:.1} |",
+                original / walked,
+                single / walked
+            );
         }
     }
 }
@@ -166,6 +198,10 @@ fn main() -> ExitCode {
     questions(options.rounds, Letters::Matches);
     println!("\nWith an insertion or a deletion in each exon:\n");
     questions(options.rounds, Letters::Mixed);
+    println!("\n30,000 sorted positions:\n");
+    worklists(options.rounds, Letters::Matches);
+    println!("\nWith an insertion or a deletion in each exon:\n");
+    worklists(options.rounds, Letters::Mixed);
     buildings(options.rounds);
     words(options.rounds);
     ExitCode::SUCCESS

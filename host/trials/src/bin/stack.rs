@@ -6,7 +6,7 @@ use std::{arch::asm, collections::BTreeMap};
 
 use clap::Parser;
 use pulindraxi::{
-    boundary::{self, Asked, AskedG, Cds, Laid},
+    boundary::{self, Asked, AskedG, Cds, Laid, Slot},
     limits::{MOST_RECORDS, MOST_SEGMENTS},
 };
 use rand::{Rng, SeedableRng};
@@ -151,6 +151,8 @@ fn measure(count: usize) -> BTreeMap<&'static str, usize> {
         measure!(deepest, stack, "txc_n_to_c", boundary::n_to_c(of, a, b, strict));
         measure!(deepest, stack, "txc_c_to_n", boundary::c_to_n(of, a, b, strict));
         measure!(deepest, stack, "txc_c_to_g", boundary::c_to_g(of, a, b, strict));
+        let mut slots: Vec<_> = (0..rng.gen_range(0..40)).map(|step| Slot::new(a.base + 2 * step)).collect();
+        measure!(deepest, stack, "txc_worklist", boundary::worklist(of, &mut slots));
         measure!(deepest, stack, "txc_in_bounds", boundary::in_bounds(of, g));
         measure!(deepest, stack, "txc_is_coding", boundary::is_coding(of));
         measure!(deepest, stack, "txc_trim_prefix", boundary::trim_prefix(&bytes, &card));

@@ -9,7 +9,7 @@ use Rattle.whole.specs.laws.Whole.{told}
 use Rattle.whole.specs.laws.Machine.{same-32, other-32}
 use Rattle.holding.specs.Holding.{ofRecords, lent, holds}
 use Rattle.holding.specs.laws.Held.{natural-says, together, length-right, held-head}
-use Rattle.mapper.proofs.Known.{natural-bounds}
+use Rattle.mapper.specs.laws.Known.{natural-bounds}
 use borrow.Author.Needs.{needs}
 use Rattle.mapper.proofs.knowing.known_of.Statement.{statement}
 use Rattle.mapper.proofs.knowing.known_of.Tie as tie

@@ -1,6 +1,6 @@
 -- `mapper::steps::then_n_to_g` meets its contract: c. to n. bears no mark, so the second answer's own mark stays, and the first refusal counts. Assumes nothing.
 use mathlib.Core.Path.{sym, _∙_}
-use Rattle.mapper.proofs.Known.{plain-first}
+use Rattle.mapper.specs.laws.Known.{plain-first}
 use borrow.Author.Needs.{needs}
 use Rattle.mapper.proofs.steps.then_n_to_g.Statement.{statement}
 use Rattle.mapper.proofs.steps.then_n_to_g.Tie as tie

@@ -1,0 +1,23 @@
+// A sorted worklist for the host.
+ghost use mathlib.Core.Path.{_≡_};
+ghost use Rattle.layout.specs.Layout.{lentAt};
+ghost use Rattle.entry.specs.Told.{toldSteps, toldSlots};
+use layout::take;
+use refusals::MOST_SEGMENTS;
+use refusals::MOST_STARTS;
+use worklist::Slot;
+use worklist::Steps;
+
+#[no_mangle]
+pub extern "C" fn txc_worklist<'a>(
+    head: &'a [i32; 8],
+    genome: &'a [u32; MOST_STARTS],
+    transcript: &'a [u32; MOST_STARTS],
+    letters: &'a [u8; MOST_SEGMENTS],
+    slots: &mut [Slot],
+) -> Steps
+    ensures { λ r. ⌜ (r ≡ toldSteps (lentAt (now (head .entry)) (now (genome .entry)) (now (transcript .entry)) (now (letters .entry))) (now (slots .entry))) × (now (slots .exit) ≡ toldSlots (lentAt (now (head .entry)) (now (genome .entry)) (now (transcript .entry)) (now (letters .entry))) (now (slots .entry))) ⌝ }
+{
+    let known = take::head_of(head);
+    worklist::answer_list(known, genome, transcript, letters, slots)
+}

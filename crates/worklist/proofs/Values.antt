@@ -1,0 +1,15 @@
+-- What the walks of functions over slots say of values: the slot past a list's end, and the one machine value in a list. Assumes nothing.
+use mathlib.Core.List.{List, [], _∷_}
+use lib.IntN.{pos}
+use mir.Val.{Val, vunit}
+use Rattle.layout.specs.Layout.{refusal}
+use Rattle.worklist.specs.declared.Slot.{Slot}
+
+-- what stands past a list's end, where nothing looks
+abbrev pub none : Slot
+none = record { position = pos 0; answer = refusal 0 }
+
+-- the one machine value in a list
+abbrev pub only : List Val → Val
+only [] = vunit
+only (v ∷ vs) = v
