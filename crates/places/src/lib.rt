@@ -144,7 +144,7 @@ fn n_answer(forward: bool, len: u32, a: Spot, b: Spot) -> NAnswer
 }
 
 // The n. interval of one place, by its spot as an interval's start: a sure one is the end's too, and is numbered once.
-pub fn n_of_one(forward: bool, len: u32, start: Spot) -> NAnswer
+fn n_of_one(forward: bool, len: u32, start: Spot) -> NAnswer
     requires { ⌜ Small 37 start ⌝ }
     ensures { λ r. ⌜ paperN r ≡ nJoined forward len (spotSaid start) (stopOf (spotSaid start)) ⌝ }
 {

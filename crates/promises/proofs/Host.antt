@@ -1,6 +1,5 @@
 -- What a host sees. No judgment refuses with 0 (`refusals`), so that 0 tells that something was made; the memory that building wrote holds together and stands for it, and then every question is the mapper's. Assumes nothing.
 use Prim.Native.Nat.{ℕ}
-use native.Mathlib.Omega.{arith}
 use mathlib.Core.Bool.{Bool, true, false, false≢true}
 use mathlib.Core.List.{List}
 use mathlib.Core.Path.{_≡_, refl, sym, ap, _∙_, subst}

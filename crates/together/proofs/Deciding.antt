@@ -4,13 +4,13 @@ use native.Mathlib.Numerals.{add-one}
 use native.Mathlib.Omega.{arith}
 use mathlib.Core.Bool.{Bool, true, false, cond, _&&_, _||_, false≢true}
 use mathlib.Core.List.{List}
-use mathlib.Core.Path.{_≡_, refl, sym, ap, _∙_}
-use lib.Dec.{eqb, leb, ltb}
+use mathlib.Core.Path.{_≡_, refl, sym, _∙_}
+use lib.Dec.{eqb, leb}
 use lib.ListN.{getD}
-use borrow.Author.Tests.{eqb-true, eqb-false, eq-eqb, leb-true, leb-false, le-leb, ltb-true, lt-ltb}
+use borrow.Author.Tests.{eqb-true, eq-eqb, leb-true, le-leb, ltb-true, lt-ltb}
 use Rattle.whole.specs.laws.Whole.{by-test, both, both-of}
-use Rattle.cigar.specs.Elements.{isLetter, kindOf, letterD, letterEqual, letterI, letterM, letterN, letterX}
-use Rattle.segments.specs.Tables.{Tables, stepsOf, allBelow, knownAt, rightAt, segmentsHold, Holds}
+use Rattle.cigar.specs.Elements.{isLetter, letterD, letterEqual, letterI, letterM, letterN, letterX}
+use Rattle.segments.specs.Tables.{Tables, allBelow, knownAt, segmentsHold, Holds}
 use Rattle.segments.specs.laws.Meaning.{all-at, all-of, rising, holds-means, holds-where}
 use Rattle.together.specs.Steps.{wrapped, low, same, lowSteps, isCommon, commonSame, commonLow, sameAt, lowAt, commonAt, commonSameAt, commonLowAt, begin, LowEnds}
 use Rattle.together.proofs.All.{equal-where}

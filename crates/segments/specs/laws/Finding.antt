@@ -134,10 +134,13 @@ pub stop-follows : (s : Segment) (p : ℤ) (forward : Bool) → spotOf s p stop 
 unfolding spotIn nearer stopOf
 stop-follows s p forward = go (s .does)
   where
+    further : unsurely (s .number) (pos (s .other)) ≡ unsurely (s .number) (pos (s .other) -ℤ pos 1 +ℤ pos 1)
+    further = ap (unsurely (s .number)) (omega (order, dif (pos (s .other)) (pos 1), sum (pos (s .other) -ℤ pos 1) (pos 1)))
+
     go : (k : Kind) → spotIn (s .number) k (s .begins) (s .ends) (s .other) p stop forward ≡ stopOf (spotIn (s .number) k (s .begins) (s .ends) (s .other) p start forward)
     go matches = refl
-    go inserts = ap (unsurely (s .number)) (omega (order, dif (pos (s .other)) (pos 1), sum (pos (s .other) -ℤ pos 1) (pos 1)))
-    go deletes = ap (unsurely (s .number)) (omega (order, dif (pos (s .other)) (pos 1), sum (pos (s .other) -ℤ pos 1) (pos 1)))
+    go inserts = further
+    go deletes = further
     go skips =
         let left = p -ℤ pos (s .begins) +ℤ pos 1 in
         let right = pos (s .ends) -ℤ p in
