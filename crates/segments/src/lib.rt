@@ -21,12 +21,21 @@ pub enum End {
     Stop,
 }
 
-// A place on the other side, with its offset; it is not sure if it fell in an I or a D; and the number of the segment that it fell in.
+// The edge of an N that a place of it counts from; a place of any other segment counts from none.
+pub enum Edge {
+    None,
+    Left,
+    Right,
+}
+
+// A place on the other side, with its offset; it is not sure if it fell in an I or a D; the number of the segment that it fell in, and the edge
+// that it counts from.
 pub struct Spot {
     pub place: Place,
     pub offset: i64,
     pub sure: bool,
     pub number: usize,
+    pub edge: Edge,
 }
 
 // Whether a segment's end is above p.
@@ -95,6 +104,7 @@ fn nearer_edge(number: usize, forward: bool, t: u32, left: i64, right: i64) -> S
             offset: left,
             sure: true,
             number,
+            edge: Edge::Left,
         }
     } else {
         let back = -right;
@@ -103,6 +113,7 @@ fn nearer_edge(number: usize, forward: bool, t: u32, left: i64, right: i64) -> S
             offset: back,
             sure: true,
             number,
+            edge: Edge::Right,
         }
     }
 }
@@ -121,6 +132,7 @@ fn beside_at(number: usize, end: End, t: u32) -> Spot
                 offset: 0,
                 sure: false,
                 number,
+                edge: Edge::None,
             }
         }
         End::Stop => Spot {
@@ -128,6 +140,7 @@ fn beside_at(number: usize, end: End, t: u32) -> Spot
             offset: 0,
             sure: false,
             number,
+            edge: Edge::None,
         },
     }
 }
@@ -163,6 +176,7 @@ fn spot_in(
                 offset: 0,
                 sure: true,
                 number,
+                edge: Edge::None,
             }
         }
     }
@@ -270,6 +284,7 @@ pub fn stop_of(start: Spot) -> Spot
             offset: 0,
             sure: false,
             number,
+            edge: Edge::None,
         }
     }
 }
