@@ -36,7 +36,7 @@ numbersHold forward records letters exons n =
 -- ---- the number of a place
 
 -- from the genome: that of its segment; of an N, that of the side whose edge the place counts from
-abbrev numberedFrom : Edge → ℕ → ℕ
+abbrev pub numberedFrom : Edge → ℕ → ℕ
 numberedFrom noEdge i = i
 numberedFrom leftEdge i = i
 numberedFrom rightEdge i = i + 1
@@ -45,7 +45,7 @@ unfoldable pub exonFound : (ℕ → ℕ) → Spot → ℕ
 exonFound number a = number (numberedFrom (a .edge) (a .number))
 
 -- from the transcript: that of its segment; an N counts as what is before it in transcript order, which on strand -1 stands after it along the genome
-abbrev upstreamOf : Bool → Edge → ℕ → ℕ
+abbrev pub upstreamOf : Bool → Edge → ℕ → ℕ
 upstreamOf forward noEdge i = i
 upstreamOf forward leftEdge i = cond forward i (i + 1)
 upstreamOf forward rightEdge i = cond forward i (i + 1)
