@@ -1,7 +1,7 @@
 -- Exon numbers: each segment has the number of its record, counted from 1 in transcript order, and a gap between records has the number of the record before it along the genome. Assumes nothing.
-use Prim.Native.Nat.{ℕ, _+_}
+use Prim.Native.Nat.{ℕ, zero, suc, _+_}
 use mathlib.Core.Bool.{Bool, cond, _&&_, _||_}
-use mathlib.Core.List.{List}
+use mathlib.Core.List.{List, [], _∷_}
 use lib.Dec.{eqb, ltb}
 use lib.ListN.{getD}
 use Rattle.whole.specs.Whole.{if_then_else_}
@@ -19,6 +19,15 @@ lastNumber forward records = cond forward records 1
 -- the number of segment i of n, or what stands behind the last
 abbrev pub numberAt : List ℕ → ℕ → ℕ → ℕ → ℕ
 numberAt exons n behind i = if ltb i n then getD exons i 0 else behind
+
+-- the numbers of m segments from the segment i on
+unfoldable pub numbersFrom : List ℕ → ℕ → ℕ → List ℕ
+numbersFrom exons i zero = []
+numbersFrom exons i (suc m) = getD exons i 0 ∷ numbersFrom exons (i + 1) m
+
+-- the numbers of n segments
+abbrev pub readNumbers : List ℕ → ℕ → List ℕ
+readNumbers exons n = numbersFrom exons 0 n
 
 -- after a segment of the letter c the number k stays, or m is the next in the direction of the strand: after an N alone, which then is a gap between records
 unfoldable pub goesOn : Bool → ℕ → ℕ → ℕ → Bool
