@@ -11,10 +11,7 @@ use Rattle.filling.proofs.put_next.Statement.{statement}
 use Rattle.filling.proofs.put_next.Tie as tie
 
 put-number-requires : tie.Need-put-number-requires
-put-number-requires c κs =
-    let s = c .before .before .before .before in
-    let l = length-set (s .args .exons .now) (s .args .from) (c .before .before .number-of .result) in
-    (omega arith, omega arith)
+put-number-requires c κs = (simp length-set (omega arith), simp length-set (omega arith))
 
 same-length : tie.Need-same-length
 same-length c = ap length (c .before .before .put-number .ensures) ∙ simp (length-sets, length-set)
