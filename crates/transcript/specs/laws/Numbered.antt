@@ -4,16 +4,17 @@ use native.Mathlib.Numerals.{add-one}
 use native.Mathlib.Omega.{arith}
 use mathlib.Core.Bool.{Bool, true, false}
 use mathlib.Core.List.{List, [], _∷_, _++_}
-use mathlib.Core.Path.{_≡_, refl, sym, _∙_}
-use lib.Dec.{eqb, ltb}
-use lib.ListN.{getD, length, replicate, length-append, length-replicate, List·getD-eq-default}
-use borrow.Author.Tests.{eq-eqb, ltb-true, ltb-false}
+use mathlib.Core.Path.{_≡_, refl, sym, ap, _∙_}
+use lib.Dec.{eqb}
+use lib.ListN.{getD, length, replicate, length-append, length-replicate}
+use borrow.Author.Tests.{eq-eqb}
 use Rattle.whole.specs.laws.Whole.{by-test, both-of}
 use Rattle.cigar.specs.Elements.{Element, letterN}
 use Rattle.cigar.specs.Read.{lettersOf}
 use Rattle.segments.specs.Tables.{padded}
 use Rattle.segments.specs.Exons.{firstNumber, lastNumber, numberAt, goesOn, goesOnAt, numbersHold}
 use Rattle.segments.specs.laws.Made.{padded-at}
+use Rattle.segments.specs.laws.Exons.{read-number, read-padded}
 use Rattle.segments.specs.laws.Meaning.{all-of}
 use Rattle.transcript.specs.Building.{Exon, partsOf, elementsAfter, elementsOf, numberedBy, numbersAfter, numbersOf}
 
@@ -140,15 +141,7 @@ module _ (forward : Bool) (r : Exon) (rs : List Exon) where
 
 -- what stands at an index, and behind the last, of a table that holds the numbers ks and 0 from there on
 number-is : (m : ℕ) (ks : List ℕ) (n behind i : ℕ) → length ks ≡ n → numberAt (padded m ks) n behind i ≡ getD ks i behind
-number-is m ks n behind i e =
-    by-test (ltb i n)
-    (λ t. rw t (padded-at m ks i ∙ inside ks i (omega (arith, ltb-true i n t))))
-    (λ t. rw t (sym (List·getD-eq-default ks behind {n = i} (omega (arith, ltb-false i n t)))))
-  where
-    inside : (ks : List ℕ) (i : ℕ) → i < length ks → getD ks i 0 ≡ getD ks i behind
-    inside [] i h = absurd (omega arith)
-    inside (k ∷ ks) zero h = refl
-    inside (k ∷ ks) (suc i) h = inside ks i (omega arith)
+number-is m ks n behind i e = rw (← e) (sym (read-number (padded m ks) (length ks) behind i) ∙ ap (λ (l : List ℕ). getD l i behind) (read-padded m ks))
 
 -- the numbers and letters of any records hold, in tables of any size
 pub numbers-hold : (forward : Bool) (rs : List Exon) (l m : ℕ) → 0 < length rs
