@@ -13,7 +13,7 @@ use Rattle.together.specs.Steps.{wrapped, low}
 use Rattle.together.proofs.All.{equal-where}
 
 -- the order of two numbers does not matter to the test that they are equal
-eqb-sym : (a b : ℕ) → eqb a b ≡ eqb b a
+pub eqb-sym : (a b : ℕ) → eqb a b ≡ eqb b a
 eqb-sym a b =
     by-test (eqb a b)
     (λ e. rw (e, eq-eqb b a (sym (eqb-true a b e))))

@@ -12,6 +12,8 @@ ghost use Rattle.together.specs.Steps.{low, same, lowSteps, isCommon, co
 use refusals::MOST_SEGMENTS;
 use refusals::MOST_STARTS;
 
+pub mod exons;
+
 // The highest bit of 32.
 const HIGH: u32 = 2_147_483_648;
 
