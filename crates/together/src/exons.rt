@@ -90,9 +90,16 @@ fn steps_above(
 
 // The neighbour from which a step is taken: the earlier one on strand 1.
 fn from_neighbour(forward: bool) -> usize
-    ensures { λ r. ⌜ r ≡ cond forward 0 1 ⌝ }
+    ensures { λ r. ⌜ (r ≡ cond forward 0 1) × (r ≤ 1) ⌝ }
 {
     if forward { 0 } else { 1 }
+}
+
+// The neighbour to which it is taken.
+fn to_neighbour(forward: bool) -> usize
+    ensures { λ r. ⌜ (r ≡ cond forward 1 0) × (r ≤ 1) ⌝ }
+{
+    if forward { 1 } else { 0 }
 }
 
 // What the numbers are to begin with.
@@ -125,7 +132,7 @@ pub fn numbers_hold(
 {
     let last = count - 1;
     let low = from_neighbour(forward);
-    let high = 1 - low;
+    let high = to_neighbour(forward);
     let wrong = steps_above(letters, exons, low, high, last);
     let end = end_on(wrong, letters[last], exons[last], forward, records);
     let first = first_number(forward, records);
