@@ -2,17 +2,17 @@
 use Prim.Native.Nat.{ℕ, zero, suc, _+_, _-_, _^_, _≤_, _<_}
 use native.Mathlib.Numerals.{add-one}
 use native.Mathlib.Omega.{arith}
-use mathlib.Core.Bool.{Bool, true, false, cond, _&&_, _||_, false≢true}
+use mathlib.Core.Bool.{Bool, true, false, cond, _&&_, _||_}
 use mathlib.Core.List.{List}
-use mathlib.Core.Path.{_≡_, refl, sym, ap, subst, _∙_}
+use mathlib.Core.Path.{_≡_, sym, ap, subst, _∙_}
 use lib.Dec.{eqb, leb, ltb}
 use lib.ListN.{getD}
-use borrow.Author.Tests.{eqb-true, eq-eqb, eqb-false, leb-true, leb-false, le-leb, lt-ltb, le-ltb, ltb-true, ltb-false}
+use borrow.Author.Tests.{eqb-true, eq-eqb, eqb-false, leb-true, le-leb, lt-ltb, le-ltb, ltb-true, ltb-false}
 use Rattle.whole.specs.Whole.{if_then_else_}
 use Rattle.whole.specs.laws.Whole.{by-test, both, both-of}
 use Rattle.cigar.specs.Elements.{letterN}
 use Rattle.segments.specs.Tables.{allBelow}
-use Rattle.segments.specs.Exons.{firstNumber, lastNumber, numberAt, goesOn, goesOnAt, numbersHold}
+use Rattle.segments.specs.Exons.{firstNumber, numberAt, goesOn, goesOnAt, numbersHold}
 use Rattle.segments.specs.laws.Meaning.{all-at, all-of}
 use Rattle.together.specs.Numbers.{wrapped16, mostAfter, stepped, steppedAt, endStepped}
 use Rattle.together.proofs.All.{equal-where}

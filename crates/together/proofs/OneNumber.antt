@@ -1,14 +1,13 @@
 -- One step of the exon numbers, computed with a difference that wraps. Assumes nothing.
-use Prim.Native.Nat.{ℕ, _+_, _-_, _%_, _^_, _≤_, _<_}
+use Prim.Native.Nat.{ℕ, _+_, _-_, _%_, _^_, _<_}
 use native.Mathlib.Omega.{arith}
-use mathlib.Core.Bool.{Bool, true, _&&_, _||_}
+use mathlib.Core.Bool.{_&&_}
 use mathlib.Core.Path.{_≡_}
 use lib.Bits.{bitOr, or-add-and, and-le-l, and-le-r}
 use lib.Dec.{eqb, leb}
-use borrow.Author.Tests.{eqb-true, eqb-false, eq-eqb, ne-eqb, leb-true, leb-false, le-leb, lt-leb}
+use borrow.Author.Tests.{eqb-true, eq-eqb, leb-true, leb-false, le-leb}
 use Rattle.whole.specs.laws.Whole.{by-test, both, both-of}
-use Rattle.cigar.specs.Elements.{letterN}
-use Rattle.together.specs.Numbers.{wrapped16, mostAfter, stepped}
+use Rattle.together.specs.Numbers.{wrapped16}
 use Rattle.together.proofs.All.{equal-where}
 
 -- no bit of either

@@ -136,5 +136,6 @@ pub fn numbers_hold(
     let wrong = steps_above(letters, exons, low, high, last);
     let end = end_on(wrong, letters[last], exons[last], forward, records);
     let first = first_number(forward, records);
-    (exons[0] == first) & (end == 0)
+    let number = exons[0];
+    (number == first) & (end == 0)
 }
