@@ -206,7 +206,7 @@ fn judge(transcript: &Transcript, strand: i32, position: i32, cigar: &str) {
             Column::Both(read, genome) => {
                 let to_g = transcript.n_to_g(n(turned(read)), Bounds::Strict).unwrap();
                 let Mapped::Certain(g) = to_g else { panic!("{to_g} of {cigar}") };
-                assert_eq!((g.start, g.end), (genome, genome), "{cigar} at {position}, strand {strand}");
+                assert_eq!((g.start.base, g.end.base), (genome, genome), "{cigar} at {position}, strand {strand}");
                 let to_n = transcript.g_to_n(GInterval::at(genome), Bounds::Strict).unwrap();
                 assert_eq!(to_n.to_string(), format!("n.{}", turned(read)), "{cigar} at {position}, strand {strand}");
             }

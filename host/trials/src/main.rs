@@ -113,6 +113,10 @@ impl Trial {
         if let Some(last) = cigar.last_mut() {
             *last = b'D';
         }
+        if rng.gen_ratio(1, 4) {
+            // As many records as can be, and N inside each.
+            cigar = b"NM".to_vec();
+        }
         let mut case = draw::alike(if rng.gen() { 1 } else { -1 }, count, &cigar);
         if let Some(last) = case.records.last_mut().filter(|_| rng.gen_ratio(1, 4)) {
             last.numbers[1] = last.numbers[1].saturating_add(1);
@@ -165,7 +169,7 @@ impl Trial {
 
     /// A list of slots between two others, each painted. Where it is refused, none changes.
     fn judge_worklist(&mut self, positions: &[i32], source: Option<&Source>) {
-        let painted = Position { base: -7, offset: 7, star: 7 };
+        let painted = Position { base: -7, offset: 7, star: 7, exon: 7 };
         let answer = Answer { number: 77, mark: 7, start: painted, end: painted };
         let slot = |position| Slot { position, answer };
         let mut slots: Vec<_> = [&[7], positions, &[-7]].concat().into_iter().map(slot).collect();
