@@ -896,6 +896,93 @@ mod tests {
         assert_eq!(hollow.worklist(&[3]).unwrap().1, 3);
     }
 
+    /// The exons of an answer's ends.
+    fn exons(answer: Result<Answer, Refusal>) -> [u32; 2] {
+        answer.map_or([0, 0], |answer| [answer.start.exon, answer.end.exon])
+    }
+
+    #[test]
+    fn exons_are_counted_in_transcript_order() {
+        // An N of four inside the first record, a gap of five on each side of an empty record.
+        let records = [([10, 20], "3M4N3M"), ([25, 25], ""), ([30, 36], "6M")];
+        let g = |source: &Source, base| exons(source.g_to_n(AskedG { start: base, end: base, missing: 0 }, true))[0];
+        let plus = built(1, Cds::new(None, None), &records).unwrap();
+        let minus = built(-1, Cds::new(None, None), &records).unwrap();
+        let of = |source: &Source| (11..=36).map(|base| g(source, base)).collect::<Vec<_>>();
+        let [one, two, three] = [1, 2, 3];
+        let gaps = [one, one, one, two, two, two, two, two, three, three];
+        assert_eq!(of(&plus), [&[one; 10][..], &gaps, &[three; 6]].concat());
+        // The middle of a gap goes upstream: to the right.
+        let gaps = [three, three, two, two, two, two, two, one, one, one];
+        assert_eq!(of(&minus), [&[three; 10][..], &gaps, &[one; 6]].concat());
+        let Source::Records(plus) = plus else { panic!() };
+        let Source::Records(minus) = minus else { panic!() };
+        assert_eq!(plus.exons().collect::<Vec<_>>(), [1, 1, 1, 1, 2, 3]);
+        assert_eq!(minus.exons().collect::<Vec<_>>(), [3, 3, 3, 3, 2, 1]);
+    }
+
+    #[test]
+    fn exons_go_with_their_ends() {
+        let records = [([10, 20], "10M"), ([25, 33], "8M")];
+        let at = |base| Asked { base, ..Asked::default() };
+        let g = AskedG { start: 11, end: 33, missing: 0 };
+        for (strand, on_genome) in [(1, [1, 2]), (-1, [2, 1])] {
+            let source = built(strand, Cds::new(Some(3), Some(15)), &records).unwrap();
+            assert_eq!(exons(source.g_to_n(g, true)), [1, 2]);
+            assert_eq!(exons(source.g_to_c(g, true)), [1, 2]);
+            assert_eq!(exons(source.n_to_g(at(1), at(18), true)), on_genome);
+            assert_eq!(exons(source.c_to_g(at(-3), at(12), true)), on_genome);
+            assert_eq!(exons(source.n_to_c(at(1), at(18), true)), [0, 0]);
+            assert_eq!(exons(source.c_to_n(at(-3), at(12), true)), [0, 0]);
+        }
+    }
+
+    #[test]
+    fn a_gap_from_the_transcript_counts_as_the_record_before_it() {
+        let records = [([5, 5], ""), ([10, 14], "4M"), ([20, 20], "")];
+        let lenient = |source: &Source, base| {
+            let at = Asked { base, ..Asked::default() };
+            exons(source.n_to_g(at, at, false))[0]
+        };
+        for strand in [1, -1] {
+            let source = built(strand, Cds::new(None, None), &records).unwrap();
+            assert_eq!([-1, 1, 4, 5].map(|n| lenient(&source, n)), [1, 2, 2, 2], "strand {strand}");
+        }
+    }
+
+    #[test]
+    fn exon_numbers_run_from_the_left() {
+        let run = |strand, records, letters: &str, exons: &[u16]| {
+            runs(strand, records, letters.as_bytes(), exons)
+                .map(|of| of.iter().map(|of| if matches!(of, Of::Gap(_)) { '|' } else { '.' }).collect::<String>())
+        };
+        let said = |text: &str| Some(text.to_string());
+        assert_eq!(run(1, 3, "MNMNNM", &[1, 1, 1, 1, 2, 3]), said("...||."));
+        assert_eq!(run(-1, 3, "MNMNNM", &[3, 3, 3, 3, 2, 1]), said("...||."));
+        assert_eq!(run(1, 4, "MNMNNM", &[1, 1, 2, 2, 3, 4]), said(".|.||."));
+        assert_eq!(run(1, 1, "MNM", &[1, 1, 1]), said("..."));
+        assert_eq!(run(1, 3, "NMN", &[1, 2, 2]), said("|.|"));
+        assert_eq!(run(-1, 3, "NMN", &[3, 2, 2]), said("|.|"));
+        assert_eq!(run(1, 3, "NN", &[1, 2]), said("||"));
+        for (strand, records, exons) in [
+            (1, 2, [0, 0, 1]),
+            (1, 2, [2, 2, 3]),
+            (1, 2, [1, 1, 1]),
+            (1, 2, [1, 2, 2]),
+            (1, 3, [1, 1, 2]),
+            (1, 3, [1, 1, 3]),
+            (1, 1, [1, 1, 2]),
+            (1, 2, [2, 2, 1]),
+            (-1, 2, [1, 1, 2]),
+            (-1, 2, [2, 2, 2]),
+            (-1, 2, [2, 1, 1]),
+            (-1, 3, [2, 2, 1]),
+            (-1, 2, [2, 2, 0]),
+        ] {
+            assert_eq!(run(strand, records, "MNM", &exons), None, "{strand} {records} {exons:?}");
+        }
+    }
+
     #[test]
     fn refusals_of_words_have_their_order() {
         for code in [4, 5, 6, 9, 10, 11, 12, 13, 14, 15] {
