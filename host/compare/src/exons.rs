@@ -132,6 +132,11 @@ const PLUS: Worked = Worked {
         (&[[EXONS, 4, 1]], (Kind::GToN, "g.31", "refuses 23", [0, 0])),
         // A step of two that the record count has too.
         (&[[EXONS, 5, 4], [HEAD, RECORDS, 4]], (Kind::GToN, "g.31", "refuses 23", [0, 0])),
+        // Up, down and up.
+        (
+            &[[EXONS, 2, 2], [EXONS, 3, 2], [EXONS, 4, 1], [EXONS, 5, 2], [HEAD, RECORDS, 2]],
+            (Kind::GToN, "g.31", "refuses 23", [0, 0]),
+        ),
         // The numbers of the other strand.
         (
             &[[EXONS, 0, 3], [EXONS, 1, 3], [EXONS, 2, 3], [EXONS, 3, 3], [EXONS, 5, 1]],
@@ -191,6 +196,10 @@ const MINUS: Worked = Worked {
         (&[[EXONS, 5, 0]], (Kind::NToG, "n.1", "refuses 23", [0, 0])),
         (&[[EXONS, 4, 3]], (Kind::GToC, "g.31", "refuses 23", [0, 0])),
         (&[[EXONS, 3, 2]], (Kind::CToN, "c.1", "refuses 23", [0, 0])),
+        (
+            &[[EXONS, 0, 2], [EXONS, 1, 2], [EXONS, 2, 1], [EXONS, 3, 1], [HEAD, RECORDS, 2]],
+            (Kind::GToN, "g.31", "refuses 23", [0, 0]),
+        ),
         (&[[HEAD, RECORDS, 0]], (Kind::CToG, "c.1", "refuses 23", [0, 0])),
         (&[[HEAD, RECORDS, 2]], (Kind::GToN, "g.11", "refuses 23", [0, 0])),
         (&[[HEAD, RECORDS, 4]], (Kind::GToN, "g.11", "refuses 23", [0, 0])),

@@ -6,7 +6,7 @@ use std::collections::BTreeMap;
 use clap::Parser;
 use pulindraxi::{
     boundary::{self, Answer, Cds, Laid, Length, Position, Slot, Steps},
-    limits::MOST_SEGMENTS,
+    limits::{MOST_RECORDS, MOST_SEGMENTS},
     Element, Refusal,
 };
 use rand::{seq::SliceRandom, Rng, SeedableRng};
@@ -113,11 +113,12 @@ impl Trial {
         if let Some(last) = cigar.last_mut() {
             *last = b'D';
         }
-        if rng.gen_ratio(1, 4) {
-            // As many records as can be, and N inside each.
-            cigar = b"NM".to_vec();
-        }
-        let mut case = draw::alike(if rng.gen() { 1 } else { -1 }, count, &cigar);
+        let strand = if rng.gen() { 1 } else { -1 };
+        let mut case = match rng.gen_range(0..3) {
+            // As many records as can be, with an N inside each that damage can make a gap.
+            0 => draw::alike(strand, MOST_RECORDS, b"NM"),
+            _ => draw::alike(strand, count, &cigar),
+        };
         if let Some(last) = case.records.last_mut().filter(|_| rng.gen_ratio(1, 4)) {
             last.numbers[1] = last.numbers[1].saturating_add(1);
         }
@@ -130,6 +131,7 @@ impl Trial {
         let from = case.laid(&bytes);
         let number = self.lent.build(from);
         self.judge_built("txc_build", number, paper::build(from).map(Source::Records));
+        self.ask_damaged();
     }
 
     fn build_card(&mut self) {
