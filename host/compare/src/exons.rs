@@ -14,10 +14,19 @@ pub type Place = (Kind, &'static str, &'static str, [u32; 2]);
 /// What is written into lent memory, each a table, an index and a value; and a strict question to it.
 pub type Wound = (&'static [[i32; 3]], Place);
 
+/// The records of a transcript.
+enum Records {
+    /// Each by its genome bounds, its CIGAR, and how far that goes along the transcript.
+    Each(&'static [([i32; 2], &'static str, i32)]),
+    /// So many with one CIGAR, one after the other.
+    Alike(usize, &'static str),
+}
+
 /// A transcript, and what is asked of it.
 pub struct Worked {
-    /// How it is built.
-    pub case: Case,
+    strand: i32,
+    cds: Option<[i32; 2]>,
+    records: Records,
     /// The strict questions.
     pub strict: &'static [Place],
     /// The lenient questions.
@@ -32,8 +41,19 @@ const EXONS: i32 = 4;
 /// The record count's place in the head.
 const RECORDS: i32 = 8;
 
+/// Those of transcripts A and B.
+const TWO: Records = Records::Each(&[([10, 20], "10M", 10), ([25, 33], "8M", 8)]);
+/// An N inside a record, and an empty record with a gap on both sides.
+const THREE: Records = Records::Each(&[([10, 20], "4M2N4M", 8), ([25, 25], "", 0), ([30, 36], "6M", 6)]);
+/// An empty record at both ends: a gap is the first segment and the last.
+const HOLLOW: Records = Records::Each(&[([5, 5], "", 0), ([10, 14], "4M", 4), ([20, 20], "", 0)]);
+/// As many as can be.
+const MOST: Records = Records::Alike(512, "NM");
+
 const A: Worked = Worked {
-    case: Case { strand: 1, cds_start: Some(3), cds_end: Some(15), records: Vec::new() },
+    strand: 1,
+    cds: Some([3, 15]),
+    records: TWO,
     strict: &[
         (Kind::GToN, "g.11", "n.1", [1, 1]),
         (Kind::GToN, "g.20", "n.10", [1, 1]),
@@ -71,7 +91,9 @@ const A: Worked = Worked {
 };
 
 const B: Worked = Worked {
-    case: Case { strand: -1, cds_start: Some(3), cds_end: Some(15), records: Vec::new() },
+    strand: -1,
+    cds: Some([3, 15]),
+    records: TWO,
     strict: &[
         (Kind::GToN, "g.33", "n.1", [1, 1]),
         (Kind::GToN, "g.24", "n.8+2", [1, 1]),
@@ -96,9 +118,11 @@ const B: Worked = Worked {
     wounds: &[],
 };
 
-/// 10..20 `4M2N4M`, an empty record at 25, 30..36 `6M`. Letters MNMNNM, numbers 1 1 1 1 2 3.
+/// Letters MNMNNM, numbers 1 1 1 1 2 3.
 const PLUS: Worked = Worked {
-    case: Case { strand: 1, cds_start: Some(2), cds_end: Some(10), records: Vec::new() },
+    strand: 1,
+    cds: Some([2, 10]),
+    records: THREE,
     strict: &[
         // The N inside a record.
         (Kind::GToN, "g.15", "n.4+1", [1, 1]),
@@ -169,9 +193,11 @@ const PLUS: Worked = Worked {
     ],
 };
 
-/// The same on strand -1. Numbers 3 3 3 3 2 1.
+/// Numbers 3 3 3 3 2 1.
 const MINUS: Worked = Worked {
-    case: Case { strand: -1, cds_start: Some(2), cds_end: Some(10), records: Vec::new() },
+    strand: -1,
+    cds: Some([2, 10]),
+    records: THREE,
     strict: &[
         (Kind::GToN, "g.15", "n.11-1", [3, 3]),
         (Kind::GToN, "g.16", "n.10+1", [3, 3]),
@@ -211,9 +237,11 @@ const MINUS: Worked = Worked {
     ],
 };
 
-/// An empty record at 5, 10..14 `4M`, an empty record at 20: a gap is the first segment and the last. Numbers 1 2 2, behind them 3.
+/// Letters NMN, numbers 1 2 2, behind them 3.
 const HOLLOW_PLUS: Worked = Worked {
-    case: Case { strand: 1, cds_start: Some(0), cds_end: Some(4), records: Vec::new() },
+    strand: 1,
+    cds: Some([0, 4]),
+    records: HOLLOW,
     strict: &[
         (Kind::GToN, "g.6", "n.-1+1", [1, 1]),
         (Kind::GToN, "g.8", "n.-1+3", [1, 1]),
@@ -241,9 +269,11 @@ const HOLLOW_PLUS: Worked = Worked {
     ],
 };
 
-/// The same on strand -1. Numbers 3 2 2, behind them 1.
+/// Numbers 3 2 2, behind them 1.
 const HOLLOW_MINUS: Worked = Worked {
-    case: Case { strand: -1, cds_start: Some(0), cds_end: Some(4), records: Vec::new() },
+    strand: -1,
+    cds: Some([0, 4]),
+    records: HOLLOW,
     strict: &[
         (Kind::GToN, "g.7", "n.5-2", [3, 3]),
         (Kind::GToN, "g.8", "n.4+3", [2, 2]),
@@ -266,9 +296,11 @@ const HOLLOW_MINUS: Worked = Worked {
     ],
 };
 
-/// 512 records of `NM` on strand 1: the last three segments are the gap and the last record's N and M.
+/// The last two segments are the N and the M of exon 512.
 const MOST_PLUS: Worked = Worked {
-    case: Case { strand: 1, cds_start: None, cds_end: None, records: Vec::new() },
+    strand: 1,
+    cds: None,
+    records: MOST,
     strict: &[(Kind::GToN, "g.2_1024", "n.1_512", [1, 512]), (Kind::NToG, "n.256", "g.512", [256, 256])],
     lenient: &[],
     wounds: &[
@@ -277,42 +309,34 @@ const MOST_PLUS: Worked = Worked {
     ],
 };
 
-/// The same on strand -1: the first two segments are the M and the N of exon 512.
+/// The first two segments are the M and the N of exon 512.
 const MOST_MINUS: Worked = Worked {
-    case: Case { strand: -1, cds_start: None, cds_end: None, records: Vec::new() },
+    strand: -1,
+    cds: None,
+    records: MOST,
     strict: &[(Kind::GToN, "g.1_1023", "n.1_512", [1, 512]), (Kind::NToG, "n.256", "g.513", [256, 256])],
     lenient: &[],
     wounds: &[(&[[EXONS, 0, 513], [EXONS, 1, 513], [HEAD, RECORDS, 513]], (Kind::GToN, "g.1", "refuses 23", [0, 0]))],
 };
 
-/// A worked transcript with its records: genome bounds and CIGAR, and their tx lengths.
-fn with(worked: Worked, records: &[([i32; 2], &str, i32)]) -> Worked {
-    let Case { strand, cds_start, cds_end, .. } = worked.case;
-    let total: i32 = records.iter().map(|record| record.2).sum();
-    let mut at = if strand == 1 { 0 } else { total };
-    let numbered = records.iter().enumerate().map(|(index, &([start, end], cigar, long))| {
-        let tx_start = if strand == 1 { at } else { at - long };
-        at += strand * long;
-        ([start, end, tx_start, tx_start + long, strand * index as i32], cigar)
-    });
-    let cds = cds_start.zip(cds_end).map(|(start, end)| [start, end]);
-    Worked { case: case(strand, cds, &numbered.collect::<Vec<_>>()), ..worked }
-}
-
 /// The worked transcripts.
-pub fn worked() -> Vec<Worked> {
-    let ab = [([10, 20], "10M", 10), ([25, 33], "8M", 8)];
-    let three = [([10, 20], "4M2N4M", 8), ([25, 25], "", 0), ([30, 36], "6M", 6)];
-    let hollow = [([5, 5], "", 0), ([10, 14], "4M", 4), ([20, 20], "", 0)];
-    let most = |worked: Worked| Worked { case: draw::alike(worked.case.strand, 512, b"NM"), ..worked };
-    vec![
-        with(A, &ab),
-        with(B, &ab),
-        with(PLUS, &three),
-        with(MINUS, &three),
-        with(HOLLOW_PLUS, &hollow),
-        with(HOLLOW_MINUS, &hollow),
-        most(MOST_PLUS),
-        most(MOST_MINUS),
-    ]
+pub const WORKED: [Worked; 8] = [A, B, PLUS, MINUS, HOLLOW_PLUS, HOLLOW_MINUS, MOST_PLUS, MOST_MINUS];
+
+impl Worked {
+    /// How it is built.
+    pub fn case(&self) -> Case {
+        let Worked { strand, cds, ref records, .. } = *self;
+        let records = match *records {
+            Records::Alike(count, cigar) => return draw::alike(strand, count, cigar.as_bytes()),
+            Records::Each(records) => records,
+        };
+        let total: i32 = records.iter().map(|record| record.2).sum();
+        let mut at = if strand == 1 { 0 } else { total };
+        let numbered = records.iter().enumerate().map(|(index, &([start, end], cigar, long))| {
+            let tx_start = if strand == 1 { at } else { at - long };
+            at += strand * long;
+            ([start, end, tx_start, tx_start + long, strand * index as i32], cigar)
+        });
+        case(strand, cds, &numbered.collect::<Vec<_>>())
+    }
 }

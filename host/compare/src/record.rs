@@ -285,14 +285,15 @@ impl Recorder {
 
     /// A transcript whose exon numbers are worked by hand, and its memory with other numbers.
     fn exons(&mut self, worked: &Worked) -> Result<(), String> {
-        let mut built = self.push_card(&worked.case)?;
+        let case = worked.case();
+        let mut built = self.push_card(&case)?;
         for (places, strict) in [(worked.strict, true), (worked.lenient, false)] {
             for place in places {
                 self.push_numbered(place, strict, Some(&mut built))?;
             }
         }
         for (written, place) in worked.wounds {
-            self.push_card(&worked.case)?;
+            self.push_card(&case)?;
             for &[table, index, value] in *written {
                 self.damage([table, index, value, 0, 0, 0]);
             }
@@ -651,8 +652,8 @@ fn draw_all(recorder: &mut Recorder) -> Result<(), String> {
     for (index, case) in worked().iter().enumerate() {
         recorder.places(index, case)?;
     }
-    for worked in exons::worked() {
-        recorder.exons(&worked)?;
+    for worked in &exons::WORKED {
+        recorder.exons(worked)?;
     }
     // P14 and P15.
     let elements = settle::read_cigar(b"M0X3=")?.0.unwrap_or_default();
