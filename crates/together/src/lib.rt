@@ -76,13 +76,18 @@ fn known_in(letters: &[u8; MOST_SEGMENTS], first: usize, to: usize) -> bool
 }
 
 // Whether the first count letters are known. The compiler makes straight code of whole blocks, so the last block overlaps the others; from 8 to 15
-// letters two blocks of 8 do.
+// letters two blocks of 8 do, and from 4 to 7 two of 4.
 fn all_known(letters: &[u8; MOST_SEGMENTS], count: usize) -> bool
     requires { ⌜ count ≤ mostSegments ⌝ }
     ensures { λ r. ⌜ r ≡ allBelow (knownAt (now (letters .entry))) count ⌝ }
 {
-    if count < 8 {
+    if count < 4 {
         return known_in(letters, 0, count);
+    }
+    if count < 8 {
+        let front = known_in(letters, 0, 4);
+        let back = known_in(letters, count - 4, count);
+        return front & back;
     }
     if count < 16 {
         let front = known_in(letters, 0, 8);

@@ -1,4 +1,4 @@
--- Two stretches that overlap make one (`stretched`), for the two lengths of a block alike. Assumes nothing.
+-- Two stretches that overlap make one (`stretched`), for each length of a block alike. Assumes nothing.
 use native.Mathlib.Omega.{arith}
 use mathlib.Core.Bool.{_&&_}
 use mathlib.Core.Path.{ap₂, _∙_}
@@ -16,6 +16,9 @@ returns-2 c = ap₂ _&&_ (c .before .known-in2 .ensures) (c .known-in3 .ensures)
 returns-3 : tie.Need-returns-3
 returns-3 c = ap₂ _&&_ (c .before .known-in4 .ensures) (c .known-in5 .ensures) ∙ stretched _ _ _ _ (omega arith) (omega arith)
 
+returns-4 : tie.Need-returns-4
+returns-4 c = ap₂ _&&_ (c .before .known-in6 .ensures) (c .known-in7 .ensures) ∙ stretched _ _ _ _ (omega arith) (omega arith)
+
 pub all-known-spec : {M : Type 1} → statement M
 all-known-spec =
     tie.close
@@ -25,7 +28,10 @@ all-known-spec =
     (λ c κs. search needs)
     (λ c κs. search needs)
     returns-2
+    (λ c κs. search needs)
+    (λ c κs. search needs)
+    returns-3
     (λ c. search needs)
     (λ c κs. search needs)
     (λ c κs. search needs)
-    returns-3)
+    returns-4)
