@@ -7,6 +7,7 @@ use crate::answers;
 use crate::calls;
 use crate::rows;
 use crate::rows::ANSWER;
+use crate::transcripts::HEAD;
 use entry::ask;
 use layout::lay::Answer;
 use layout::lay::Said;
@@ -44,12 +45,13 @@ fn missing(row: &[u8]) -> u32
 // What is answered to a g. interval, in c. or in n.
 fn from_g(
     row: &[u8],
-    head: &[i32; 8],
+    head: &[i32; HEAD],
     genome: &[u32; MOST_STARTS],
     transcript: &[u32; MOST_STARTS],
     letters: &[u8; MOST_SEGMENTS],
+    exons: &[u16; MOST_SEGMENTS],
 ) -> Answer
-    ensures { λ r. ⌜ r ≡ fromG (now (row .entry)) (lentAt (now (head .entry)) (now (genome .entry)) (now (transcript .entry)) (now (letters .entry))) ⌝ }
+    ensures { λ r. ⌜ r ≡ fromG (now (row .entry)) (lentAt (now (head .entry)) (now (genome .entry)) (now (transcript .entry)) (now (letters .entry)) (now (exons .entry))) ⌝ }
 {
     let start = rows::number(row, 0);
     let end = rows::number(row, 2);
@@ -61,6 +63,7 @@ fn from_g(
             genome,
             transcript,
             letters,
+            exons,
             start,
             end,
             missing,
@@ -72,6 +75,7 @@ fn from_g(
         genome,
         transcript,
         letters,
+        exons,
         start,
         end,
         missing,
@@ -82,12 +86,13 @@ fn from_g(
 // What is answered to an n. interval, in c. or in g.
 fn from_n(
     row: &[u8],
-    head: &[i32; 8],
+    head: &[i32; HEAD],
     genome: &[u32; MOST_STARTS],
     transcript: &[u32; MOST_STARTS],
     letters: &[u8; MOST_SEGMENTS],
+    exons: &[u16; MOST_SEGMENTS],
 ) -> Answer
-    ensures { λ r. ⌜ r ≡ fromN (now (row .entry)) (lentAt (now (head .entry)) (now (genome .entry)) (now (transcript .entry)) (now (letters .entry))) ⌝ }
+    ensures { λ r. ⌜ r ≡ fromN (now (row .entry)) (lentAt (now (head .entry)) (now (genome .entry)) (now (transcript .entry)) (now (letters .entry)) (now (exons .entry))) ⌝ }
 {
     let start = rows::number(row, 0);
     let past_start = rows::number(row, 1);
@@ -100,6 +105,7 @@ fn from_n(
             genome,
             transcript,
             letters,
+            exons,
             start,
             past_start,
             end,
@@ -112,6 +118,7 @@ fn from_n(
         genome,
         transcript,
         letters,
+        exons,
         start,
         past_start,
         end,
@@ -123,12 +130,13 @@ fn from_n(
 // What is answered to a c. interval, in n. or in g.
 fn from_c(
     row: &[u8],
-    head: &[i32; 8],
+    head: &[i32; HEAD],
     genome: &[u32; MOST_STARTS],
     transcript: &[u32; MOST_STARTS],
     letters: &[u8; MOST_SEGMENTS],
+    exons: &[u16; MOST_SEGMENTS],
 ) -> Answer
-    ensures { λ r. ⌜ r ≡ fromC (now (row .entry)) (lentAt (now (head .entry)) (now (genome .entry)) (now (transcript .entry)) (now (letters .entry))) ⌝ }
+    ensures { λ r. ⌜ r ≡ fromC (now (row .entry)) (lentAt (now (head .entry)) (now (genome .entry)) (now (transcript .entry)) (now (letters .entry)) (now (exons .entry))) ⌝ }
 {
     if rows::call(row) == calls::C_TO_N {
         return ask::txc_c_to_n(
@@ -136,6 +144,7 @@ fn from_c(
             genome,
             transcript,
             letters,
+            exons,
             rows::number(row, 0),
             rows::number(row, 1),
             has_start_star(row),
@@ -150,6 +159,7 @@ fn from_c(
         genome,
         transcript,
         letters,
+        exons,
         rows::number(row, 0),
         rows::number(row, 1),
         has_start_star(row),
@@ -163,41 +173,52 @@ fn from_c(
 // What is answered to a yes or no question.
 fn said(
     row: &[u8],
-    head: &[i32; 8],
+    head: &[i32; HEAD],
     genome: &[u32; MOST_STARTS],
     transcript: &[u32; MOST_STARTS],
     letters: &[u8; MOST_SEGMENTS],
+    exons: &[u16; MOST_SEGMENTS],
 ) -> Said
-    ensures { λ r. ⌜ r ≡ saidTo (now (row .entry)) (lentAt (now (head .entry)) (now (genome .entry)) (now (transcript .entry)) (now (letters .entry))) ⌝ }
+    ensures { λ r. ⌜ r ≡ saidTo (now (row .entry)) (lentAt (now (head .entry)) (now (genome .entry)) (now (transcript .entry)) (now (letters .entry)) (now (exons .entry))) ⌝ }
 {
     let start = rows::number(row, 0);
     let end = rows::number(row, 2);
     let missing = missing(row);
     if rows::call(row) == calls::IN_BOUNDS {
-        return ask::txc_in_bounds(head, genome, transcript, letters, start, end, missing);
+        return ask::txc_in_bounds(
+            head,
+            genome,
+            transcript,
+            letters,
+            exons,
+            start,
+            end,
+            missing,
+        );
     }
-    ask::txc_is_coding(head, genome, transcript, letters)
+    ask::txc_is_coding(head, genome, transcript, letters, exons)
 }
 
 // What is answered to a question.
 pub(crate) fn answered(
     row: &[u8],
-    head: &[i32; 8],
+    head: &[i32; HEAD],
     genome: &[u32; MOST_STARTS],
     transcript: &[u32; MOST_STARTS],
     letters: &[u8; MOST_SEGMENTS],
+    exons: &[u16; MOST_SEGMENTS],
 ) -> [i64; ANSWER]
-    ensures { λ r. ⌜ r ≡ questionWords (now (row .entry)) (lentAt (now (head .entry)) (now (genome .entry)) (now (transcript .entry)) (now (letters .entry))) ⌝ }
+    ensures { λ r. ⌜ r ≡ questionWords (now (row .entry)) (lentAt (now (head .entry)) (now (genome .entry)) (now (transcript .entry)) (now (letters .entry)) (now (exons .entry))) ⌝ }
 {
     let call = rows::call(row);
     if call < calls::N_TO_G {
-        return answers::of_answer(from_g(row, head, genome, transcript, letters));
+        return answers::of_answer(from_g(row, head, genome, transcript, letters, exons));
     }
     if call < calls::C_TO_N {
-        return answers::of_answer(from_n(row, head, genome, transcript, letters));
+        return answers::of_answer(from_n(row, head, genome, transcript, letters, exons));
     }
     if call < calls::IN_BOUNDS {
-        return answers::of_answer(from_c(row, head, genome, transcript, letters));
+        return answers::of_answer(from_c(row, head, genome, transcript, letters, exons));
     }
-    answers::of_said(said(row, head, genome, transcript, letters))
+    answers::of_said(said(row, head, genome, transcript, letters, exons))
 }
