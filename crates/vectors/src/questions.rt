@@ -2,7 +2,7 @@
 // bits 3 and 4 which ends are missing, as the boundary has it.
 ghost use mathlib.Core.Path.{_≡_};
 ghost use Rattle.layout.specs.Layout.{lentAt};
-ghost use Rattle.vectors.specs.Questions.{isStrict, startStar, endStar, missingOf, fromG, fromN, fromC, saidTo, questionWords};
+ghost use Rattle.vectors.specs.Questions.{isStrict, startStar, endStar, missingOf, fromG, fromN, cToN, cToG, fromC, saidTo, questionWords};
 use crate::answers;
 use crate::calls;
 use crate::rows;
@@ -94,11 +94,6 @@ fn from_n(
 ) -> Answer
     ensures { λ r. ⌜ r ≡ fromN (now (row .entry)) (lentAt (now (head .entry)) (now (genome .entry)) (now (transcript .entry)) (now (letters .entry)) (now (exons .entry))) ⌝ }
 {
-    let start = rows::number(row, 0);
-    let past_start = rows::number(row, 1);
-    let end = rows::number(row, 2);
-    let past_end = rows::number(row, 3);
-    let strict = is_strict(row);
     if rows::call(row) == calls::N_TO_C {
         return ask::txc_n_to_c(
             head,
@@ -106,11 +101,11 @@ fn from_n(
             transcript,
             letters,
             exons,
-            start,
-            past_start,
-            end,
-            past_end,
-            strict,
+            rows::number(row, 0),
+            rows::number(row, 1),
+            rows::number(row, 2),
+            rows::number(row, 3),
+            is_strict(row),
         );
     }
     ask::txc_n_to_g(
@@ -119,11 +114,65 @@ fn from_n(
         transcript,
         letters,
         exons,
-        start,
-        past_start,
-        end,
-        past_end,
-        strict,
+        rows::number(row, 0),
+        rows::number(row, 1),
+        rows::number(row, 2),
+        rows::number(row, 3),
+        is_strict(row),
+    )
+}
+
+// What is answered to a c. interval in n.
+fn c_to_n(
+    row: &[u8],
+    head: &[i32; HEAD],
+    genome: &[u32; MOST_STARTS],
+    transcript: &[u32; MOST_STARTS],
+    letters: &[u8; MOST_SEGMENTS],
+    exons: &[u16; MOST_SEGMENTS],
+) -> Answer
+    ensures { λ r. ⌜ r ≡ cToN (now (row .entry)) (lentAt (now (head .entry)) (now (genome .entry)) (now (transcript .entry)) (now (letters .entry)) (now (exons .entry))) ⌝ }
+{
+    ask::txc_c_to_n(
+        head,
+        genome,
+        transcript,
+        letters,
+        exons,
+        rows::number(row, 0),
+        rows::number(row, 1),
+        has_start_star(row),
+        rows::number(row, 2),
+        rows::number(row, 3),
+        has_end_star(row),
+        is_strict(row),
+    )
+}
+
+// What is answered to a c. interval in g.
+fn c_to_g(
+    row: &[u8],
+    head: &[i32; HEAD],
+    genome: &[u32; MOST_STARTS],
+    transcript: &[u32; MOST_STARTS],
+    letters: &[u8; MOST_SEGMENTS],
+    exons: &[u16; MOST_SEGMENTS],
+) -> Answer
+    ensures { λ r. ⌜ r ≡ cToG (now (row .entry)) (lentAt (now (head .entry)) (now (genome .entry)) (now (transcript .entry)) (now (letters .entry)) (now (exons .entry))) ⌝ }
+{
+    ask::txc_c_to_g(
+        head,
+        genome,
+        transcript,
+        letters,
+        exons,
+        rows::number(row, 0),
+        rows::number(row, 1),
+        has_start_star(row),
+        rows::number(row, 2),
+        rows::number(row, 3),
+        has_end_star(row),
+        is_strict(row),
     )
 }
 
@@ -139,35 +188,9 @@ fn from_c(
     ensures { λ r. ⌜ r ≡ fromC (now (row .entry)) (lentAt (now (head .entry)) (now (genome .entry)) (now (transcript .entry)) (now (letters .entry)) (now (exons .entry))) ⌝ }
 {
     if rows::call(row) == calls::C_TO_N {
-        return ask::txc_c_to_n(
-            head,
-            genome,
-            transcript,
-            letters,
-            exons,
-            rows::number(row, 0),
-            rows::number(row, 1),
-            has_start_star(row),
-            rows::number(row, 2),
-            rows::number(row, 3),
-            has_end_star(row),
-            is_strict(row),
-        );
+        return c_to_n(row, head, genome, transcript, letters, exons);
     }
-    ask::txc_c_to_g(
-        head,
-        genome,
-        transcript,
-        letters,
-        exons,
-        rows::number(row, 0),
-        rows::number(row, 1),
-        has_start_star(row),
-        rows::number(row, 2),
-        rows::number(row, 3),
-        has_end_star(row),
-        is_strict(row),
-    )
+    c_to_g(row, head, genome, transcript, letters, exons)
 }
 
 // What is answered to a yes or no question.
