@@ -133,16 +133,16 @@ byElements t = record {
 }
 
 -- the numbers that go with a name: that with which the base is answered, and that with which the name, asked again, is answered
-pub record Numbers : Type 0 where
+pub record ExonNumbers : Type 0 where
   pub of-base : ℕ
   pub of-name : ℕ
 
 -- an exon base is the one that its name counts from
-abbrev pub exonNumbers : {t : Transcript} {p : ℕ} → Numbering t → Matched t p → Numbers
-exonNumbers {t} {p} n b = record { of-base = n .of-exon p b; of-name = n .of-exon p b }
+abbrev pub exonBaseNumbers : {t : Transcript} {p : ℕ} → Numbering t → Matched t p → ExonNumbers
+exonBaseNumbers {t} {p} n b = record { of-base = n .of-exon p b; of-name = n .of-exon p b }
 
 -- an intron base has the number of the side that its name counts from, and its name that of the exon base there
-unfoldable pub intronNumbers : {t : Transcript} {p u d : ℕ} → Numbering t → InIntron t p → Matched t u → Matched t d → Numbers
-intronNumbers {t} {p} {u} {d} n b up down =
+unfoldable pub intronBaseNumbers : {t : Transcript} {p u d : ℕ} → Numbering t → InIntron t p → Matched t u → Matched t d → ExonNumbers
+intronBaseNumbers {t} {p} {u} {d} n b up down =
     if upstreamNearer p u d then record { of-base = upstreamNumber n b; of-name = n .of-exon u up }
     else record { of-base = downstreamNumber n b; of-name = n .of-exon d down }
