@@ -16,6 +16,12 @@ pub data Mark : Type 0 where
 abbrev pub markOf : Bool → Interval ℕ → Mark
 markOf sure exons = cond sure (certain exons) (uncertain exons)
 
+-- the exon numbers that a mark has, 0 where it has none
+abbrev pub exonsOf : Mark → Interval ℕ
+exonsOf (certain exons) = exons
+exonsOf (uncertain exons) = exons
+exonsOf unmarked = record { from = 0; to = 0 }
+
 pub record Marked (P : Type 0) : Type 0 where
   pub mark : Mark
   pub interval : Interval P

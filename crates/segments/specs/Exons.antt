@@ -1,7 +1,7 @@
 -- Exon numbers: each segment has the number of its record, counted from 1 in transcript order, and a gap between records has the number of the record before it along the genome. Assumes nothing.
-use Prim.Native.Nat.{ℕ, _+_}
+use Prim.Native.Nat.{ℕ, zero, suc, _+_}
 use mathlib.Core.Bool.{Bool, cond, _&&_, _||_}
-use mathlib.Core.List.{List}
+use mathlib.Core.List.{List, [], _∷_}
 use lib.Dec.{eqb, ltb}
 use lib.ListN.{getD}
 use Rattle.whole.specs.Whole.{if_then_else_}
@@ -20,6 +20,15 @@ lastNumber forward records = cond forward records 1
 abbrev pub numberAt : List ℕ → ℕ → ℕ → ℕ → ℕ
 numberAt exons n behind i = if ltb i n then getD exons i 0 else behind
 
+-- the numbers of m segments from the segment i on
+unfoldable pub numbersFrom : List ℕ → ℕ → ℕ → List ℕ
+numbersFrom exons i zero = []
+numbersFrom exons i (suc m) = getD exons i 0 ∷ numbersFrom exons (i + 1) m
+
+-- the numbers of n segments
+abbrev pub readNumbers : List ℕ → ℕ → List ℕ
+readNumbers exons n = numbersFrom exons 0 n
+
 -- after a segment of the letter c the number k stays, or m is the next in the direction of the strand: after an N alone, which then is a gap between records
 unfoldable pub goesOn : Bool → ℕ → ℕ → ℕ → Bool
 goesOn forward c k m = eqb k m || (eqb c letterN && eqb (cond forward m k) (cond forward k m + 1))
@@ -36,7 +45,7 @@ numbersHold forward records letters exons n =
 -- ---- the number of a place
 
 -- from the genome: that of its segment; of an N, that of the side whose edge the place counts from
-abbrev numberedFrom : Edge → ℕ → ℕ
+abbrev pub numberedFrom : Edge → ℕ → ℕ
 numberedFrom noEdge i = i
 numberedFrom leftEdge i = i
 numberedFrom rightEdge i = i + 1
@@ -45,7 +54,7 @@ unfoldable pub exonFound : (ℕ → ℕ) → Spot → ℕ
 exonFound number a = number (numberedFrom (a .edge) (a .number))
 
 -- from the transcript: that of its segment; an N counts as what is before it in transcript order, which on strand -1 stands after it along the genome
-abbrev upstreamOf : Bool → Edge → ℕ → ℕ
+abbrev pub upstreamOf : Bool → Edge → ℕ → ℕ
 upstreamOf forward noEdge i = i
 upstreamOf forward leftEdge i = cond forward i (i + 1)
 upstreamOf forward rightEdge i = cond forward i (i + 1)

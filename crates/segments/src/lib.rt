@@ -15,6 +15,8 @@ use numbering::Place;
 use refusals::MOST_SEGMENTS;
 use refusals::MOST_STARTS;
 
+pub mod exons;
+
 // An interval's end.
 pub enum End {
     Start,

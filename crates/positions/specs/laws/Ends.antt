@@ -1,6 +1,6 @@
 -- An answer and its parts: 17 of an interval is 17 of its ends, the first one's first; an interval that is answered has both its ends answered; and its mark. Assumes nothing.
 use Prim.Native.Nat.{ℕ}
-use mathlib.Core.Path.{_≡_, refl, sym, ap, _∙_}
+use mathlib.Core.Path.{_≡_, refl, sym, ap, _∙_, subst}
 use mathlib.Core.Bool.{Bool, true, false, _&&_}
 use Rattle.refusals.specs.Numbers.{tooWide}
 use Rattle.refusals.specs.Outcome.{Outcome, answered, refused, through}
@@ -51,13 +51,13 @@ row-plain (certain exons) = refl
 row-plain (uncertain exons) = refl
 row-plain unmarked = refl
 
--- a chain that answers bears the mark of its two steps in a row
-pub chain-mark : {P Q R : Type 0} (asks : P → Q) (first : Answer P) (second : Interval Q → Answer R) (m : Mark)
-    → ((a : Marked P) (b : Marked R) → first ≡ answered a → second (each asks (a .interval)) ≡ answered b → inARow (a .mark) (b .mark) ≡ m)
-    → (c : Marked R) → chain asks first second ≡ answered c → c .mark ≡ m
-chain-mark {R = R} asks (answered a) second m h c e = go (second (each asks (a .interval))) refl e
+-- a chain that answers bears the mark of its two steps in a row: what holds of that holds of its own
+pub chain-mark : {P Q R : Type 0} (asks : P → Q) (first : Answer P) (second : Interval Q → Answer R) (holds : Mark → Type 0)
+    → ((a : Marked P) (b : Marked R) → first ≡ answered a → second (each asks (a .interval)) ≡ answered b → holds (inARow (a .mark) (b .mark)))
+    → (c : Marked R) → chain asks first second ≡ answered c → holds (c .mark)
+chain-mark {R = R} asks (answered a) second holds h c e = go (second (each asks (a .interval))) refl e
   where
-    go : (o : Answer R) → second (each asks (a .interval)) ≡ o → through (after (a .mark)) o ≡ answered c → c .mark ≡ m
-    go (answered b) s e = sym (ap (λ (x : Marked R). x .mark) (same e)) ∙ h a b refl s
+    go : (o : Answer R) → second (each asks (a .interval)) ≡ o → through (after (a .mark)) o ≡ answered c → holds (c .mark)
+    go (answered b) s e = subst holds (ap (λ (x : Marked R). x .mark) (same e)) (h a b refl s)
     go (refused k) s e = absurd (clash e)
-chain-mark asks (refused k) second m h c e = absurd (clash e)
+chain-mark asks (refused k) second holds h c e = absurd (clash e)
