@@ -144,14 +144,14 @@ pub record BetweenRecords (forward : Bool) (rs : List Record) (z : ℤ) (k l : �
   pub right-number : l ≡ counted forward (length left + 1) (length right)
 
 -- what is on the two sides of a base of an intron: within a record that record on both, and between two neighbours these
-pub data Beside (forward : Bool) (rs : List Record) (z : ℤ) (k l : ℕ) : Type 0 where
-  within : InRecord forward rs z k → k ≡ l → Beside forward rs z k l
-  between : BetweenRecords forward rs z k l → Beside forward rs z k l
+pub data Sides (forward : Bool) (rs : List Record) (z : ℤ) (k l : ℕ) : Type 0 where
+  within : InRecord forward rs z k → k ≡ l → Sides forward rs z k l
+  between : BetweenRecords forward rs z k l → Sides forward rs z k l
 
 -- each base in a matched column has the number of the record that it lies in, and an intron base those of what is on its two sides
 pub record CountsRecords (x : Input) (t : Transcript) (n : Numbering t) : Type 0 where
   pub exon-base : (p : ℕ) (b : Matched t p) → InRecord (eqZ (x .strand) (pos 1)) (x .records) (pos (p + t .first)) (n .of-exon p b)
-  pub intron-base : (p : ℕ) (b : InIntron t p) → Beside (eqZ (x .strand) (pos 1)) (x .records) (pos (p + t .first)) (n .on-left p b) (n .on-right p b)
+  pub intron-base : (p : ℕ) (b : InIntron t p) → Sides (eqZ (x .strand) (pos 1)) (x .records) (pos (p + t .first)) (n .on-left p b) (n .on-right p b)
 
 -- of every transcript that builds: the numbers are those of its records
 pub record NamedByRecords (has : ℕ → Name → ExonNumbers → Type 0) (x : Input) (t : Transcript) : Type 0 where
