@@ -8,6 +8,7 @@ ghost use lib.Dec.{leb};
 ghost use Rattle.refusals.specs.Numbers.{mostSegments};
 ghost use Rattle.cigar.specs.Elements.{isLetter};
 ghost use Rattle.segments.specs.Tables.{tables, allBelow, knownAt, segmentsHold};
+ghost use Rattle.segments.specs.Exons.{firstNumber, lastNumber, numberAt, goesOn, goesOnAt, numbersHold};
 ghost use Rattle.together.specs.Steps.{low, same, lowSteps, isCommon, commonSame, commonLow, sameAt, lowAt, commonAt, commonSameAt, commonLowAt, from, begin, LowEnds};
 use refusals::MOST_SEGMENTS;
 use refusals::MOST_STARTS;
@@ -238,7 +239,7 @@ fn is_fine(seen: Seen) -> bool
 }
 
 // Whether count segments hold together, where no table goes as far as the highest bit: the caller has longer ones refused in any case.
-pub fn segments_hold(
+fn segments_hold(
     genome: &[u32; MOST_STARTS],
     transcript: &[u32; MOST_STARTS],
     letters: &[u8; MOST_SEGMENTS],
@@ -254,4 +255,95 @@ pub fn segments_hold(
     let known = all_known(letters, count);
     let fine = is_fine(steps(genome, transcript, letters, count));
     begins(genome, transcript) & (known & fine)
+}
+
+// Whether the number k stays, or m is the next after an N.
+fn goes_on(forward: bool, letter: u8, k: u16, m: u16) -> bool
+    ensures { λ r. ⌜ r ≡ goesOn forward letter k m ⌝ }
+{
+    let a = k as u32;
+    let b = m as u32;
+    if forward {
+        (k == m) | ((letter == b'N') & (b == a + 1))
+    } else {
+        (k == m) | ((letter == b'N') & (a == b + 1))
+    }
+}
+
+fn first_number(forward: bool, records: u16) -> u16
+    ensures { λ r. ⌜ r ≡ firstNumber forward records ⌝ }
+{
+    if forward { 1 } else { records }
+}
+
+fn last_number(forward: bool, records: u16) -> u16
+    ensures { λ r. ⌜ r ≡ lastNumber forward records ⌝ }
+{
+    if forward { records } else { 1 }
+}
+
+fn number_at(exons: &[u16; MOST_SEGMENTS], count: usize, behind: u16, i: usize) -> u16
+    requires { ⌜ count ≤ mostSegments ⌝ }
+    ensures { λ r. ⌜ r ≡ numberAt (now (exons .entry)) count behind i ⌝ }
+{
+    if i < count { exons[i] } else { behind }
+}
+
+fn numbers_go_on(
+    letters: &[u8; MOST_SEGMENTS],
+    exons: &[u16; MOST_SEGMENTS],
+    count: usize,
+    forward: bool,
+    behind: u16,
+) -> bool
+    requires { ⌜ count ≤ mostSegments ⌝ }
+    ensures { λ r. ⌜ r ≡ allBelow (goesOnAt forward (now (letters .entry)) (numberAt (now (exons .entry)) count behind)) count ⌝ }
+{
+    let mut ok = true;
+    let mut i = 0;
+    while i < count {
+        ok = ok
+            & goes_on(
+                forward,
+                letters[i],
+                number_at(exons, count, behind, i),
+                number_at(exons, count, behind, i + 1),
+            );
+        i += 1;
+    }
+    ok
+}
+
+fn numbers_hold(
+    letters: &[u8; MOST_SEGMENTS],
+    exons: &[u16; MOST_SEGMENTS],
+    count: usize,
+    forward: bool,
+    records: u16,
+) -> bool
+    requires { ⌜ count ≤ mostSegments ⌝ }
+    ensures { λ r. ⌜ r ≡ numbersHold forward records (now (letters .entry)) (now (exons .entry)) count ⌝ }
+{
+    let behind = last_number(forward, records);
+    let go = numbers_go_on(letters, exons, count, forward, behind);
+    let first = number_at(exons, count, behind, 0);
+    (first == first_number(forward, records)) & go
+}
+
+// Whether count segments hold together, and their exon numbers do.
+pub fn tables_hold(
+    genome: &[u32; MOST_STARTS],
+    transcript: &[u32; MOST_STARTS],
+    letters: &[u8; MOST_SEGMENTS],
+    exons: &[u16; MOST_SEGMENTS],
+    count: usize,
+    forward: bool,
+    records: u16,
+) -> bool
+    requires { ⌜ (1 ≤ count) × (count ≤ mostSegments) ⌝ }
+    ensures { λ r. ⌜ (LowEnds (now (genome .entry)) (now (transcript .entry)) count → r ≡ (segmentsHold (tables (now (genome .entry)) (now (transcript .entry)) (now (letters .entry))) count && numbersHold forward records (now (letters .entry)) (now (exons .entry)) count)) ⌝ }
+{
+    let segments = segments_hold(genome, transcript, letters, count);
+    let numbers = numbers_hold(letters, exons, count, forward, records);
+    segments & numbers
 }
