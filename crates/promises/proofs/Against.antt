@@ -16,7 +16,7 @@ use Rattle.segments.specs.Places.{firstBelow, indexOf, spotIn, nearer, mapByTab
 use Rattle.transcript.specs.Transcript.{Transcript}
 use Rattle.transcript.specs.Building.{partsOf, elementsAfter, elementsOf, firstStart, build}
 use Rattle.positions.specs.Positions.{Interval, NAsked, GPosition, NPosition}
-use Rattle.positions.specs.Answers.{Marked, Answer, certainly}
+use Rattle.positions.specs.Answers.{Marked, Answer, certainly, plainly}
 use Rattle.places.specs.Mapping.{inside, turned, nOfSpot, wholeN, gToN, gOfSpot, gOfEnds, nToG}
 use Rattle.promises.specs.Demands.{Mapper, Demand-2-built, single}
 use Rattle.promises.specs.Table.{Reply, A, TableOfPlaces}
@@ -35,7 +35,7 @@ startG (refused k) = pos 0
 -- A g.12 is n.2
 second-is-2 : (m : Mapper) → Demand-2-built m → (b : Answer NPosition) → ((strict : Bool) (t : Transcript) (i : Interval ℤ) → startN (m .g-to-n strict t i) ≡ startN b) → startN b ≡ pos 2
 unfolding second build total
-second-is-2 m d b always = sym (always _ _ _) ∙ ap startN (d inputA A (all-build .0) .exon-base 1 (second A of-A) .g-to-n)
+second-is-2 m d b always = sym (always _ _ _) ∙ ap startN (d inputA A (all-build .0) .named .exon-base 1 (second A of-A) .g-to-n)
 
 -- it refuses everything, with whatever numbers
 pub refusing-fails : (m : Mapper) → ((strict : Bool) (t : Transcript) (i : Interval ℤ) → (k : ℕ) × (m .g-to-n strict t i ≡ refused k)) → Demand-2-built m → ⊥
@@ -43,13 +43,13 @@ refusing-fails m refuses d =
     let h = second-is-2 m d (refused 0) (λ strict t i. ap startN (refuses strict t i .1)) in
     omega order
 
--- it always says n.1
+-- it always says n.1, with whatever exon numbers
 abbrev n1 : Interval NPosition
 n1 = single (record { base = pos 1; offset = pos 0 })
 
-pub saying-n1-fails : (m : Mapper) → ((strict : Bool) (t : Transcript) (i : Interval ℤ) → m .g-to-n strict t i ≡ certainly n1) → Demand-2-built m → ⊥
+pub saying-n1-fails : (m : Mapper) → ((strict : Bool) (t : Transcript) (i : Interval ℤ) → (k : Interval ℕ) × (m .g-to-n strict t i ≡ certainly k n1)) → Demand-2-built m → ⊥
 saying-n1-fails m says d =
-    let h = second-is-2 m d (certainly n1) (λ strict t i. ap startN (says strict t i)) in
+    let h = second-is-2 m d (plainly n1) (λ strict t i. ap startN (says strict t i .1)) in
     omega order
 
 -- on strand -1 it exchanges ours once more, so that the ends stand as they came
