@@ -11,11 +11,13 @@ use positions::NAnswer;
 use positions::NPlain;
 use positions::NPosition;
 
+// `exon` is 0 where the mapping carries no exon's number.
 #[repr(C)]
 pub struct Position {
     pub base: i32,
     pub offset: i32,
     pub star: u32,
+    pub exon: u32,
 }
 
 // `mark` is 1 for a certain answer, 2 for an uncertain one, 3 where it bears none.
@@ -46,34 +48,37 @@ pub fn star_number(star: bool) -> u32
     if star { 1 } else { 0 }
 }
 
-fn g_position(a: GPosition) -> Position
-    ensures { λ r. ⌜ r ≡ gLaid (paperGPosition a) ⌝ }
+fn g_position(exon: u16, a: GPosition) -> Position
+    ensures { λ r. ⌜ r ≡ gLaid exon (paperGPosition a) ⌝ }
 {
     Position {
         base: a.base,
         offset: 0,
         star: 0,
+        exon: exon as u32,
     }
 }
 
-fn n_position(a: NPosition) -> Position
-    ensures { λ r. ⌜ r ≡ nLaid (paperNPosition a) ⌝ }
+fn n_position(exon: u16, a: NPosition) -> Position
+    ensures { λ r. ⌜ r ≡ nLaid exon (paperNPosition a) ⌝ }
 {
     Position {
         base: a.base,
         offset: a.offset,
         star: 0,
+        exon: exon as u32,
     }
 }
 
-fn c_position(a: CPosition) -> Position
-    ensures { λ r. ⌜ r ≡ cLaid (paperCPosition a) ⌝ }
+fn c_position(exon: u16, a: CPosition) -> Position
+    ensures { λ r. ⌜ r ≡ cLaid exon (paperCPosition a) ⌝ }
 {
     let star = star_number(a.star);
     Position {
         base: a.base,
         offset: a.offset,
         star,
+        exon: exon as u32,
     }
 }
 
@@ -87,11 +92,13 @@ fn refusal_of(k: u8) -> Answer
             base: 0,
             offset: 0,
             star: 0,
+            exon: 0,
         },
         end: Position {
             base: 0,
             offset: 0,
             star: 0,
+            exon: 0,
         },
     }
 }
@@ -111,8 +118,16 @@ pub fn lay_g(a: GAnswer) -> Answer
     ensures { λ r. ⌜ r ≡ laid gLaid (paperG a) ⌝ }
 {
     match a {
-        GAnswer::Certain(i) => answer_of(1, g_position(i.from), g_position(i.to)),
-        GAnswer::Uncertain(i) => answer_of(2, g_position(i.from), g_position(i.to)),
+        GAnswer::Certain(i, exons) => answer_of(
+            1,
+            g_position(exons.from, i.from),
+            g_position(exons.to, i.to),
+        ),
+        GAnswer::Uncertain(i, exons) => answer_of(
+            2,
+            g_position(exons.from, i.from),
+            g_position(exons.to, i.to),
+        ),
         GAnswer::Refused(k) => refusal_of(k),
     }
 }
@@ -121,8 +136,16 @@ pub fn lay_n(a: NAnswer) -> Answer
     ensures { λ r. ⌜ r ≡ laid nLaid (paperN a) ⌝ }
 {
     match a {
-        NAnswer::Certain(i) => answer_of(1, n_position(i.from), n_position(i.to)),
-        NAnswer::Uncertain(i) => answer_of(2, n_position(i.from), n_position(i.to)),
+        NAnswer::Certain(i, exons) => answer_of(
+            1,
+            n_position(exons.from, i.from),
+            n_position(exons.to, i.to),
+        ),
+        NAnswer::Uncertain(i, exons) => answer_of(
+            2,
+            n_position(exons.from, i.from),
+            n_position(exons.to, i.to),
+        ),
         NAnswer::Refused(k) => refusal_of(k),
     }
 }
@@ -131,8 +154,16 @@ pub fn lay_c(a: CAnswer) -> Answer
     ensures { λ r. ⌜ r ≡ laid cLaid (paperC a) ⌝ }
 {
     match a {
-        CAnswer::Certain(i) => answer_of(1, c_position(i.from), c_position(i.to)),
-        CAnswer::Uncertain(i) => answer_of(2, c_position(i.from), c_position(i.to)),
+        CAnswer::Certain(i, exons) => answer_of(
+            1,
+            c_position(exons.from, i.from),
+            c_position(exons.to, i.to),
+        ),
+        CAnswer::Uncertain(i, exons) => answer_of(
+            2,
+            c_position(exons.from, i.from),
+            c_position(exons.to, i.to),
+        ),
         CAnswer::Refused(k) => refusal_of(k),
     }
 }
@@ -141,7 +172,7 @@ pub fn lay_n_plain(a: NPlain) -> Answer
     ensures { λ r. ⌜ r ≡ laid nLaid (paperNPlain a) ⌝ }
 {
     match a {
-        NPlain::Told(i) => answer_of(3, n_position(i.from), n_position(i.to)),
+        NPlain::Told(i) => answer_of(3, n_position(0, i.from), n_position(0, i.to)),
         NPlain::Refused(k) => refusal_of(k),
     }
 }
@@ -150,7 +181,7 @@ pub fn lay_c_plain(a: CPlain) -> Answer
     ensures { λ r. ⌜ r ≡ laid cLaid (paperCPlain a) ⌝ }
 {
     match a {
-        CPlain::Told(i) => answer_of(3, c_position(i.from), c_position(i.to)),
+        CPlain::Told(i) => answer_of(3, c_position(0, i.from), c_position(0, i.to)),
         CPlain::Refused(k) => refusal_of(k),
     }
 }
