@@ -23,13 +23,13 @@ use Rattle.records.specs.Walk.{Ordered}
 use Rattle.records.specs.laws.Walk.{own-sound, ordered}
 use Rattle.transcript.specs.Transcript.{Transcript, transcriptLength}
 use Rattle.transcript.specs.Transcript.Source.{aligned}
-use Rattle.transcript.specs.Building.{Exon, build}
+use Rattle.transcript.specs.Building.{Exon, numbersOf, build}
 use Rattle.transcript.specs.laws.Heads.{plus-is}
 use Rattle.reading.specs.Reading.{exonOf, Exons, followedBy, readFirst, readNext, exonsAfter, exonsOf}
 use Rattle.judging.specs.Input.{Input}
 use Rattle.judging.specs.Judging.{Made, elementsMade, cdsOf, judgeInput}
 use Rattle.judging.specs.laws.Accepted.{RecordsPass, records-mean, split, AllSpanning, accepted-spanning, InOrder, CdsPass, cds-pass, last-pass, sane}
-use Rattle.segments.specs.Tables.{tablesOf}
+use Rattle.segments.specs.Tables.{padded, tablesOf}
 use Rattle.holding.specs.Holding.{Lent, holds, sourceOf}
 use Rattle.building.specs.Afterwards.{headOf}
 use Rattle.building.specs.laws.Standing.{beside, built-holds, built-stands}
@@ -134,7 +134,7 @@ built-from x t h = go (judgeInput x) refl h
           whole = whole;
           spans = all-span (x .records) whole spanning;
           bounds = cds-pass (x .start) (x .end) (total transcript (elementsMade m)) (pass .on .both-or-none) (last .cds-fits);
-          lent = beside (headOf m) (tablesOf (elementsMade m));
+          lent = beside (headOf m) (tablesOf (elementsMade m)) (padded mostSegments (numbersOf (m .forward) (m .exon-list)));
           held = built-holds m s;
           stands = built-stands m s;
         }

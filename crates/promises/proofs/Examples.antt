@@ -174,6 +174,7 @@ lengthens-B = record {
 
 -- one record is added upstream on either strand
 answers-kept : Keeps ours 1 A longA × Keeps ours 1 B longB
+unfolding lengthens-A lengthens-B
 answers-kept = (
   demand-3 inputA inputLongA A longA (all-build .0) (all-build .2) lengthens-A,
   demand-3 inputB inputLongB B longB (all-build .1) (all-build .3) lengthens-B,
