@@ -1,10 +1,12 @@
 -- What a host sees. No judgment refuses with 0 (`refusals`), so that 0 tells that something was made; the memory that building wrote holds together and stands for it, and then every question is the mapper's. Assumes nothing.
 use Prim.Native.Nat.{ℕ, _+_}
-use mathlib.Core.Bool.{Bool, true, false, false≢true}
+use mathlib.Core.Bool.{Bool, true, false, _||_, false≢true}
 use mathlib.Core.List.{List}
 use mathlib.Core.Path.{_≡_, refl, sym, ap, _∙_, subst}
+use lib.Dec.{eqb}
 use lib.IntN.{ℤ}
 use lib.ListN.{drop}
+use borrow.Author.Tests.{eqb-false}
 use Rattle.refusals.specs.Numbers.{noGenome, mostSegments}
 use Rattle.refusals.specs.Outcome.{Outcome, answered, refused, Answered, andThen}
 use Rattle.refusals.specs.laws.Outcomes.{clash, same}
@@ -28,15 +30,15 @@ use Rattle.card.specs.laws.RoundTrips.{read-means}
 use Rattle.card.specs.laws.Taken.{card-sane}
 use Rattle.card.specs.declared.ReadCard.{ReadCard}
 use Rattle.card.specs.declared.ReadCard.the-variants as read
-use Rattle.positions.specs.Positions.{Interval, NAsked, GPosition, NPosition, CPosition, asksN}
+use Rattle.positions.specs.Positions.{Interval, NAsked, CAsked, GPosition, NPosition, CPosition, asksN}
 use Rattle.positions.specs.Answers.{Mark, certain, uncertain, unmarked, Marked, Answer, chain}
 use Rattle.coding.specs.Coding.{cToN}
-use Rattle.places.specs.laws.Marks.{MarkedIf}
+use Rattle.places.specs.laws.Marks.{MarkedIf, gFell}
 use Rattle.mapper.specs.Asking.{given, askGToN, askNToG, askNToC, askCToN, askGToC, askCToG, askCoding, askInBounds}
 use Rattle.mapper.specs.Chains.{gToC, cToG}
-use Rattle.mapper.specs.laws.Marks.{g-to-c-marked, c-to-g-marked}
+use Rattle.mapper.specs.laws.Marks.{cFell, g-to-c-marked, c-to-g-marked}
 use Rattle.mapper.specs.laws.Refusing.{gToCRefusals, cToGRefusals, g-to-c-refuses, c-to-g-refuses}
-use Rattle.layout.specs.Layout.{headAt, gAsked as asked, nAsked, cAsked, gLaid, nLaid, cLaid, laid, saidLaid}
+use Rattle.layout.specs.Layout.{headAt, gAsked as asked, nAsked, cAsked, gLaid, nLaid, cLaid, markNumber, laid, saidLaid}
 use Rattle.layout.specs.declared.lay.Position.{Position}
 use Rattle.entry.specs.Boundary.{builtNumber, builtHead}
 use Rattle.worklist.specs.Worklist.{positionsOf, neverFalls, askSteps, stepsLaid}
@@ -214,34 +216,41 @@ up-laid : {P : Type 0} (place : ℕ → P → Position) → ((k n : ℕ) (a : P)
     → laid place (answerUp n (answered a)) ≡ toldUp n (laid place (answered a))
 up-laid {P} place moves n gaps a = go (a .mark) gaps
   where
+    other-mark : (k l : ℕ) → k ≡ l → eqb k l ≡ false → ⊥
+    other-mark k l e h = eqb-false k l h e
+
     go : (m : Mark) (gaps : Bool) → MarkedIf gaps m → laid place (answerUp n (answered (record { mark = m; interval = a .interval }))) ≡ toldUp n (laid place (answered (record { mark = m; interval = a .interval })))
     go (certain e) gaps h = rw (moves (e .from) n (a .interval .from), moves (e .to) n (a .interval .to))
     go (uncertain e) gaps h = rw (moves (e .from) n (a .interval .from), moves (e .to) n (a .interval .to))
-    go unmarked true h = absurd (unmarked≢ h)
-    go unmarked false h = absurd (unmarked≢ h)
+    go unmarked true h = absurd (other-mark 3 2 (ap markNumber h) refl)
+    go unmarked false h = absurd (other-mark 3 1 (ap markNumber h) refl)
 
 up-told : {P : Type 0} (place : ℕ → P → Position) → ((k n : ℕ) (a : P) → place (k + n) a ≡ placeUp n (place k a)) → (n : ℕ) (gaps : Bool) (o : Answer P) → Answered o
     → ((a : Marked P) → o ≡ answered a → MarkedIf gaps (a .mark)) → laid place (answerUp n o) ≡ toldUp n (laid place o)
 up-told place moves n gaps (answered a) ok marked = up-laid place moves n gaps a (marked a refl)
 up-told place moves n gaps (refused k) bad marked = absurd bad
 
+chained-back : (t : Transcript) (q : Interval CAsked) → askCToG strict q (aligned t) ≡ cToG strict t q
+unfolding askCToG askCToN askNToG cToG
+chained-back t q = refl
+
 keeps-so : (n : ℕ) (x y : Lent) (t u : Transcript) → holds x ≡ true → sourceOf x ≡ aligned t → Sees ours y u → Keeps ours n t u → KeepsTold n x y
-unfolding asked askGToC askGToN askNToC askCToG askCToN askNToG
+unfolding asked askGToC askGToN askNToC
 keeps-so n x y t u held stands r k = record {
   g-to-c = λ a b z.
       let is = reached x (aligned t) held stands (askGToC strict (asked a b 0)) ∙ chained strict t (given (asked a b 0)) in
       let ok = there cLaid gToCRefusals refl (g-to-c-refuses x strict (asked a b 0)) z is in
       r .g-to-c a b 0 strict
       ∙ ap (laid cLaid) (k .g-to-c (record { from = a; to = b }) ok)
-      ∙ up-told cLaid (λ k n c. refl) n _ _ ok (g-to-c-marked strict t (record { from = a; to = b }))
+      ∙ up-told cLaid (λ k n c. refl) n (gFell t a || gFell t b) _ ok (g-to-c-marked strict t (record { from = a; to = b }))
       ∙ ap (λ (o : Answer CPosition). toldUp n (laid cLaid o)) (sym is);
   c-to-g = λ a o star b e starred z.
       let q = cAsked a o star b e starred in
-      let is = reached x (aligned t) held stands (askCToG strict q) in
+      let is = reached x (aligned t) held stands (askCToG strict q) ∙ chained-back t q in
       let ok = there gLaid cToGRefusals refl (c-to-g-refuses x strict q) z is in
       r .c-to-g a o star b e starred strict
       ∙ ap (laid gLaid) (k .c-to-g q ok)
-      ∙ up-told gLaid (λ k n g. refl) n _ _ ok (c-to-g-marked strict t q)
+      ∙ up-told gLaid (λ k n g. refl) n (cFell t (t .coding) (q .from) || cFell t (t .coding) (q .to)) _ ok (c-to-g-marked strict t q)
       ∙ ap (λ (o : Answer GPosition). toldUp n (laid gLaid o)) (sym is);
 }
 
