@@ -41,6 +41,16 @@ within-of (y ∷ xs) ys (z ∷ before) x after at e h =
     let rest : xs ++ ys ≡ before ++ x ∷ after = cc in
     omega (arith, within-of xs ys before x after at rest (omega (arith, ap genome same)))
 
+-- two fronts of one list that are as long are one
+same-front : (xs : List Element) (g : Element) (ys before : List Element) (x : Element) (after : List Element) → xs ++ g ∷ ys ≡ before ++ x ∷ after → length before ≡ length xs → xs ≡ before
+same-front [] g ys [] x after e h = refl
+same-front [] g ys (z ∷ before) x after e h = absurd (omega arith)
+same-front (y ∷ xs) g ys [] x after e h = absurd (omega arith)
+same-front (y ∷ xs) g ys (z ∷ before) x after e h =
+    let same : y ≡ z = cc in
+    let rest : xs ++ g ∷ ys ≡ before ++ x ∷ after = cc in
+    rw (same, same-front xs g ys before x after rest (omega arith))
+
 -- ---- the numbers
 
 -- the number of element i of records, or what stands behind the last
@@ -51,6 +61,10 @@ numberAt forward rs i = getD (numbersOf forward rs) i (lastNumber forward (lengt
 span-of : (left : List Exon) (r : Exon) (rs : List Exon) → Spans (left ++ r ∷ rs) → r .alt-start + total genome (r .parts) ≡ r .alt-end
 span-of [] r rs (span, spans) = span
 span-of (a ∷ left) r rs (span, spans) = span-of left r rs spans
+
+-- and no record starts before the first
+pub starts-from : (forward : Bool) (left : List Exon) (r : Exon) (right : List Exon) → Spans (left ++ r ∷ right) → InOrder 0 (left ++ r ∷ right) → firstStart (left ++ r ∷ right) ≤ r .alt-start
+starts-from forward left r right spans order = omega (arith, lead-span forward 0 left r right spans order)
 
 -- of a base in a record: the number of its element, and of what follows that
 pub in-record : (forward : Bool) (left : List Exon) (r : Exon) (right : List Exon) → Spans (left ++ r ∷ right) → InOrder 0 (left ++ r ∷ right)
@@ -66,7 +80,7 @@ in-record forward left r right spans order p own from to =
     let starts = lead-span forward 0 left r right spans order in
     let low = past before-it (parts ++ rest) (own .before) (own .element) (own .after) (own .at) stands (own .within) (omega (arith, starts, own .place)) in
     let high = within-of (before-it ++ parts) rest (own .before) (own .element) (own .after) (own .at) (append-assoc before-it parts rest ∙ stands)
-        (omega (arith, starts, own .place, total-append genome before-it parts, parts-total genome forward r, span-of left r right spans)) in
+    (omega (arith, starts, own .place, total-append genome before-it parts, parts-total genome forward r, span-of left r right spans)) in
     let k = length (own .before) - length before-it in
     let here : length (own .before) ≡ length before-it + k = omega arith in
     let next : length (own .before) + 1 ≡ length before-it + (k + 1) = omega arith in
@@ -102,17 +116,25 @@ module _ (forward : Bool) (left : List Exon) (a b : Exon) (right : List Exon) wh
   elements-are = of-lead forward left a (b ∷ right) ∙ sym (append-assoc (lead forward left a) (partsOf forward a) (gap (a .alt-end) b ∷ beyond-gap))
 
   module _ (spans : Spans all) (order : InOrder 0 all) (p : ℕ) (own : Lies (elementsOf forward all) p) (from : a .alt-end ≤ p + firstStart all) (to : p + firstStart all < b .alt-start) where
+    ahead-ends : firstStart all + total genome ahead ≡ a .alt-end
+    ahead-ends = omega (arith, lead-span forward 0 left a (b ∷ right) spans order, total-append genome (lead forward left a) (partsOf forward a), parts-total genome forward a, span-of left a (b ∷ right) spans)
+
     -- the base's element is the gap
     index-is : length (own .before) ≡ length ahead
     unfolding total
     index-is =
         let g = gap (a .alt-end) b in
         let stands : ahead ++ g ∷ beyond-gap ≡ own .before ++ own .element ∷ own .after = sym elements-are ∙ own .stands in
-        let ends : firstStart all + total genome ahead ≡ a .alt-end = omega (arith, lead-span forward 0 left a (b ∷ right) spans order, total-append genome (lead forward left a) (partsOf forward a), parts-total genome forward a, span-of left a (b ∷ right) spans) in
-        let low = past ahead (g ∷ beyond-gap) (own .before) (own .element) (own .after) (own .at) stands (own .within) (omega (arith, ends, own .place)) in
+        let low = past ahead (g ∷ beyond-gap) (own .before) (own .element) (own .after) (own .at) stands (own .within) (omega (arith, ahead-ends, own .place)) in
         let high = within-of (ahead ++ g ∷ []) beyond-gap (own .before) (own .element) (own .after) (own .at) (append-assoc ahead (g ∷ []) beyond-gap ∙ stands)
-            (omega (arith, ends, own .place, total-append genome ahead (g ∷ []), gap-genome (a .alt-end) b)) in
+        (omega (arith, ahead-ends, own .place, total-append genome ahead (g ∷ []), gap-genome (a .alt-end) b)) in
         omega (arith, length-append ahead (g ∷ []))
+
+    -- which begins where the left one ends
+    pub begins : firstStart all + total genome (own .before) ≡ a .alt-end
+    begins =
+        let stands : ahead ++ gap (a .alt-end) b ∷ beyond-gap ≡ own .before ++ own .element ∷ own .after = sym elements-are ∙ own .stands in
+        rw (← same-front ahead (gap (a .alt-end) b) beyond-gap (own .before) (own .element) (own .after) stands index-is) ahead-ends
 
     pub is-gap : own .element ≡ gap (a .alt-end) b
     is-gap =
@@ -127,9 +149,10 @@ module _ (forward : Bool) (left : List Exon) (a b : Exon) (right : List Exon) wh
         let here : length (own .before) ≡ length (lead forward left a) + length (partsOf forward a) = index-is ∙ length-append (lead forward left a) (partsOf forward a) in
         let next : length (own .before) + 1 ≡ length (lead forward (left ++ a ∷ []) b) + 0 = rw (lead-next forward left a b) (omega (arith, here, length-append (lead forward left a) (partsOf forward a ++ (gap (a .alt-end) b ∷ [])), length-append (partsOf forward a) (gap (a .alt-end) b ∷ []))) in
         let one-more : length right + 1 ≡ length (b ∷ right) = omega arith in
-        let two : length left + 1 ≡ length (left ++ a ∷ []) = omega (arith, length-append left (a ∷ [])) in
-        (rw (here, one-more) (record-number forward left a (b ∷ right) (length (partsOf forward a)) (omega arith)),
-        rw (next, two, ← append-assoc left (a ∷ []) (b ∷ right)) (record-number forward (left ++ a ∷ []) b right 0 (omega arith)))
+        let two : length left + 1 ≡ length (left ++ a ∷ []) = omega (arith, length-append left (a ∷ [])) in (
+          rw (here, one-more) (record-number forward left a (b ∷ right) (length (partsOf forward a)) (omega arith)),
+          rw (next, two, ← append-assoc left (a ∷ []) (b ∷ right)) (record-number forward (left ++ a ∷ []) b right 0 (omega arith)),
+        )
 
 -- ---- finding
 

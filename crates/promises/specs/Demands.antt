@@ -29,7 +29,7 @@ use Rattle.positions.specs.Answers.{Mark, certain, uncertain, unmarked, Marked,
 use Rattle.coding.specs.Coding.{nToC, cToN}
 use Rattle.places.specs.Mapping.{gToN, nToG}
 use Rattle.mapper.specs.Chains.{gToC, cToG}
-use Rattle.promises.specs.Bases.{Name, nName, cName, Matched, exonName, InIntron, upstreamPlace, downstreamPlace, intronName, Numbering, byElements, ExonNumbers, exonBaseNumbers, intronBaseNumbers}
+use Rattle.promises.specs.Bases.{Name, nName, cName, Matched, exonName, InIntron, placeBefore, placeAfter, upstreamPlace, downstreamPlace, intronName, Numbering, byElements, ExonNumbers, exonBaseNumbers, intronBaseNumbers}
 
 -- ---- a mapper
 
@@ -148,10 +148,17 @@ pub data Sides (forward : Bool) (rs : List Record) (z : ℤ) (k l : ℕ) : Type 
   within : InRecord forward rs z k → k ≡ l → Sides forward rs z k l
   between : BetweenRecords forward rs z k l → Sides forward rs z k l
 
+-- a record that is not empty
+abbrev pub Filled : Record → Type 0
+Filled r = r .alt-start <ℤ r .alt-end
+
 -- each base in a matched column has the number of the record that it lies in, and an intron base those of what is on its two sides
 pub record CountsRecords (x : Input) (t : Transcript) (n : Numbering t) : Type 0 where
   pub exon-base : (p : ℕ) (b : Matched t p) → InRecord (eqZ (x .strand) (pos 1)) (x .records) (pos (p + t .first)) (n .of-exon p b)
   pub intron-base : (p : ℕ) (b : InIntron t p) → Sides (eqZ (x .strand) (pos 1)) (x .records) (pos (p + t .first)) (n .on-left p b) (n .on-right p b)
+  -- between two neighbours that are not empty these are the numbers of the exon bases next to the intron: it is the record that the name counts from
+  pub gap-base : (p : ℕ) (b : InIntron t p) (k l : ℕ) (g : BetweenRecords (eqZ (x .strand) (pos 1)) (x .records) (pos (p + t .first)) k l) → Filled (g .before) → Filled (g .after)
+      → (u : Matched t (placeBefore b)) (d : Matched t (placeAfter b)) → (n .on-left p b ≡ n .of-exon (placeBefore b) u) × (n .on-right p b ≡ n .of-exon (placeAfter b) d)
 
 -- of every transcript that builds: the numbers are those of its records
 pub record NamedByRecords (has : ℕ → Name → ExonNumbers → Type 0) (x : Input) (t : Transcript) : Type 0 where
