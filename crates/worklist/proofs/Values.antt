@@ -1,9 +1,14 @@
--- What the walks of functions over slots say of values: the slot past a list's end, and the one machine value in a list. Assumes nothing.
+-- What the walks of functions over slots say of values: the bytes of a slot, the slot past a list's end, and the one machine value in a list. Assumes nothing.
+use Prim.Native.Nat.{ℕ}
 use mathlib.Core.List.{List, [], _∷_}
 use lib.IntN.{pos}
 use mir.Val.{Val, vunit}
 use Rattle.layout.specs.Layout.{refusal}
 use Rattle.worklist.specs.declared.Slot.{Slot}
+
+-- the bytes of a slot
+abbrev pub slotSize : ℕ
+slotSize = 44
 
 -- what stands past a list's end, where nothing looks
 abbrev pub none : Slot
