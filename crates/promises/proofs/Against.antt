@@ -1,5 +1,6 @@
--- What the promises shut out: a mapper that refuses everything, one that always says n.1, and one that on strand -1 does not exchange the ends, whatever else they answer. Assumes nothing.
+-- What the promises shut out: a mapper that refuses everything, one that always says n.1, one that on strand -1 does not exchange the ends, and one that always says exon 1, whatever else they answer. Assumes nothing.
 use Prim.Native.Nat.{ℕ}
+use native.Mathlib.Omega.{arith}
 use mathlib.Core.Bool.{Bool}
 use mathlib.Core.List.{List}
 use mathlib.Core.Path.{_≡_, sym, ap, _∙_}
@@ -16,7 +17,7 @@ use Rattle.segments.specs.Places.{firstBelow, indexOf, spotIn, nearer, mapByTab
 use Rattle.transcript.specs.Transcript.{Transcript}
 use Rattle.transcript.specs.Building.{partsOf, elementsAfter, elementsOf, firstStart, build}
 use Rattle.positions.specs.Positions.{Interval, NAsked, GPosition, NPosition}
-use Rattle.positions.specs.Answers.{Marked, Answer, certainly, plainly}
+use Rattle.positions.specs.Answers.{exonsOf, Marked, Answer, certainly, plainly}
 use Rattle.places.specs.Mapping.{inside, turned, nOfSpot, wholeN, gToN, gOfSpot, gOfEnds, nToG}
 use Rattle.promises.specs.Demands.{Mapper, Demand-2-built, single}
 use Rattle.promises.specs.Table.{Reply, A, TableOfPlaces}
@@ -59,16 +60,28 @@ exchanged forward i = if forward then i else record { from = i .to; to = i .from
 abbrev exchangedIn : Bool → Answer NPosition → Answer NPosition
 exchangedIn forward = through (λ (a : Marked NPosition). record { mark = a .mark; interval = exchanged forward (a .interval) })
 
+answer-n : {a b : Answer NPosition} → in-n a ≡ in-n b → a ≡ b
+answer-n e = cc
+
 -- row 22 of the table is B g.11_33, which is n.1_18
 pub unexchanged-n-fails : (m : Mapper) → ((strict : Bool) (t : Transcript) (i : Interval ℤ) → m .g-to-n strict t i ≡ exchangedIn (t .forward) (gToN strict t i)) → TableOfPlaces m → ⊥
 unfolding kindOf genome transcript total entriesFrom firstBelow indexOf spotIn nearer mapByTables mapPlace nOfPlace inside turned nOfSpot fitOf fits wholeN gToN partsOf elementsAfter elementsOf firstStart build
 unexchanged-n-fails m turns h =
     let row = ap (λ (l : List Reply). getD l 22 (in-n (refused 0))) h in
-    let start : pos 18 ≡ pos 1 = ap startN (sym (turns _ _ _) ∙ answer row) in
+    let start : pos 18 ≡ pos 1 = ap startN (sym (turns _ _ _) ∙ answer-n row) in
     omega order
-  where
-    answer : {a b : Answer NPosition} → in-n a ≡ in-n b → a ≡ b
-    answer e = cc
+
+-- the exon number of an answer's end, and 1 where it refuses
+abbrev endExon : Answer NPosition → ℕ
+endExon (answered a) = exonsOf (a .mark) .to
+endExon (refused k) = 1
+
+-- it always says exon 1: the end of row 22 lies in exon 2
+pub exon-1-fails : (m : Mapper) → ((strict : Bool) (t : Transcript) (i : Interval ℤ) → endExon (m .g-to-n strict t i) ≡ 1) → TableOfPlaces m → ⊥
+exon-1-fails m says h =
+    let row = ap (λ (l : List Reply). getD l 22 (in-n (refused 0))) h in
+    let number : _≡_ {A = ℕ} 1 2 = sym (says _ _ _) ∙ ap endExon (answer-n row) in
+    omega arith
 
 -- row 23 is B n.1_18, which is g.11_33
 pub unexchanged-g-fails : (m : Mapper) → ((strict : Bool) (t : Transcript) (i : Interval NAsked) → m .n-to-g strict t i ≡ nToG strict t (exchanged (t .forward) i)) → TableOfPlaces m → ⊥

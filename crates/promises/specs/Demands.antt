@@ -156,7 +156,7 @@ Filled r = r .alt-start <ℤ r .alt-end
 pub record CountsRecords (x : Input) (t : Transcript) (n : Numbering t) : Type 0 where
   pub exon-base : (p : ℕ) (b : Matched t p) → InRecord (eqZ (x .strand) (pos 1)) (x .records) (pos (p + t .first)) (n .of-exon p b)
   pub intron-base : (p : ℕ) (b : InIntron t p) → Sides (eqZ (x .strand) (pos 1)) (x .records) (pos (p + t .first)) (n .on-left p b) (n .on-right p b)
-  -- between two neighbours that are not empty these are the numbers of the exon bases next to the intron: it is the record that the name counts from
+  -- between two neighbours that are not empty these are the numbers of the exon bases next to the intron, from which names count
   pub gap-base : (p : ℕ) (b : InIntron t p) (k l : ℕ) (g : BetweenRecords (eqZ (x .strand) (pos 1)) (x .records) (pos (p + t .first)) k l) → Filled (g .before) → Filled (g .after)
       → (u : Matched t (placeBefore b)) (d : Matched t (placeAfter b)) → (n .on-left p b ≡ n .of-exon (placeBefore b) u) × (n .on-right p b ≡ n .of-exon (placeAfter b) d)
 
