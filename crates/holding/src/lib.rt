@@ -10,6 +10,7 @@ use refusals::MOST_BASES;
 use refusals::MOST_RECORDS;
 use refusals::MOST_SEGMENTS;
 use refusals::MOST_STARTS;
+use together::exons;
 use transcript::BOTH_GIVEN;
 use transcript::Head;
 use transcript::NONE_GIVEN;
@@ -110,18 +111,11 @@ fn records_hold(
         let count = segment_count(head);
         let forward = is_forward(head);
         let records = record_count(head);
-        let segments = together::tables_hold(
-            genome,
-            transcript,
-            letters,
-            exons,
-            count,
-            forward,
-            records,
-        );
+        let segments = together::segments_hold(genome, transcript, letters, count);
+        let numbers = exons::numbers_hold(letters, exons, count, forward, records);
         let totals = totals_hold(first, genome[count], transcript[count]);
         let cds = cds_holds(head, transcript[count]);
-        segments & totals & cds
+        segments & numbers & totals & cds
     } else {
         false
     }
