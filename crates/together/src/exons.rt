@@ -64,7 +64,7 @@ fn steps_in(
 }
 
 // What is above in so many steps from the first segment on. The compiler makes straight code of whole blocks, so the last block overlaps the others; from 8 to 15
-// steps two blocks of 8 do.
+// steps two blocks of 8 do, and from 4 to 7 two of 4.
 fn steps_above(
     letters: &[u8; MOST_SEGMENTS],
     exons: &[u16; MOST_SEGMENTS],
@@ -75,8 +75,13 @@ fn steps_above(
     requires { ⌜ (low ≤ 1) × (high ≤ 1) × (to < mostSegments) ⌝ }
     ensures { λ r. ⌜ eqb r 0 ≡ allBelow (steppedAt (now (letters .entry)) (now (exons .entry)) low high) to ⌝ }
 {
-    if to < 8 {
+    if to < 4 {
         return steps_in(letters, exons, low, high, 0, to);
+    }
+    if to < 8 {
+        let front = steps_in(letters, exons, low, high, 0, 4);
+        let back = steps_in(letters, exons, low, high, to - 4, to);
+        return with_bits(front, back);
     }
     if to < 16 {
         let front = steps_in(letters, exons, low, high, 0, 8);

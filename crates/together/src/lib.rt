@@ -61,18 +61,42 @@ fn with_bits(a: u32, b: u32) -> u32
     a | b
 }
 
-// Whether the first count letters are known.
-fn all_known(letters: &[u8; MOST_SEGMENTS], count: usize) -> bool
-    requires { ⌜ count ≤ mostSegments ⌝ }
-    ensures { λ r. ⌜ r ≡ allBelow (knownAt (now (letters .entry))) count ⌝ }
+// Whether the letters from one segment up to another are known.
+fn known_in(letters: &[u8; MOST_SEGMENTS], first: usize, to: usize) -> bool
+    requires { ⌜ (first ≤ to) × (to ≤ mostSegments) ⌝ }
+    ensures { λ r. ⌜ r ≡ allBelow (from first (knownAt (now (letters .entry)))) to ⌝ }
 {
     let mut ok = true;
-    let mut i = 0;
-    while i < count {
+    let mut i = first;
+    while i < to {
         ok = ok & is_known(letters[i]);
         i += 1;
     }
     ok
+}
+
+// Whether the first count letters are known. The compiler makes straight code of whole blocks, so the last block overlaps the others; from 8 to 15
+// letters two blocks of 8 do, and from 4 to 7 two of 4.
+fn all_known(letters: &[u8; MOST_SEGMENTS], count: usize) -> bool
+    requires { ⌜ count ≤ mostSegments ⌝ }
+    ensures { λ r. ⌜ r ≡ allBelow (knownAt (now (letters .entry))) count ⌝ }
+{
+    if count < 4 {
+        return known_in(letters, 0, count);
+    }
+    if count < 8 {
+        let front = known_in(letters, 0, 4);
+        let back = known_in(letters, count - 4, count);
+        return front & back;
+    }
+    if count < 16 {
+        let front = known_in(letters, 0, 8);
+        let back = known_in(letters, count - 8, count);
+        return front & back;
+    }
+    let front = known_in(letters, 0, count - count % 16);
+    let back = known_in(letters, count - 16, count);
+    front & back
 }
 
 // What a stretch showed, with one segment more.
@@ -219,8 +243,7 @@ fn all_plain(letters: &[u8; MOST_SEGMENTS], count: usize) -> bool
     false
 }
 
-// Whether there are 8 letters at least and all are common. The compiler makes straight code of whole blocks, so the last block overlaps the others; from 8 to 15
-// letters two blocks of 8 do. The last block comes first: where it has another letter, which most tables with one show, the others need no look.
+// Whether there are 8 letters at least and all are common, by blocks too. The last block comes first: where it has another letter, which most tables with one show, the others need no look.
 fn all_common(letters: &[u8; MOST_SEGMENTS], count: usize) -> bool
     requires { ⌜ count ≤ mostSegments ⌝ }
     ensures { λ r. ⌜ r ≡ (leb 8 count && allBelow (commonAt (now (letters .entry))) count) ⌝ }

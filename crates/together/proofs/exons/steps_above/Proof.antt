@@ -16,6 +16,9 @@ returns-2 c = c .with-bits .ensures ∙ ap₂ _&&_ (c .before .before .steps-in2
 returns-3 : tie.Need-returns-3
 returns-3 c = c .with-bits2 .ensures ∙ ap₂ _&&_ (c .before .before .steps-in4 .ensures) (c .before .steps-in5 .ensures) ∙ stretched _ _ _ _ (omega arith) (omega arith)
 
+returns-4 : tie.Need-returns-4
+returns-4 c = c .with-bits3 .ensures ∙ ap₂ _&&_ (c .before .before .steps-in6 .ensures) (c .before .steps-in7 .ensures) ∙ stretched _ _ _ _ (omega arith) (omega arith)
+
 pub steps-above-spec : {M : Type 1} → statement M
 steps-above-spec =
     tie.close
@@ -26,8 +29,12 @@ steps-above-spec =
     (λ c κs. search needs)
     (λ c κs. search needs)
     returns-2
+    (λ c κs. search needs)
+    (λ c κs. search needs)
+    (λ c κs. search needs)
+    returns-3
     (λ c. search needs)
     (λ c κs. search needs)
     (λ c κs. search needs)
     (λ c κs. search needs)
-    returns-3)
+    returns-4)
