@@ -28,6 +28,23 @@ use Rattle.places.specs.Mapping.{inside, turned, foundExons, chosenExons
 use Rattle.places.specs.Aligned.{alignedBy, numberBy, Aligns, nEndAt, nJoined, gJoined}
 use Rattle.places.specs.declared.Alignment.{Alignment}
 
+-- the end's exon is the start's
+pub found-once : (number : ℕ → ℕ) (a : Spot) → exonFound number (stopOf a) ≡ exonFound number a
+unfolding stopOf exonFound
+found-once number a = by-test (a .sure) (λ t. rw t) (λ t. rw t)
+
+pub chosen-once : (forward : Bool) (number : ℕ → ℕ) (a : Spot) → exonChosen forward number (stopOf a) ≡ exonChosen forward number a
+unfolding stopOf exonChosen
+chosen-once forward number a = by-test (a .sure) (λ t. rw t) (λ t. rw t)
+
+-- so that both ends, in either order, have its number
+pub both-found : (forward : Bool) (number : ℕ → ℕ) (a : Spot) → foundExons forward number a (stopOf a) ≡ record { from = exonFound number a; to = exonFound number a }
+both-found true number a = rw (found-once number a)
+both-found false number a = rw (found-once number a)
+
+pub both-chosen : (forward : Bool) (number : ℕ → ℕ) (a : Spot) → chosenExons forward number a (stopOf a) ≡ record { from = exonChosen forward number a; to = exonChosen forward number a }
+both-chosen forward number a = rw (chosen-once forward number a)
+
 module _ (a : Alignment) (x : Tables) (exons : List ℕ) (sound : Aligns a x) where
   pub span-is : genomeLength (alignedBy a x exons) ≡ getD (x .genome) (a .count) 0
   span-is = last-genome x (a .count) (holds-means x (a .count) (sound .segments))
@@ -129,11 +146,16 @@ module _ (a : Alignment) (x : Tables) (exons : List ℕ) (sound : Aligns a x) wh
     abbrev pub second-at : NAsked
     second-at = record { base = b; offset = u }
 
+    -- the exon's number of both
+    abbrev once : ℕ
+    once = exonChosen (a .forward) (numberBy a exons) (s-from strict first-at second-at)
+
     pub one-back : inside strict (getD (x .transcript) (a .count) 0) (t-from strict first-at second-at) ≡ true
-        → fitting gFits (gOfEnds strict (alignedBy a x exons) first-at second-at) ≡ gJoined (a .forward) (a .first) (chosen (s-from strict first-at second-at) (stopOf (s-from strict first-at second-at))) (s-from strict first-at second-at) (stopOf (s-from strict first-at second-at)) o u
+        → fitting gFits (gOfEnds strict (alignedBy a x exons) first-at second-at) ≡ gJoined (a .forward) (a .first) (record { from = once; to = once }) (s-from strict first-at second-at) (stopOf (s-from strict first-at second-at)) o u
     one-back e =
         g-answered strict first-at second-at (rw e refl)
-        ∙ ap (λ (s : Spot). gJoined (a .forward) (a .first) (chosen (s-from strict first-at second-at) s) (s-from strict first-at second-at) s o u) (stop-of-place transcript genome _ _ _)
+        ∙ (ap (λ (s : Spot). gJoined (a .forward) (a .first) (chosen (s-from strict first-at second-at) s) (s-from strict first-at second-at) s o u) (stop-of-place transcript genome _ _ _)
+        ∙ ap (λ (i : Interval ℕ). gJoined (a .forward) (a .first) i (s-from strict first-at second-at) (stopOf (s-from strict first-at second-at)) o u) (both-chosen (a .forward) (numberBy a exons) (s-from strict first-at second-at)))
 
     pub one-back-refused : inside strict (getD (x .transcript) (a .count) 0) (t-from strict first-at second-at) ≡ false → fitting gFits (gOfEnds strict (alignedBy a x exons) first-at second-at) ≡ refused outside
     one-back-refused e = g-refused strict first-at second-at (rw e refl)
@@ -142,17 +164,8 @@ module _ (a : Alignment) (x : Tables) (exons : List ℕ) (sound : Aligns a x) wh
 pub same-number : {s u : Spot} {n : ℕ} → s ≡ u → u .number < n → s .number < n
 same-number {n = n} e h = subst (λ (a : Spot). a .number < n) (sym e) h
 
--- the end's segment is the start's
-kept-number : (a : Spot) → stopOf a .number ≡ a .number
-unfolding stopOf
-kept-number a = by-test (a .sure) (λ t. rw t) (λ t. rw t)
-
-pub stop-number : (u : Spot) {s : Spot} {n : ℕ} → s ≡ stopOf u → u .number < n → s .number < n
-stop-number u e h = same-number e (rw (kept-number u) h)
-
 -- a sure spot is numbered once
-pub one-joined : (forward : Bool) (len : ℕ) (number : ℕ → ℕ) (a : Spot) → a .sure ≡ true
-    → nJoined forward len (foundExons forward number a (stopOf a)) a (stopOf a) ≡ ends (markOf true (record { from = exonFound number a; to = exonFound number a })) (nEndAt forward len a) (nEndAt forward len a)
+pub one-joined : (forward : Bool) (len : ℕ) (exons : Interval ℕ) (a : Spot) → a .sure ≡ true → nJoined forward len exons a (stopOf a) ≡ ends (markOf true exons) (nEndAt forward len a) (nEndAt forward len a)
 unfolding nJoined stopOf
-one-joined true len number a e = rw e refl
-one-joined false len number a e = rw e refl
+one-joined true len exons a e = rw e refl
+one-joined false len exons a e = rw e refl

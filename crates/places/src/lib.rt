@@ -190,29 +190,22 @@ fn n_answer(forward: bool, len: u32, exons: Exons, a: Spot, b: Spot) -> NAnswer
     }
 }
 
-// The n. interval of one place, by its spot as an interval's start: a sure one is the end's too, and is numbered once.
+// The n. interval of one place, by its spot as an interval's start, whose exon is the end's too: a sure one is numbered once.
 fn n_of_one(at: Alignment, exons: &[u16; MOST_SEGMENTS], len: u32, start: Spot) -> NAnswer
     requires { ⌜ Small 37 start × (start .number < at .count) × (at .count ≤ mostSegments) ⌝ }
     ensures { λ r. ⌜ paperN r ≡ nJoined (at .forward) len (foundExons (at .forward) (numberBy at (now (exons .entry))) (spotSaid start) (stopOf (spotSaid start))) (spotSaid start) (stopOf (spotSaid start)) ⌝ }
 {
     let forward = at.forward;
+    let number = exons::found(exons, at.count, behind(at), start);
+    let both = Exons {
+        from: number,
+        to: number,
+    };
     if start.sure {
         let end = n_of_spot(forward, len, start);
-        let number = exons::found(exons, at.count, behind(at), start);
-        let both = Exons {
-            from: number,
-            to: number,
-        };
         return fitting::n_marked(true, both, fitting::n_both(end, end));
     }
-    let stop = segments::stop_of(start);
-    n_answer(
-        forward,
-        len,
-        found_exons(at, exons, start, stop),
-        start,
-        stop,
-    )
+    n_answer(forward, len, both, start, segments::stop_of(start))
 }
 
 // g. to n. of an interval of one base.
@@ -318,13 +311,8 @@ pub fn to_n(
             End::Stop,
             forward,
         );
-        return n_answer(
-            forward,
-            last(transcript, count),
-            found_exons(at, exons, a, b),
-            a,
-            b,
-        );
+        let numbers = found_exons(at, exons, a, b);
+        return n_answer(forward, last(transcript, count), numbers, a, b);
     }
     NAnswer::Refused(refusals::OUTSIDE)
 }
@@ -371,13 +359,17 @@ fn g_of_one(
             p,
             End::Start,
         );
-        let stop = segments::stop_of(start);
+        let number = exons::chosen(forward, exons, count, behind(at), start);
+        let both = Exons {
+            from: number,
+            to: number,
+        };
         return g_answer(
             forward,
             at.first,
-            chosen_exons(at, exons, start, stop),
+            both,
             start,
-            stop,
+            segments::stop_of(start),
             o,
             u,
         );
@@ -429,15 +421,8 @@ fn g_of_ends(
             End::Start,
         );
         let stop = segments::transcript_to_genome(genome, transcript, letters, count, q, End::Stop);
-        return g_answer(
-            forward,
-            at.first,
-            chosen_exons(at, exons, start, stop),
-            start,
-            stop,
-            a.offset,
-            b.offset,
-        );
+        let numbers = chosen_exons(at, exons, start, stop);
+        return g_answer(forward, at.first, numbers, start, stop, a.offset, b.offset);
     }
     GAnswer::Refused(refusals::OUTSIDE)
 }

@@ -94,7 +94,7 @@ spotOf s p end forward = spotIn (s .number) (s .does) (s .begins) (s .ends) (s .
 
 -- the spot of an interval's end, where its start is the same place and has the spot a: the same where it is sure, and otherwise one place further
 unfoldable pub stopOf : Spot → Spot
-stopOf a = if a .sure then a else unsurely (a .number) (a .place +ℤ pos 1)
+stopOf a = if a .sure then a else record { place = a .place +ℤ pos 1; offset = pos 0; sure = false; number = a .number; edge = a .edge }
 
 -- ---- the place p, which begins an interval or ends it
 

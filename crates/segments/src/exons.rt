@@ -1,20 +1,53 @@
 // The exon number of a place that was mapped, by the number of its segment and the edge of an N that it counts from.
 ghost use mathlib.Core.Path.{_≡_};
+ghost use mathlib.Core.Bool.{cond};
 ghost use Prim.Native.Nat.{_+_, _≤_, _<_};
 ghost use Rattle.refusals.specs.Numbers.{mostSegments};
-ghost use Rattle.segments.specs.Exons.{numberAt, exonFound, exonChosen};
-ghost use Rattle.segments.specs.Paper.{spotSaid};
+ghost use Rattle.segments.specs.Exons.{numberAt, numberedFrom, upstreamOf, exonFound, exonChosen};
+ghost use Rattle.segments.specs.Paper.{edgeSaid, spotSaid};
 use crate::Edge;
 use crate::Spot;
 use refusals::MOST_SEGMENTS;
 
-// What stands after segment i: the next one's number, or, after the last, `behind`.
-fn number_after(exons: &[u16; MOST_SEGMENTS], count: usize, behind: u16, i: usize) -> u16
-    requires { ⌜ (i < count) × (count ≤ mostSegments) ⌝ }
-    ensures { λ r. ⌜ r ≡ numberAt (now (exons .entry)) count behind (i + 1) ⌝ }
+// The exon number of segment i, or what stands behind the last.
+fn number_at(exons: &[u16; MOST_SEGMENTS], count: usize, behind: u16, i: usize) -> u16
+    requires { ⌜ count ≤ mostSegments ⌝ }
+    ensures { λ r. ⌜ r ≡ numberAt (now (exons .entry)) count behind i ⌝ }
 {
-    let next = i + 1;
-    if next < count { exons[next] } else { behind }
+    if i < count { exons[i] } else { behind }
+}
+
+// Which number a place of the genome has, in segment i: of an N, that of the side whose edge it counts from.
+fn numbered_from(edge: Edge, i: usize) -> usize
+    requires { ⌜ i < mostSegments ⌝ }
+    ensures { λ r. ⌜ r ≡ numberedFrom (edgeSaid edge) i ⌝ }
+{
+    match edge {
+        Edge::Right => i + 1,
+        Edge::Left => i,
+        Edge::None => i,
+    }
+}
+
+// Which number is before segment i in transcript order, where it is an N.
+fn upstream_side(forward: bool, i: usize) -> usize
+    requires { ⌜ i < mostSegments ⌝ }
+    ensures { λ r. ⌜ r ≡ cond forward i (i + 1) ⌝ }
+{
+    if forward { i } else { i + 1 }
+}
+
+// Which number a place of the transcript has: an N counts as what is before it in transcript order.
+fn upstream_of(forward: bool, edge: Edge, i: usize) -> usize
+    requires { ⌜ i < mostSegments ⌝ }
+    ensures { λ r. ⌜ r ≡ upstreamOf forward (edgeSaid edge) i ⌝ }
+{
+    let skipped = upstream_side(forward, i);
+    match edge {
+        Edge::None => i,
+        Edge::Left => skipped,
+        Edge::Right => skipped,
+    }
 }
 
 // The exon number of a place of the genome.
@@ -22,13 +55,9 @@ pub fn found(exons: &[u16; MOST_SEGMENTS], count: usize, behind: u16, spot: Spot
     requires { ⌜ (spot .number < count) × (count ≤ mostSegments) ⌝ }
     ensures { λ r. ⌜ r ≡ exonFound (numberAt (now (exons .entry)) count behind) (spotSaid spot) ⌝ }
 {
-    let i = spot.number;
     let edge = spot.edge;
-    match edge {
-        Edge::Right => number_after(exons, count, behind, i),
-        Edge::Left => exons[i],
-        Edge::None => exons[i],
-    }
+    let i = numbered_from(edge, spot.number);
+    number_at(exons, count, behind, i)
 }
 
 // The exon number of a place of the transcript.
@@ -42,14 +71,7 @@ pub fn chosen(
     requires { ⌜ (spot .number < count) × (count ≤ mostSegments) ⌝ }
     ensures { λ r. ⌜ r ≡ exonChosen forward (numberAt (now (exons .entry)) count behind) (spotSaid spot) ⌝ }
 {
-    let i = spot.number;
-    if forward {
-        return exons[i];
-    }
     let edge = spot.edge;
-    match edge {
-        Edge::None => exons[i],
-        Edge::Left => number_after(exons, count, behind, i),
-        Edge::Right => number_after(exons, count, behind, i),
-    }
+    let i = upstream_of(forward, edge, spot.number);
+    number_at(exons, count, behind, i)
 }

@@ -279,6 +279,7 @@ pub fn stop_of(start: Spot) -> Spot
         start
     } else {
         let number = start.number;
+        let edge = start.edge;
         let place = start.place.0;
         let next = place + 1;
         Spot {
@@ -286,7 +287,7 @@ pub fn stop_of(start: Spot) -> Spot
             offset: 0,
             sure: false,
             number,
-            edge: Edge::None,
+            edge,
         }
     }
 }

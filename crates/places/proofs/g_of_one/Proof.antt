@@ -4,10 +4,9 @@ use mathlib.Core.Path.{_≡_, sym, _∙_}
 use lib.ListN.{getD}
 use Rattle.whole.specs.laws.Whole.{read}
 use Rattle.numbering.specs.Numbers.{placeOfN}
-use Rattle.segments.specs.Paper.{spotSaid}
 use Rattle.segments.specs.laws.Sizes.{wider}
 use Rattle.places.specs.Mapping.{inside, turned}
-use Rattle.places.proofs.Spans.{one-back, one-back-refused, on-genome, same-number, stop-number}
+use Rattle.places.proofs.Spans.{one-back, one-back-refused, on-genome, same-number}
 use borrow.Author.Needs.{needs}
 use Rattle.places.proofs.g_of_one.Statement.{statement}
 use Rattle.places.proofs.g_of_one.Tie as tie
@@ -24,23 +23,22 @@ test-is : (c : tie.After-is-inside) →
     inside (a .strict) len (turned (a .at .forward) len (placeOfN (a .base))) ≡ c .is-inside .result
 test-is c = sym (simp (c .before .before .last .ensures, place-is (c .before)) at (c .is-inside .ensures))
 
-chosen-exons-requires : tie.Need-chosen-exons-requires
-chosen-exons-requires c κs =
+chosen-requires : tie.Need-chosen-requires
+chosen-requires c κs =
     let x = c .before in
     let s = x .before .before .before .before .before in
-    let start = same-number (x .transcript-to-genome .ensures .0) (on-genome (s .args .at) _ [] (s .pre) _ _) in
-    (start, stop-number (spotSaid (x .transcript-to-genome .result)) (c .stop-of .ensures .0) start, s .pre .count-to)
+    (same-number (x .transcript-to-genome .ensures .0) (on-genome (s .args .at) _ [] (s .pre) _ _), s .pre .count-to)
 
 returns : tie.Need-returns
 returns c =
-    let e = c .before .before in
-    let x = e .before in
+    let n = c .before .before in
+    let x = n .before .before in
     let t = x .before in
     let p = t .before .before in
     let s = p .before .before in
     let a = s .args in
     let start = rw (place-is p) at (x .transcript-to-genome .ensures .0) in
-    simp (c .before .chosen-exons .ensures, e .stop-of .ensures .0, start, read (s .fits .o), read (s .fits .u)) at (c .g-answer .ensures)
+    simp (n .chosen .ensures, n .before .behind .ensures, c .before .stop-of .ensures .0, start, read (s .fits .o), read (s .fits .u)) at (c .g-answer .ensures)
     ∙ sym (one-back (a .at) _ _ (s .pre) (a .strict) (a .base) (a .o) (a .u) (test-is (t .before) ∙ t .if1 .taken))
 
 returns-2 : tie.Need-returns-2
@@ -58,7 +56,8 @@ g-of-one-spec =
     (λ c κs. search needs)
     (λ c κs. search needs)
     (λ c κs. search needs)
-    chosen-exons-requires
-    (λ c κs. let e = c .before in (wider (e .before .transcript-to-genome .ensures .1), e .stop-of .ensures .1))
+    chosen-requires
+    (λ c κs. search needs)
+    (λ c κs. (wider (c .before .before .before .transcript-to-genome .ensures .1), c .stop-of .ensures .1))
     returns
     returns-2)

@@ -38,16 +38,15 @@ returns c =
 
 found-exons-requires : tie.Need-found-exons-requires
 found-exons-requires c κs =
-    let y = c .before in
-    let x = y .before in
+    let x = c .before in
     let s = x .before .before .before .before .before .before .before in
     let below = on-transcript (s .args .at) _ [] (s .pre) in
-    (same-number (x .genome-to-transcript .ensures .0) (below _ _ _), same-number (y .genome-to-transcript2 .ensures .0) (below _ _ _), s .pre .count-to)
+    (same-number (x .genome-to-transcript .ensures .0) (below _ _ _), same-number (c .genome-to-transcript2 .ensures .0) (below _ _ _), s .pre .count-to)
 
 returns-2 : tie.Need-returns-2
 returns-2 c =
-    let l = c .before .before in
-    let y = l .before in
+    let f = c .before .before in
+    let y = f .before in
     let x = y .before in
     let t = x .before in
     let q = t .before .before .before in
@@ -56,7 +55,7 @@ returns-2 c =
     let from = rw (from-is (q .before)) at (x .genome-to-transcript .ensures .0) in
     let to = rw (to-is q) at (y .genome-to-transcript2 .ensures .0) in
     rw (n-answered (a .at) _ _ (s .pre) (a .strict) (a .from) (a .to) (test-is (t .before) ∙ t .if2 .taken))
-    (simp (from, to, c .before .found-exons .ensures, l .last2 .ensures) at (c .n-answer .ensures))
+    (simp (from, to, f .found-exons .ensures, c .before .last2 .ensures) at (c .n-answer .ensures))
 
 returns-3 : tie.Need-returns-3
 returns-3 c =
@@ -76,8 +75,8 @@ to-n-spec =
     (λ c κs. search needs)
     (λ c κs. search needs)
     (λ c κs. search needs)
-    (λ c κs. c .before .before .before .before .before .before .before .before .pre .count-to)
     found-exons-requires
+    (λ c κs. c .before .before .before .before .before .before .before .before .before .pre .count-to)
     (λ c κs. let y = c .before .before in (wider (y .before .genome-to-transcript .ensures .1), wider (y .genome-to-transcript2 .ensures .1)))
     returns-2
     returns-3)
