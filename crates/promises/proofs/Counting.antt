@@ -4,17 +4,16 @@ use native.Mathlib.Omega.{arith}
 use mathlib.Core.Bool.{Bool, true, false, true≢false}
 use mathlib.Core.List.{List, [], _∷_, _++_, map, map-append, append-assoc}
 use mathlib.Core.Path.{_≡_, refl, sym, ap, _∙_, subst}
-use lib.IntN.{ℤ, pos, negsuc, natAbs, _+ℤ_}
+use lib.IntN.{ℤ, pos, negsuc, natAbs}
 use lib.ListN.{length, length-append, length-map}
 use lib.Signed.{ltZ, _≤ℤ_, _<ℤ_}
 use Rattle.whole.specs.Whole.{eqZ}
 use Rattle.whole.specs.laws.Whole.{order, sum}
-use Rattle.cigar.specs.Elements.{Element, genome, total, letterN}
+use Rattle.cigar.specs.Elements.{Element, genome, total}
 use Rattle.records.specs.Records.{Record}
 use Rattle.transcript.specs.Transcript.{Transcript}
 use Rattle.transcript.specs.Building.{Exon, gap, elementsOf, numberedBy, firstStart, build}
 use Rattle.judging.specs.Input.{Input}
-use Rattle.judging.specs.Judging.{cdsOf}
 use Rattle.judging.specs.laws.Accepted.{InOrder}
 use Rattle.promises.specs.Bases.{Lies, isMatch, byElements}
 use Rattle.promises.specs.Demands.{cigarOf, AllSpan, counted, InRecord, BetweenRecords, Sides, within, between, CountsRecords}

@@ -24,7 +24,7 @@ use Rattle.segments.specs.laws.Amid.{slid, place-amid}
 use Rattle.transcript.specs.Transcript.{Transcript, exonNumber, genomeLength, transcriptLength}
 use Rattle.transcript.specs.Transcript.Cds.{cds}
 use Rattle.positions.specs.Positions.{Interval, each, NAsked, CAsked, GPosition, NPosition, CPosition, asksN}
-use Rattle.positions.specs.Answers.{Mark, unmarked, markOf, Marked, Answer, plainly, ends, after, chain, nFits, gFits, cFits, fitting}
+use Rattle.positions.specs.Answers.{Mark, unmarked, markOf, Answer, plainly, ends, after, chain, nFits, gFits, cFits, fitting}
 use Rattle.positions.specs.laws.Ends.{row-plain}
 use Rattle.positions.specs.laws.Fits.{fits-by}
 use Rattle.coding.specs.Coding.{beyond, cPosition, cOfInterval, nToC, nPosition, cToN}

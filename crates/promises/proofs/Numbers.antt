@@ -10,7 +10,7 @@ use lib.Seq.{getD-append-add}
 use borrow.Author.Tests.{ltb-true, ltb-false}
 use Rattle.whole.specs.laws.Whole.{by-test}
 use Rattle.segments.specs.Exons.{lastNumber}
-use Rattle.transcript.specs.Building.{Exon, gap, partsOf, elementsAfter, elementsOf, numberedBy, numbersAfter, numbersOf}
+use Rattle.transcript.specs.Building.{Exon, partsOf, elementsAfter, elementsOf, numberedBy, numbersAfter, numbersOf}
 use Rattle.promises.proofs.Records.{lead, leadAfter}
 
 -- ---- a run of one number, and what follows it
