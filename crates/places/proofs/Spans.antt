@@ -101,9 +101,16 @@ module _ (a : Alignment) (x : Tables) (exons : List ℕ) (sound : Aligns a x) wh
 
   -- of one number: its end's spot follows from its start's
   module _ (strict : Bool) (g : ℤ) where
+    -- the exon's number of both
+    abbrev its-exon : ℕ
+    its-exon = exonFound (numberBy a exons) (n-from strict g g)
+
     pub one-answered : inside strict (getD (x .genome) (a .count) 0) (g-from strict g g) ≡ true
-        → gToN strict (alignedBy a x exons) (record { from = g; to = g }) ≡ nJoined (a .forward) (getD (x .transcript) (a .count) 0) (found (n-from strict g g) (stopOf (n-from strict g g))) (n-from strict g g) (stopOf (n-from strict g g))
-    one-answered e = n-answered strict g g (rw e refl) ∙ ap (λ (s : Spot). nJoined (a .forward) (getD (x .transcript) (a .count) 0) (found (n-from strict g g) s) (n-from strict g g) s) (stop-of-place genome transcript _ _ _)
+        → gToN strict (alignedBy a x exons) (record { from = g; to = g }) ≡ nJoined (a .forward) (getD (x .transcript) (a .count) 0) (record { from = its-exon; to = its-exon }) (n-from strict g g) (stopOf (n-from strict g g))
+    one-answered e =
+        n-answered strict g g (rw e refl)
+        ∙ (ap (λ (s : Spot). nJoined (a .forward) (getD (x .transcript) (a .count) 0) (found (n-from strict g g) s) (n-from strict g g) s) (stop-of-place genome transcript _ _ _)
+        ∙ ap (λ (i : Interval ℕ). nJoined (a .forward) (getD (x .transcript) (a .count) 0) i (n-from strict g g) (stopOf (n-from strict g g))) (both-found (a .forward) (numberBy a exons) (n-from strict g g)))
 
     pub one-refused : inside strict (getD (x .genome) (a .count) 0) (g-from strict g g) ≡ false → gToN strict (alignedBy a x exons) (record { from = g; to = g }) ≡ refused outside
     one-refused e = n-refused strict g g (rw e refl)

@@ -190,13 +190,11 @@ fn n_answer(forward: bool, len: u32, exons: Exons, a: Spot, b: Spot) -> NAnswer
     }
 }
 
-// The n. interval of one place, by its spot as an interval's start, whose exon is the end's too: a sure one is numbered once.
-fn n_of_one(at: Alignment, exons: &[u16; MOST_SEGMENTS], len: u32, start: Spot) -> NAnswer
-    requires { ⌜ Small 37 start × (start .number < at .count) × (at .count ≤ mostSegments) ⌝ }
-    ensures { λ r. ⌜ paperN r ≡ nJoined (at .forward) len (foundExons (at .forward) (numberBy at (now (exons .entry))) (spotSaid start) (stopOf (spotSaid start))) (spotSaid start) (stopOf (spotSaid start)) ⌝ }
+// The n. interval of one place, by its spot as an interval's start, whose exon has this number, as the end's has: a sure one is numbered once.
+fn n_of_one(forward: bool, len: u32, number: u16, start: Spot) -> NAnswer
+    requires { ⌜ Small 37 start ⌝ }
+    ensures { λ r. ⌜ paperN r ≡ nJoined forward len (record { from = number; to = number }) (spotSaid start) (stopOf (spotSaid start)) ⌝ }
 {
-    let forward = at.forward;
-    let number = exons::found(exons, at.count, behind(at), start);
     let both = Exons {
         from: number,
         to: number,
@@ -234,7 +232,8 @@ fn one_to_n(
             End::Start,
             forward,
         );
-        return n_of_one(at, exons, last(transcript, count), start);
+        let exon = exons::found(exons, count, behind(at), start);
+        return n_of_one(forward, last(transcript, count), exon, start);
     }
     NAnswer::Refused(refusals::OUTSIDE)
 }
@@ -266,7 +265,8 @@ pub fn one_to_n_at(
             End::Start,
             forward,
         );
-        return n_of_one(at, exons, last(transcript, count), start);
+        let exon = exons::found(exons, count, behind(at), start);
+        return n_of_one(forward, last(transcript, count), exon, start);
     }
     NAnswer::Refused(refusals::OUTSIDE)
 }

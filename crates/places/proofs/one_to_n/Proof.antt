@@ -18,22 +18,22 @@ test-is : (c : tie.After-is-inside) →
     inside (a .strict) (getD (a .genome .now) (a .at .count) 0) (placeOfG (a .at .first) (a .g)) ≡ c .is-inside .result
 test-is c = sym (simp (c .before .last .ensures, place-is (c .before .before)) at (c .is-inside .ensures))
 
-n-of-one-requires : tie.Need-n-of-one-requires
-n-of-one-requires c κs =
+found-requires : tie.Need-found-requires
+found-requires c κs =
     let x = c .before in
     let s = x .before .before .before .before .before in
-    let said = x .genome-to-transcript .ensures in
-    (said .1, same-number (said .0) (on-transcript (s .args .at) _ [] (s .pre) _ _ _), s .pre .count-to)
+    (same-number (x .genome-to-transcript .ensures .0) (on-transcript (s .args .at) _ [] (s .pre) _ _ _), s .pre .count-to)
 
 returns : tie.Need-returns
 returns c =
-    let x = c .before .before in
+    let f = c .before .before in
+    let x = f .before .before in
     let t = x .before in
     let p = t .before .before .before in
     let s = p .before in
     let a = s .args in
     let start = rw (place-is p) at (x .genome-to-transcript .ensures .0) in
-    simp (start, c .before .last2 .ensures) at (c .n-of-one .ensures)
+    simp (f .found .ensures, f .before .behind .ensures, start, c .before .last2 .ensures) at (c .n-of-one .ensures)
     ∙ sym (one-answered (a .at) _ _ (s .pre) (a .strict) (a .g) (test-is (t .before) ∙ t .if1 .taken))
 
 returns-2 : tie.Need-returns-2
@@ -51,6 +51,8 @@ one-to-n-spec =
     (λ c κs. search needs)
     (λ c κs. search needs)
     (λ c κs. search needs)
-    n-of-one-requires
+    found-requires
+    (λ c κs. c .before .before .before .before .before .before .before .pre .count-to)
+    (λ c κs. c .before .before .before .genome-to-transcript .ensures .1)
     returns
     returns-2)

@@ -28,16 +28,16 @@ map-at-requires c κs =
     let s = p .before in
     (omega (arith, s .pre .1 .on, s .pre .0 .count-to), rw (told w64 (p .place-of-g .result .0) (c .struct-told .given .0 .1)) (p .place-of-g .ensures .1))
 
-n-of-one-requires : tie.Need-n-of-one-requires
-n-of-one-requires c κs =
+found-requires : tie.Need-found-requires
+found-requires c κs =
     let x = c .before in
     let s = x .before .before .before .before .before .before in
-    let said = x .map-at .ensures in
-    (said .1, same-number (said .0) (rw (spot-number (segmentAt _ _ _ (s .args .number)) _ _ _) (s .pre .1 .on)), s .pre .0 .count-to)
+    (same-number (x .map-at .ensures .0) (rw (spot-number (segmentAt _ _ _ (s .args .number)) _ _ _) (s .pre .1 .on)), s .pre .0 .count-to)
 
 returns : tie.Need-returns
 returns c =
-    let x = c .before .before in
+    let f = c .before .before in
+    let x = f .before .before in
     let t = x .before in
     let i = t .before .before in
     let p = i .before .before in
@@ -45,7 +45,7 @@ returns c =
     let a = s .args in
     let within = test-is i ∙ t .before .if1 .taken in
     let start = rw (told w64 (p .place-of-g .result .0) (t .struct-told .given .0 .1), place-is p) at (x .map-at .ensures .0) ∙ spot-at (a .at) _ (a .exons .now) (s .pre .0) true (a .g) (a .number) (s .pre .1 .here within) in
-    simp (start, c .before .last2 .ensures) at (c .n-of-one .ensures)
+    simp (f .found .ensures, f .before .behind .ensures, start, c .before .last2 .ensures) at (c .n-of-one .ensures)
     ∙ sym (one-answered (a .at) _ _ (s .pre .0) true (a .g) within)
 
 returns-2 : tie.Need-returns-2
@@ -63,6 +63,8 @@ one-to-n-at-spec =
     (λ c κs. search needs)
     map-at-requires
     (λ c κs. search needs)
-    n-of-one-requires
+    found-requires
+    (λ c κs. c .before .before .before .before .before .before .before .before .pre .0 .count-to)
+    (λ c κs. c .before .before .before .map-at .ensures .1)
     returns
     returns-2)
