@@ -6,14 +6,24 @@ use crate::{
     Refusal,
 };
 
+/// A g. base.
+#[derive(Clone, Copy, Debug, PartialEq, Eq, Hash)]
+#[non_exhaustive]
+pub struct GPosition {
+    /// The number.
+    pub base: i32,
+    /// The exon that the asked number is of, from 1 in transcript order.
+    pub exon: u32,
+}
+
 /// A g. interval.
 #[derive(Clone, Copy, Debug, PartialEq, Eq, Hash)]
 #[non_exhaustive]
 pub struct GInterval {
     /// The first base.
-    pub start: i32,
+    pub start: GPosition,
     /// The last base.
-    pub end: i32,
+    pub end: GPosition,
 }
 
 /// An n. number with an intron offset, 0 for none.
@@ -24,6 +34,8 @@ pub struct NPosition {
     pub base: i32,
     /// The offset.
     pub offset: i32,
+    /// The exon that it counts from, from 1 in transcript order; none in an answer of c. to n.
+    pub exon: Option<u32>,
 }
 
 /// An n. interval.
@@ -46,6 +58,8 @@ pub struct CPosition {
     pub offset: i32,
     /// Whether the number counts from the end of the CDS, as in `*3`.
     pub star: bool,
+    /// The exon that it counts from, from 1 in transcript order; none in an answer of n. to c.
+    pub exon: Option<u32>,
 }
 
 /// A c. interval.
@@ -86,7 +100,7 @@ impl<T> Mapped<T> {
 impl Slot {
     /// A slot for a g. position. Until a worklist answers it, it says 23: nothing is known of its transcript.
     pub const fn new(position: i32) -> Slot {
-        let at = Position { base: 0, offset: 0, star: 0 };
+        let at = Position { base: 0, offset: 0, star: 0, exon: 0 };
         let answer = Answer { number: Refusal::NotTogether.number(), mark: 0, start: at, end: at };
         Slot { position, answer }
     }
@@ -97,15 +111,28 @@ impl Slot {
     }
 }
 
+impl Position {
+    /// The exon's number, where the mapping carries one.
+    fn exon(self) -> Option<u32> {
+        (self.exon != 0).then_some(self.exon)
+    }
+}
+
+impl From<Position> for GPosition {
+    fn from(g: Position) -> GPosition {
+        GPosition { base: g.base, exon: g.exon }
+    }
+}
+
 impl From<Position> for NPosition {
     fn from(n: Position) -> NPosition {
-        NPosition { base: n.base, offset: n.offset }
+        NPosition { base: n.base, offset: n.offset, exon: n.exon() }
     }
 }
 
 impl From<Position> for CPosition {
     fn from(c: Position) -> CPosition {
-        CPosition { base: c.base, offset: c.offset, star: c.star != 0 }
+        CPosition { base: c.base, offset: c.offset, star: c.star != 0, exon: c.exon() }
     }
 }
 
@@ -114,7 +141,7 @@ impl TryFrom<Answer> for GInterval {
 
     fn try_from(answer: Answer) -> Result<GInterval, Refusal> {
         Refusal::check(answer.number)?;
-        Ok(GInterval { start: answer.start.base, end: answer.end.base })
+        Ok(GInterval { start: answer.start.into(), end: answer.end.into() })
     }
 }
 

@@ -121,7 +121,7 @@ impl CInterval {
 
 impl From<answered::GInterval> for GInterval {
     fn from(g: answered::GInterval) -> GInterval {
-        GInterval::new(g.start, g.end)
+        GInterval::new(g.start.base, g.end.base)
     }
 }
 

@@ -59,6 +59,8 @@ head! {
     cds_end
     /// The length of a length-only transcript.
     length
+    /// How many records there are.
+    record_count
 }
 
 impl Head {
@@ -76,6 +78,8 @@ const _: () = assert!(align_of::<Head>() == align_of::<i32>());
 pub type Starts = [u32; MOST_STARTS];
 /// The segments' letters.
 pub type Letters = [u8; MOST_SEGMENTS];
+/// The segments' exon numbers. A gap between records has that of the record to its left on the genome.
+pub type Exons = [u16; MOST_SEGMENTS];
 /// The counts of elements.
 pub type Counts = [i32; MOST_SEGMENTS];
 
@@ -90,6 +94,8 @@ pub struct Reading<'a> {
     pub transcript: &'a Starts,
     /// The letters.
     pub letters: &'a Letters,
+    /// The exon numbers.
+    pub exons: &'a Exons,
 }
 
 /// Memory that is lent to a building (`TXC_LENT`).
@@ -103,6 +109,8 @@ pub struct Filling<'a> {
     pub transcript: &'a mut Starts,
     /// The letters.
     pub letters: &'a mut Letters,
+    /// The exon numbers.
+    pub exons: &'a mut Exons,
 }
 
 // ---- What is asked
@@ -175,7 +183,7 @@ pub struct Asked {
 
 // ---- What is answered
 
-/// A position that is answered; of a g. position the base alone counts.
+/// A position that is answered; a g. position has no offset and no star.
 #[repr(C)]
 #[derive(Clone, Copy, Debug, Default, PartialEq, Eq)]
 pub struct Position {
@@ -185,6 +193,8 @@ pub struct Position {
     pub offset: i32,
     /// 1 where the number counts from the end of the CDS.
     pub star: u32,
+    /// The exon's number, from 1 in transcript order; 0 in answers of n. to c. and back.
+    pub exon: u32,
 }
 
 impl From<Position> for Asked {
@@ -285,6 +295,7 @@ macro_rules! questions {
                 genome: &Starts,
                 transcript: &Starts,
                 letters: &Letters,
+                exons: &Exons,
                 $($number: $kind),*
             ) -> $answer;)*
         }
@@ -293,8 +304,8 @@ macro_rules! questions {
             $(#[$words])*
             #[inline]
             pub fn $name(of: Reading<'_> $(, $given: $given_as)*) -> $answer {
-                let Reading { head, genome, transcript, letters } = of;
-                $entry(head, genome, transcript, letters $(, $from)*)
+                let Reading { head, genome, transcript, letters, exons } = of;
+                $entry(head, genome, transcript, letters, exons $(, $from)*)
             }
         )*
     };
@@ -369,6 +380,7 @@ unsafe extern "C" {
         genome: &Starts,
         transcript: &Starts,
         letters: &Letters,
+        exons: &Exons,
         slots: *mut Slot,
         slots_len: usize,
     ) -> Steps;
@@ -385,6 +397,7 @@ unsafe extern "C" {
         genome: &mut Starts,
         transcript: &mut Starts,
         letters: &mut Letters,
+        exons: &mut Exons,
     ) -> u32;
     fn txc_build_card(
         card: *const u8,
@@ -393,6 +406,7 @@ unsafe extern "C" {
         genome: &mut Starts,
         transcript: &mut Starts,
         letters: &mut Letters,
+        exons: &mut Exons,
     ) -> u32;
     safe fn txc_build_length(length: i32, cds: u32, cds_start: i32, cds_end: i32, head: &mut Head) -> u32;
 
@@ -439,16 +453,16 @@ unsafe extern "C" {
 /// Answers the slots of a sorted worklist in one walk, and says how many segments it stepped over.
 #[inline]
 pub fn worklist(of: Reading<'_>, slots: &mut [Slot]) -> Steps {
-    let Reading { head, genome, transcript, letters } = of;
+    let Reading { head, genome, transcript, letters, exons } = of;
     // SAFETY: pointer and length are the slice's.
-    unsafe { txc_worklist(head, genome, transcript, letters, slots.as_mut_ptr(), slots.len()) }
+    unsafe { txc_worklist(head, genome, transcript, letters, exons, slots.as_mut_ptr(), slots.len()) }
 }
 
 /// Builds a transcript from records, and says the refusal's number.
 #[inline]
 pub fn build(from: Laid<'_>, into: Filling<'_>) -> u32 {
     let Laid { strand, cds, count, records } = from;
-    let Filling { head, genome, transcript, letters } = into;
+    let Filling { head, genome, transcript, letters, exons } = into;
     // SAFETY: pointer and length are the slice's.
     unsafe {
         txc_build(
@@ -463,6 +477,7 @@ pub fn build(from: Laid<'_>, into: Filling<'_>) -> u32 {
             genome,
             transcript,
             letters,
+            exons,
         )
     }
 }
@@ -470,9 +485,9 @@ pub fn build(from: Laid<'_>, into: Filling<'_>) -> u32 {
 /// Builds a transcript from a card, and says the refusal's number.
 #[inline]
 pub fn build_card(card: &[u8], into: Filling<'_>) -> u32 {
-    let Filling { head, genome, transcript, letters } = into;
+    let Filling { head, genome, transcript, letters, exons } = into;
     // SAFETY: pointer and length are the slice's.
-    unsafe { txc_build_card(card.as_ptr(), card.len(), head, genome, transcript, letters) }
+    unsafe { txc_build_card(card.as_ptr(), card.len(), head, genome, transcript, letters, exons) }
 }
 
 /// Builds the head of a length-only transcript, and says the refusal's number.

@@ -2,9 +2,9 @@
 //!
 //! A [`Transcript`] is built from exon records, from a card or from a length alone, and is then asked. Positions are read
 //! and written as HGVS names; those that are [`asked`] and those that are [`answered`] are types of their own, and an answer
-//! becomes a question by `into`. What cannot be answered is a [`Refusal`] with the number and the words of the documents. A
-//! record's CIGAR is text; [`cigar`] makes it from BAM's words too. Sorted g. positions are answered in one walk
-//! ([`Room::worklist`]).
+//! becomes a question by `into`. An answer to or from g. has the exon's number at both of its ends. What cannot be answered
+//! is a [`Refusal`] with the number and the words of the documents. A record's CIGAR is text; [`cigar`] makes it from BAM's
+//! words too. Sorted g. positions are answered in one walk ([`Room::worklist`]).
 //!
 //! ```
 //! use pulindraxi::{Bounds, Exon, Input, Transcript};
@@ -18,6 +18,7 @@
 //!
 //! let c = transcript.g_to_c("g.24".parse()?, Bounds::Strict)?;
 //! assert_eq!(c.to_string(), "c.8-2");
+//! assert_eq!(c.interval().start.exon, Some(2));
 //! assert_eq!(transcript.c_to_g(c.interval().into(), Bounds::Strict)?.to_string(), "g.24");
 //! # Ok::<(), Box<dyn std::error::Error>>(())
 //! ```

@@ -5,7 +5,7 @@ use std::ops::Deref;
 use crate::{
     answered::{self, Mapped},
     asked,
-    boundary::{self, Cds, Filling, Head, Letters, Reading, Slot, Starts},
+    boundary::{self, Cds, Exons, Filling, Head, Letters, Reading, Slot, Starts},
     input::Input,
     limits::{MOST_SEGMENTS, MOST_STARTS},
     Refusal,
@@ -37,9 +37,11 @@ pub struct Segment {
     pub transcript: u32,
     /// How many columns it has.
     pub count: u32,
+    /// The number of its exon, from 1 in transcript order; of a gap between records that of the record to its left on the genome.
+    pub exon: u16,
 }
 
-/// The memory of one transcript, which is lent to the entries: a head and three tables, some 18 KiB.
+/// The memory of one transcript, which is lent to the entries: a head and four tables, some 22 KiB.
 ///
 /// A host that keeps off the heap has a `Room` where it likes, builds into it from a card, and asks it. What stands in it may
 /// be anything: a question to a room that doesn't hold together is refused (23). A refused building leaves it as it was.
@@ -63,6 +65,8 @@ pub struct Room {
     pub transcript: Starts,
     /// The segments' letters.
     pub letters: Letters,
+    /// The segments' exon numbers.
+    pub exons: Exons,
 }
 
 impl Default for Room {
@@ -79,17 +83,18 @@ impl Room {
             genome: [0; MOST_STARTS],
             transcript: [0; MOST_STARTS],
             letters: [0; MOST_SEGMENTS],
+            exons: [0; MOST_SEGMENTS],
         }
     }
 
     fn reading(&self) -> Reading<'_> {
-        let Room { head, genome, transcript, letters } = self;
-        Reading { head, genome, transcript, letters }
+        let Room { head, genome, transcript, letters, exons } = self;
+        Reading { head, genome, transcript, letters, exons }
     }
 
     fn filling(&mut self) -> Filling<'_> {
-        let Room { head, genome, transcript, letters } = self;
-        Filling { head, genome, transcript, letters }
+        let Room { head, genome, transcript, letters, exons } = self;
+        Filling { head, genome, transcript, letters, exons }
     }
 
     /// Builds a transcript from records.
@@ -181,6 +186,11 @@ impl Room {
         usize::try_from(self.head.segment_count).unwrap_or(0).min(MOST_SEGMENTS)
     }
 
+    /// How many records the transcript was built from, as the head has it: its exons. A length-only transcript has none.
+    pub fn record_count(&self) -> usize {
+        usize::try_from(self.head.record_count).unwrap_or(0)
+    }
+
     /// The segments in genomic order.
     pub fn segments(&self) -> impl Iterator<Item = Segment> + '_ {
         let step = |starts: &Starts, index: usize| starts[index + 1].wrapping_sub(starts[index]);
@@ -189,6 +199,7 @@ impl Room {
             genome: self.genome[index],
             transcript: self.transcript[index],
             count: step(&self.genome, index).max(step(&self.transcript, index)),
+            exon: self.exons[index],
         })
     }
 

@@ -33,15 +33,15 @@ fn the_entries_are_the_headers() {
 #[test]
 fn the_structs_are_the_headers() {
     let sizes = [size_of::<Position>(), size_of::<Answer>(), size_of::<Said>(), size_of::<Length>(), size_of::<Part>()];
-    assert_eq!(sizes, [12, 32, 8, 16, 24]);
-    assert_eq!([size_of::<Slot>(), size_of::<Steps>()], [36, 8]);
+    assert_eq!(sizes, [16, 40, 8, 16, 24]);
+    assert_eq!([size_of::<Slot>(), size_of::<Steps>()], [44, 8]);
 }
 
 #[test]
 fn the_lent_memory_is_the_headers() {
     let head = Head::COUNT;
     let lent = format!(
-        "int32_t head[{head}], uint32_t genome[{MOST_STARTS}], uint32_t transcript[{MOST_STARTS}], uint8_t letters[{MOST_SEGMENTS}]"
+        "int32_t head[{head}], uint32_t genome[{MOST_STARTS}], uint32_t transcript[{MOST_STARTS}], uint8_t letters[{MOST_SEGMENTS}], uint16_t exons[{MOST_SEGMENTS}]"
     );
     let read = lent.split(", ").map(|table| format!("const {table}")).collect::<Vec<_>>().join(", ");
     for line in [format!("#define TXC_LENT {lent}"), format!("#define TXC_READ {read}")] {
@@ -54,7 +54,7 @@ fn the_heads_numbers_keep_their_order() {
     let numbers = std::array::from_fn(|index| index as i32);
     let head = Head::from(numbers);
     assert_eq!(head.numbers(), numbers);
-    let Head { kind, strand, first_start, segment_count, cds_bits, cds_start, cds_end, length } = head;
-    let named = [kind, strand, first_start, segment_count, cds_bits, cds_start, cds_end, length];
+    let Head { kind, strand, first_start, segment_count, cds_bits, cds_start, cds_end, length, record_count } = head;
+    let named = [kind, strand, first_start, segment_count, cds_bits, cds_start, cds_end, length, record_count];
     assert_eq!(named, numbers);
 }

@@ -178,6 +178,61 @@ fn segments_and_lengths() {
     let lines: Vec<_> = a.segments().map(|s| (s.letter, s.genome, s.transcript, s.count)).collect();
     assert_eq!(lines, [(b'M', 0, 0, 10), (b'N', 10, 10, 5), (b'M', 15, 10, 8)]);
     assert_eq!((a.strand(), a.segment_count(), a.genome_length(), a.transcript_length()), (1, 3, 23, 18));
+    let exons = |room: &Room| room.segments().map(|segment| segment.exon).collect::<Vec<_>>();
+    assert_eq!((exons(&a), a.record_count()), (vec![1, 1, 2], 2));
+    assert_eq!(exons(&transcript(-1)), [2, 2, 1]);
+    assert_eq!(Transcript::of_length(18, None, None).unwrap().record_count(), 0);
+}
+
+#[test]
+fn exons_of_both_ends() {
+    for (strand, g, exons) in [
+        (1, "g.11", [1, 1]),
+        (1, "g.23", [1, 1]),
+        (1, "g.24", [2, 2]),
+        (1, "g.11_33", [1, 2]),
+        (-1, "g.33", [1, 1]),
+        (-1, "g.23", [1, 1]),
+        (-1, "g.22", [2, 2]),
+        (-1, "g.11_33", [1, 2]),
+    ] {
+        let room = transcript(strand);
+        let n = room.g_to_n(g.parse().unwrap(), Bounds::Strict).unwrap().interval();
+        let c = room.g_to_c(g.parse().unwrap(), Bounds::Strict).unwrap().interval();
+        assert_eq!([n.start.exon, n.end.exon], exons.map(Some), "{g}, strand {strand}");
+        assert_eq!([c.start.exon, c.end.exon], exons.map(Some), "{g}, strand {strand}");
+        // Back on the genome they stand with their ends.
+        let on_genome = if strand == 1 { exons } else { [exons[1], exons[0]] };
+        let from_n = room.n_to_g(n.into(), Bounds::Strict).unwrap().interval();
+        let from_c = room.c_to_g(c.into(), Bounds::Strict).unwrap().interval();
+        assert_eq!([from_n.start.exon, from_n.end.exon], on_genome, "{g}, strand {strand}");
+        assert_eq!(from_c, from_n);
+        // Without the genome there is none.
+        let c = room.n_to_c(n.into(), Bounds::Strict).unwrap();
+        let n = room.c_to_n(c.into(), Bounds::Strict).unwrap();
+        assert_eq!([c.start.exon, c.end.exon, n.start.exon, n.end.exon], [None; 4]);
+    }
+}
+
+#[test]
+fn exon_numbers_that_do_not_run_are_refused() {
+    let number = |change: &dyn Fn(&mut Room)| {
+        let mut room = Room::new();
+        room.clone_from(&transcript(1));
+        change(&mut room);
+        room.is_coding().err().map_or(0, Refusal::number)
+    };
+    assert_eq!(number(&|_| ()), 0);
+    assert_eq!(number(&|room| room.exons[3] = 7), 0);
+    for index in 0..3 {
+        assert_eq!(number(&|room| room.exons[index] += 1), 23);
+        assert_eq!(number(&|room| room.exons[index] -= 1), 23);
+    }
+    for count in [i32::MIN, -1, 0, 1, 3, 512, 513, i32::MAX] {
+        assert_eq!(number(&|room| room.head.record_count = count), 23, "{count}");
+    }
+    // The gap becomes an N inside the one record.
+    assert_eq!(number(&|room| (room.exons[2], room.head.record_count) = (1, 1)), 0);
 }
 
 #[test]

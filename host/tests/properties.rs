@@ -149,6 +149,51 @@ proptest! {
         }
     }
 
+    /// Of the first base of each element of each record.
+    #[test]
+    fn an_exon_is_its_record((strand, first, parts, coding) in transcripts()) {
+        if let Ok(room) = with_input(strand, first, &parts, coding, Transcript::build) {
+            let mut at = first + 1;
+            for (index, (elements, gap)) in parts.iter().enumerate() {
+                let exon = if strand == 1 { index + 1 } else { parts.len() - index } as u32;
+                at += gap;
+                // A record's CIGAR is in transcript direction.
+                let ordered: Vec<_> = if strand == 1 { elements.clone() } else { elements.iter().rev().copied().collect() };
+                for element in ordered.iter().filter(|element| element.letter != b'D') {
+                    if element.count > 0 {
+                        let n = room.g_to_n(GInterval::at(at), Bounds::Strict).unwrap().interval();
+                        prop_assert_eq!([n.start.exon, n.end.exon], [Some(exon); 2]);
+                    }
+                    at += element.count;
+                }
+            }
+        }
+    }
+
+    /// The second half of document 02's sentence on demand 3: exons move up by the number of records that are added upstream.
+    #[test]
+    fn records_upstream_move_exons_up((strand, first, parts, coding) in transcripts(), added in vec((elements(5), 0..9i32), 1..4)) {
+        let before: i32 = added.iter().map(|(elements, gap)| gap + reach(elements, b"D")).sum();
+        let (longer, from) = match strand {
+            1 => ([&added[..], &parts[..]].concat(), first - before),
+            _ => ([&parts[..], &added[..]].concat(), first),
+        };
+        prop_assume!(from >= 0);
+        let shorter = with_input(strand, first, &parts, coding, Transcript::build);
+        let longer = with_input(strand, from, &longer, coding, Transcript::build);
+        if let (Ok(shorter), Ok(longer)) = (shorter, longer) {
+            let by = added.len() as u32;
+            for place in 0..shorter.genome_length() {
+                let g = GInterval::at(shorter.head.first_start + 1 + place as i32);
+                let exons = |room: &Room| {
+                    let n = room.g_to_n(g, Bounds::Strict).unwrap().interval();
+                    [n.start, n.end].map(|end| end.exon.unwrap())
+                };
+                prop_assert_eq!(exons(&longer), exons(&shorter).map(|exon| exon + by));
+            }
+        }
+    }
+
     #[test]
     fn strict_answers_are_lenient_ones((strand, first, parts, coding) in transcripts(), g in number(), h in -5..300i32) {
         if let Ok(room) = with_input(strand, first, &parts, coding, Transcript::build) {
@@ -213,7 +258,7 @@ proptest! {
     }
 
     #[test]
-    fn damaged_memory_is_asked((strand, first, parts, coding) in transcripts(), wounds in vec((0..4u8, 0..12usize, number()), 0..3),
+    fn damaged_memory_is_asked((strand, first, parts, coding) in transcripts(), wounds in vec((0..5u8, 0..12usize, number()), 0..3),
                                a in number(), ao in number(), b in number(), bo in number(), bounds in bounds()) {
         let mut room = Box::new(Room::new());
         let built = with_input(strand, first, &parts, coding, |input| room.build(input));
@@ -227,7 +272,8 @@ proptest! {
                 }
                 1 => room.genome[index] = number as u32,
                 2 => room.transcript[index] = number as u32,
-                _ => room.letters[index] = number as u8,
+                3 => room.letters[index] = number as u8,
+                _ => room.exons[index] = number as u16,
             }
         }
         let before = room.clone();

@@ -5,35 +5,37 @@ use Prim.Native.Nat.{ℕ, _≤_}
 use native.Mathlib.Omega.{arith}
 use lib.IntN.{ℤ, pos, natAbs}
 use lib.ListN.{length}
+use Rattle.refusals.specs.Numbers.{mostRecords}
 use Rattle.whole.specs.Whole.{eqZ}
 use Rattle.records.specs.Layout.{altStart}
 use Rattle.records.specs.Records.{fieldAt, recordAt}
 use Rattle.records.specs.Walk.{Ready}
 use Rattle.records.specs.laws.Walk.{ready, records-length}
 use Rattle.cigar.specs.Elements.{total, transcript}
-use Rattle.transcript.specs.Building.{firstStart}
+use Rattle.transcript.specs.Building.{firstStart, numbersOf}
 use Rattle.judging.specs.Input.{inputOf}
 use Rattle.reading.specs.Reading.{exonsOf}
 use Rattle.judging.specs.Judging.{Made, Measured, judge, elementsMade}
 use Rattle.transcript.specs.Heads.{bothBits, startOf, endOf, withCds, bareHead, bitsOf, startIn, endIn}
 use Rattle.reading.specs.Tallies.{talliedAll}
-use Rattle.filling.specs.Filling.{elementsAll, SmallSums}
+use Rattle.filling.specs.Filling.{elementsAll, numbersAll, SmallSums}
 use Rattle.building.specs.Afterwards.{headOf, lengthHead}
 use Rattle.judging.specs.laws.Accepted.{Accepted, accepted-means, judged-sane, whole, cds-pass, bits-are, last-pass, Measures}
 use Rattle.transcript.specs.declared.Head.{Head}
 use Rattle.transcript.specs.declared.Numbers.{Numbers}
 use Rattle.reading.specs.declared.Sums.{Sums}
 use Rattle.reading.specs.declared.Tally.the-variants as tally
+use Rattle.reading.specs.laws.Counted.{all-count}
 use Rattle.reading.specs.laws.Tallied.{either-strand}
 use Rattle.judging.specs.laws.Told.{Told}
 use Rattle.transcript.specs.laws.Heads.{plus-is}
 use Rattle.judging.specs.laws.Chain.{FirstIs, first-is}
 
 -- a head is equal to another by its numbers
-head-eq : {k s f n b p q l k′ s′ f′ n′ b′ p′ q′ l′ : ℤ} → k ≡ k′ → s ≡ s′ → f ≡ f′ → n ≡ n′ → b ≡ b′ → p ≡ p′ → q ≡ q′ → l ≡ l′
-    → _≡_ {A = Head} (record { kind = k; strand = s; first = f; count = n; bits = b; start = p; end = q; length = l })
-    (record { kind = k′; strand = s′; first = f′; count = n′; bits = b′; start = p′; end = q′; length = l′ })
-head-eq e₁ e₂ e₃ e₄ e₅ e₆ e₇ e₈ = cc
+head-eq : {k s f n b p q l r k′ s′ f′ n′ b′ p′ q′ l′ r′ : ℤ} → k ≡ k′ → s ≡ s′ → f ≡ f′ → n ≡ n′ → b ≡ b′ → p ≡ p′ → q ≡ q′ → l ≡ l′ → r ≡ r′
+    → _≡_ {A = Head} (record { kind = k; strand = s; first = f; count = n; bits = b; start = p; end = q; length = l; records = r })
+    (record { kind = k′; strand = s′; first = f′; count = n′; bits = b′; start = p′; end = q′; length = l′; records = r′ })
+head-eq e₁ e₂ e₃ e₄ e₅ e₆ e₇ e₈ e₉ = cc
 
 module _ (n : Numbers) (s : List ℕ) (to : Sums) (p : Told (judge n s) to) where
   abbrev made : Made
@@ -62,13 +64,22 @@ module _ (n : Numbers) (s : List ℕ) (to : Sums) (p : Told (judge n s) to) wher
   pub elements-are : elementsAll (made .forward) (exonsOf (inputOf n s .records)) ≡ elementsMade made
   elements-are = rw (means .pass .on .were-read)
 
+  pub numbers-are : numbersAll (made .forward) (exonsOf (inputOf n s .records)) ≡ numbersOf (made .forward) (made .exon-list)
+  numbers-are = rw (means .pass .on .were-read)
+
+  pub few-records : n .count ≤ mostRecords
+  few-records = omega (arith, means .pass .on .few, records-length (n .count) s 0)
+
+  records-are : n .count ≡ length (made .exon-list)
+  records-are = sym (all-count (inputOf n s .records) (made .exon-list) (means .pass .on .were-read) ∙ records-length (n .count) s 0)
+
   first-field : fieldAt s altStart ≡ pos (firstStart (made .exon-list))
   unfolding recordAt
   first-field =
       let starts = subst (FirstIs (natAbs (fieldAt s altStart))) (means .pass .on .were-read) (first-is (n .count) s 0 (is-ready .some)) in
       whole (fieldAt s altStart) (is-ready .start-whole) ∙ ap pos (sym starts)
 
-  pub head-is : withCds (bareHead (n .strand) (fieldAt s altStart) (to .count)) (n .cds) (n .start) (n .end) ≡ headOf made
+  pub head-is : withCds (bareHead (n .strand) (fieldAt s altStart) (to .count) (n .count)) (n .cds) (n .start) (n .end) ≡ headOf made
   head-is =
       let i = inputOf n s in
       let on = means .pass .on in
@@ -80,10 +91,11 @@ module _ (n : Numbers) (s : List ℕ) (to : Sums) (p : Told (judge n s) to) wher
       (cds .start-is ∙ ap startIn (sym (on .coding-is)))
       (cds .end-is ∙ ap endIn (sym (on .coding-is)))
       refl
+      (ap pos records-are)
 
 -- the head of a length that was accepted
 pub length-head-is : (len : ℤ) (bits : ℕ) (start end : ℤ) (m : Measured) → Measures len bits start end m
-    → withCds (record { kind = pos 1; strand = pos 0; first = pos 0; count = pos 0; bits = pos 0; start = pos 0; end = pos 0; length = len }) bits start end ≡ lengthHead m
+    → withCds (record { kind = pos 1; strand = pos 0; first = pos 0; count = pos 0; bits = pos 0; start = pos 0; end = pos 0; length = len; records = pos 0 }) bits start end ≡ lengthHead m
 length-head-is len bits start end m a =
     let cds = cds-pass (startOf bits start) (endOf bits end) (m .bases) (a .both-or-none) (a .cds-fits) in
     head-eq refl refl refl refl
@@ -91,3 +103,4 @@ length-head-is len bits start end m a =
     (cds .start-is ∙ ap startIn (sym (a .coding-is)))
     (cds .end-is ∙ ap endIn (sym (a .coding-is)))
     (a .length-is)
+    refl

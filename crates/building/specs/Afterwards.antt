@@ -1,11 +1,14 @@
 -- What building answers, and what it leaves in the lent tables. Assumes nothing.
+use Prim.Native.Nat.{ℕ}
+use mathlib.Core.List.{List}
 use lib.IntN.{pos}
 use lib.ListN.{length}
+use Rattle.refusals.specs.Numbers.{mostSegments}
 use Rattle.refusals.specs.Outcome.{Outcome, answered, refused}
-use Rattle.transcript.specs.Building.{firstStart}
+use Rattle.transcript.specs.Building.{firstStart, numbersOf}
 use Rattle.judging.specs.Judging.{Made, Measured, elementsMade}
 use Rattle.transcript.specs.Heads.{strandOf, bitsOf, startIn, endIn}
-use Rattle.segments.specs.Tables.{Tables, tablesOf}
+use Rattle.segments.specs.Tables.{Tables, padded, tablesOf}
 use Rattle.transcript.specs.declared.Head.{Head}
 use Rattle.transcript.specs.declared.Built.{Built}
 use Rattle.transcript.specs.declared.Built.the-variants as answer
@@ -23,6 +26,7 @@ headOf m = record {
   start = startIn (m .coding);
   end = endIn (m .coding);
   length = pos 0;
+  records = pos (length (m .exon-list));
 }
 
 -- the head of what a length makes
@@ -36,6 +40,7 @@ lengthHead m = record {
   start = startIn (m .coding);
   end = endIn (m .coding);
   length = pos (m .bases);
+  records = pos 0;
 }
 
 -- ---- the answer: the refusal's number, or the head
@@ -48,8 +53,12 @@ abbrev pub lengthAnswer : Outcome Measured → Built
 lengthAnswer (refused k) = answer.Refused k
 lengthAnswer (answered m) = answer.Transcript (lengthHead m)
 
--- ---- the tables afterwards: those of the elements, or, after a refusal, as they were
+-- ---- the tables afterwards: those of the elements, and of their exon numbers, or, after a refusal, as they were
 
 abbrev pub tablesAfter : Outcome Made → Tables → Tables
 tablesAfter (refused k) was = was
 tablesAfter (answered m) was = tablesOf (elementsMade m)
+
+abbrev pub exonsAfter : Outcome Made → List ℕ → List ℕ
+exonsAfter (refused k) was = was
+exonsAfter (answered m) was = padded mostSegments (numbersOf (m .forward) (m .exon-list))

@@ -63,6 +63,7 @@ pub fn build_length(length: i32, cds: u32, start: i32, end: i32) -> Built
         start: 0,
         end: 0,
         length,
+        records: 0,
     };
     Built::Transcript(transcript::with_cds(bare, cds, start, end))
 }

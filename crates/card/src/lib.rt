@@ -11,7 +11,7 @@ ghost use Rattle.cigar.specs.Write.{fitted, writtenAnswer, bufferAfter};
 ghost use Rattle.records.specs.Records.{exactly};
 ghost use Rattle.transcript.specs.Heads.{strandOf};
 ghost use Rattle.segments.specs.Tables.{tables};
-ghost use Rattle.building.specs.Afterwards.{builtAnswer, tablesAfter};
+ghost use Rattle.building.specs.Afterwards.{builtAnswer, tablesAfter, exonsAfter};
 ghost use Rattle.card.specs.Layout.{mark, version, startAt, recordsAt};
 ghost use Rattle.whole.specs.Whole.{eqZ};
 ghost use Rattle.fields.specs.Fields.{bytes16};
@@ -178,13 +178,15 @@ pub fn build_card(
     genome: &mut [u32; MOST_STARTS],
     transcript: &mut [u32; MOST_STARTS],
     letters: &mut [u8; MOST_SEGMENTS],
+    exons: &mut [u16; MOST_SEGMENTS],
 ) -> Built
     ensures { λ r. ⌜ r ≡ builtAnswer (judgeCard (now (card .entry))) ⌝ }
     ensures { λ _. ⌜ tables (now (genome .exit)) (now (transcript .exit)) (now (letters .exit)) ≡ tablesAfter (judgeCard (now (card .entry))) (tables (now (genome .entry)) (now (transcript .entry)) (now (letters .entry))) ⌝ }
+    ensures { λ _. ⌜ now (exons .exit) ≡ exonsAfter (judgeCard (now (card .entry))) (now (exons .entry)) ⌝ }
 {
     match read_card(card) {
         ReadCard::Card(n) => {
-            building::build(n, &card[RECORDS_AT..], genome, transcript, letters)
+            building::build(n, &card[RECORDS_AT..], genome, transcript, letters, exons)
         }
         ReadCard::Refused(k) => Built::Refused(k),
     }

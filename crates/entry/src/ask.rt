@@ -1,4 +1,4 @@
-// The questions for the host, over a lent head and the three lent tables.
+// The questions for the host, over a lent head and the four lent tables.
 ghost use mathlib.Core.Path.{_≡_};
 ghost use Rattle.layout.specs.Layout.{lentAt};
 ghost use Rattle.entry.specs.Told.{toldGToN, toldGToC, toldNToG, toldNToC, toldCToN, toldCToG, toldInBounds, toldCoding};
@@ -11,80 +11,117 @@ use refusals::MOST_STARTS;
 
 #[no_mangle]
 pub extern "C" fn txc_g_to_n(
-    head: &[i32; 8],
+    head: &[i32; 9],
     genome: &[u32; MOST_STARTS],
     transcript: &[u32; MOST_STARTS],
     letters: &[u8; MOST_SEGMENTS],
+    exons: &[u16; MOST_SEGMENTS],
     start: i32,
     end: i32,
     missing: u32,
     strict: bool,
 ) -> Answer
-    ensures { λ r. ⌜ r ≡ toldGToN (lentAt (now (head .entry)) (now (genome .entry)) (now (transcript .entry)) (now (letters .entry))) start end missing strict ⌝ }
+    ensures { λ r. ⌜ r ≡ toldGToN (lentAt (now (head .entry)) (now (genome .entry)) (now (transcript .entry)) (now (letters .entry)) (now (exons .entry))) start end missing strict ⌝ }
 {
     let g = take::g_asked(start, end, missing);
-    lay::lay_n(mapper::g_to_n(take::head_of(head), genome, transcript, letters, g, strict))
+    lay::lay_n(mapper::g_to_n(
+        take::head_of(head),
+        genome,
+        transcript,
+        letters,
+        exons,
+        g,
+        strict,
+    ))
 }
 
 #[no_mangle]
 pub extern "C" fn txc_g_to_c(
-    head: &[i32; 8],
+    head: &[i32; 9],
     genome: &[u32; MOST_STARTS],
     transcript: &[u32; MOST_STARTS],
     letters: &[u8; MOST_SEGMENTS],
+    exons: &[u16; MOST_SEGMENTS],
     start: i32,
     end: i32,
     missing: u32,
     strict: bool,
 ) -> Answer
-    ensures { λ r. ⌜ r ≡ toldGToC (lentAt (now (head .entry)) (now (genome .entry)) (now (transcript .entry)) (now (letters .entry))) start end missing strict ⌝ }
+    ensures { λ r. ⌜ r ≡ toldGToC (lentAt (now (head .entry)) (now (genome .entry)) (now (transcript .entry)) (now (letters .entry)) (now (exons .entry))) start end missing strict ⌝ }
 {
     let g = take::g_asked(start, end, missing);
-    lay::lay_c(mapper::g_to_c(take::head_of(head), genome, transcript, letters, g, strict))
+    lay::lay_c(mapper::g_to_c(
+        take::head_of(head),
+        genome,
+        transcript,
+        letters,
+        exons,
+        g,
+        strict,
+    ))
 }
 
 #[no_mangle]
 pub extern "C" fn txc_n_to_g(
-    head: &[i32; 8],
+    head: &[i32; 9],
     genome: &[u32; MOST_STARTS],
     transcript: &[u32; MOST_STARTS],
     letters: &[u8; MOST_SEGMENTS],
+    exons: &[u16; MOST_SEGMENTS],
     start: i32,
     start_offset: i32,
     end: i32,
     end_offset: i32,
     strict: bool,
 ) -> Answer
-    ensures { λ r. ⌜ r ≡ toldNToG (lentAt (now (head .entry)) (now (genome .entry)) (now (transcript .entry)) (now (letters .entry))) start «start_offset» end «end_offset» strict ⌝ }
+    ensures { λ r. ⌜ r ≡ toldNToG (lentAt (now (head .entry)) (now (genome .entry)) (now (transcript .entry)) (now (letters .entry)) (now (exons .entry))) start «start_offset» end «end_offset» strict ⌝ }
 {
     let n = take::n_asked(start, start_offset, end, end_offset);
-    lay::lay_g(mapper::n_to_g(take::head_of(head), genome, transcript, letters, n, strict))
+    lay::lay_g(mapper::n_to_g(
+        take::head_of(head),
+        genome,
+        transcript,
+        letters,
+        exons,
+        n,
+        strict,
+    ))
 }
 
 #[no_mangle]
 pub extern "C" fn txc_n_to_c(
-    head: &[i32; 8],
+    head: &[i32; 9],
     genome: &[u32; MOST_STARTS],
     transcript: &[u32; MOST_STARTS],
     letters: &[u8; MOST_SEGMENTS],
+    exons: &[u16; MOST_SEGMENTS],
     start: i32,
     start_offset: i32,
     end: i32,
     end_offset: i32,
     strict: bool,
 ) -> Answer
-    ensures { λ r. ⌜ r ≡ toldNToC (lentAt (now (head .entry)) (now (genome .entry)) (now (transcript .entry)) (now (letters .entry))) start «start_offset» end «end_offset» strict ⌝ }
+    ensures { λ r. ⌜ r ≡ toldNToC (lentAt (now (head .entry)) (now (genome .entry)) (now (transcript .entry)) (now (letters .entry)) (now (exons .entry))) start «start_offset» end «end_offset» strict ⌝ }
 {
     let n = take::n_asked(start, start_offset, end, end_offset);
-    lay::lay_c_plain(mapper::n_to_c(take::head_of(head), genome, transcript, letters, n, strict))
+    lay::lay_c_plain(mapper::n_to_c(
+        take::head_of(head),
+        genome,
+        transcript,
+        letters,
+        exons,
+        n,
+        strict,
+    ))
 }
 
 #[no_mangle]
 pub extern "C" fn txc_c_to_n(
-    head: &[i32; 8],
+    head: &[i32; 9],
     genome: &[u32; MOST_STARTS],
     transcript: &[u32; MOST_STARTS],
     letters: &[u8; MOST_SEGMENTS],
+    exons: &[u16; MOST_SEGMENTS],
     start: i32,
     start_offset: i32,
     start_star: bool,
@@ -93,18 +130,27 @@ pub extern "C" fn txc_c_to_n(
     end_star: bool,
     strict: bool,
 ) -> Answer
-    ensures { λ r. ⌜ r ≡ toldCToN (lentAt (now (head .entry)) (now (genome .entry)) (now (transcript .entry)) (now (letters .entry))) start «start_offset» «start_star» end «end_offset» «end_star» strict ⌝ }
+    ensures { λ r. ⌜ r ≡ toldCToN (lentAt (now (head .entry)) (now (genome .entry)) (now (transcript .entry)) (now (letters .entry)) (now (exons .entry))) start «start_offset» «start_star» end «end_offset» «end_star» strict ⌝ }
 {
     let c = take::c_asked(start, start_offset, start_star, end, end_offset, end_star);
-    lay::lay_n_plain(mapper::c_to_n(take::head_of(head), genome, transcript, letters, c, strict))
+    lay::lay_n_plain(mapper::c_to_n(
+        take::head_of(head),
+        genome,
+        transcript,
+        letters,
+        exons,
+        c,
+        strict,
+    ))
 }
 
 #[no_mangle]
 pub extern "C" fn txc_c_to_g(
-    head: &[i32; 8],
+    head: &[i32; 9],
     genome: &[u32; MOST_STARTS],
     transcript: &[u32; MOST_STARTS],
     letters: &[u8; MOST_SEGMENTS],
+    exons: &[u16; MOST_SEGMENTS],
     start: i32,
     start_offset: i32,
     start_star: bool,
@@ -113,24 +159,33 @@ pub extern "C" fn txc_c_to_g(
     end_star: bool,
     strict: bool,
 ) -> Answer
-    ensures { λ r. ⌜ r ≡ toldCToG (lentAt (now (head .entry)) (now (genome .entry)) (now (transcript .entry)) (now (letters .entry))) start «start_offset» «start_star» end «end_offset» «end_star» strict ⌝ }
+    ensures { λ r. ⌜ r ≡ toldCToG (lentAt (now (head .entry)) (now (genome .entry)) (now (transcript .entry)) (now (letters .entry)) (now (exons .entry))) start «start_offset» «start_star» end «end_offset» «end_star» strict ⌝ }
 {
     let c = take::c_asked(start, start_offset, start_star, end, end_offset, end_star);
-    lay::lay_g(mapper::c_to_g(take::head_of(head), genome, transcript, letters, c, strict))
+    lay::lay_g(mapper::c_to_g(
+        take::head_of(head),
+        genome,
+        transcript,
+        letters,
+        exons,
+        c,
+        strict,
+    ))
 }
 
 // Whether a g. interval lies in the bounds of the alignment.
 #[no_mangle]
 pub extern "C" fn txc_in_bounds(
-    head: &[i32; 8],
+    head: &[i32; 9],
     genome: &[u32; MOST_STARTS],
     transcript: &[u32; MOST_STARTS],
     letters: &[u8; MOST_SEGMENTS],
+    exons: &[u16; MOST_SEGMENTS],
     start: i32,
     end: i32,
     missing: u32,
 ) -> Said
-    ensures { λ r. ⌜ r ≡ toldInBounds (lentAt (now (head .entry)) (now (genome .entry)) (now (transcript .entry)) (now (letters .entry))) start end missing ⌝ }
+    ensures { λ r. ⌜ r ≡ toldInBounds (lentAt (now (head .entry)) (now (genome .entry)) (now (transcript .entry)) (now (letters .entry)) (now (exons .entry))) start end missing ⌝ }
 {
     let g = take::g_asked(start, end, missing);
     lay::lay_said(mapper::is_g_interval_in_bounds(
@@ -138,6 +193,7 @@ pub extern "C" fn txc_in_bounds(
         genome,
         transcript,
         letters,
+        exons,
         g,
     ))
 }
@@ -145,12 +201,19 @@ pub extern "C" fn txc_in_bounds(
 // Whether the transcript codes.
 #[no_mangle]
 pub extern "C" fn txc_is_coding(
-    head: &[i32; 8],
+    head: &[i32; 9],
     genome: &[u32; MOST_STARTS],
     transcript: &[u32; MOST_STARTS],
     letters: &[u8; MOST_SEGMENTS],
+    exons: &[u16; MOST_SEGMENTS],
 ) -> Said
-    ensures { λ r. ⌜ r ≡ toldCoding (lentAt (now (head .entry)) (now (genome .entry)) (now (transcript .entry)) (now (letters .entry))) ⌝ }
+    ensures { λ r. ⌜ r ≡ toldCoding (lentAt (now (head .entry)) (now (genome .entry)) (now (transcript .entry)) (now (letters .entry)) (now (exons .entry))) ⌝ }
 {
-    lay::lay_said(mapper::is_coding_transcript(take::head_of(head), genome, transcript, letters))
+    lay::lay_said(mapper::is_coding_transcript(
+        take::head_of(head),
+        genome,
+        transcript,
+        letters,
+        exons,
+    ))
 }

@@ -1,11 +1,11 @@
-// Building for the host: the head and the three tables are lent, and a refusal leaves all of them. And a card, written into a lent buffer.
+// Building for the host: the head and the four tables are lent, and a refusal leaves all of them. And a card, written into a lent buffer.
 ghost use mathlib.Core.Path.{_≡_};
 ghost use lib.ListN.{length};
 ghost use Rattle.cigar.specs.Write.{writtenAnswer, bufferAfter};
 ghost use Rattle.segments.specs.Tables.{tables};
 ghost use Rattle.judging.specs.Input.{numbersOf};
 ghost use Rattle.judging.specs.Judging.{judge, judgeLength};
-ghost use Rattle.building.specs.Afterwards.{builtAnswer, lengthAnswer, tablesAfter};
+ghost use Rattle.building.specs.Afterwards.{builtAnswer, lengthAnswer, tablesAfter, exonsAfter};
 ghost use Rattle.card.specs.Writing.{cardWriting, judgeCard};
 ghost use Rattle.layout.specs.Layout.{headRow};
 ghost use Rattle.entry.specs.Boundary.{builtNumber, builtHead, writtenLaid};
@@ -17,8 +17,8 @@ use transcript::Built;
 use transcript::Head;
 use transcript::Numbers;
 
-// The eight numbers of a head, laid out in lent memory.
-fn lay_head(h: Head, head: &mut [i32; 8])
+// The nine numbers of a head, laid out in lent memory.
+fn lay_head(h: Head, head: &mut [i32; 9])
     ensures { λ _. ⌜ now (head .exit) ≡ headRow h ⌝ }
 {
     *head = [
@@ -30,11 +30,12 @@ fn lay_head(h: Head, head: &mut [i32; 8])
         h.start,
         h.end,
         h.length,
+        h.records,
     ];
 }
 
 // 0 and the head laid out, or a refusal's number with the head as it was.
-fn lay_built(b: Built, head: &mut [i32; 8]) -> u32
+fn lay_built(b: Built, head: &mut [i32; 9]) -> u32
     ensures { λ r. ⌜ r ≡ builtNumber b ⌝ }
     ensures { λ _. ⌜ now (head .exit) ≡ builtHead b (now (head .entry)) ⌝ }
 {
@@ -69,17 +70,19 @@ pub extern "C" fn txc_build(
     cds_end: i32,
     count: usize,
     records: &[u8],
-    head: &mut [i32; 8],
+    head: &mut [i32; 9],
     genome: &mut [u32; MOST_STARTS],
     transcript: &mut [u32; MOST_STARTS],
     letters: &mut [u8; MOST_SEGMENTS],
+    exons: &mut [u16; MOST_SEGMENTS],
 ) -> u32
     ensures { λ r. ⌜ r ≡ builtNumber (builtAnswer (judge (numbersOf strand cds «cds_start» «cds_end» count) (now (records .entry)))) ⌝ }
     ensures { λ _. ⌜ now (head .exit) ≡ builtHead (builtAnswer (judge (numbersOf strand cds «cds_start» «cds_end» count) (now (records .entry)))) (now (head .entry)) ⌝ }
     ensures { λ _. ⌜ tables (now (genome .exit)) (now (transcript .exit)) (now (letters .exit)) ≡ tablesAfter (judge (numbersOf strand cds «cds_start» «cds_end» count) (now (records .entry))) (tables (now (genome .entry)) (now (transcript .entry)) (now (letters .entry))) ⌝ }
+    ensures { λ _. ⌜ now (exons .exit) ≡ exonsAfter (judge (numbersOf strand cds «cds_start» «cds_end» count) (now (records .entry))) (now (exons .entry)) ⌝ }
 {
     let numbers = numbers_of(strand, cds, cds_start, cds_end, count);
-    let built = building::build(numbers, records, genome, transcript, letters);
+    let built = building::build(numbers, records, genome, transcript, letters, exons);
     lay_built(built, head)
 }
 
@@ -87,16 +90,18 @@ pub extern "C" fn txc_build(
 #[no_mangle]
 pub extern "C" fn txc_build_card(
     card: &[u8],
-    head: &mut [i32; 8],
+    head: &mut [i32; 9],
     genome: &mut [u32; MOST_STARTS],
     transcript: &mut [u32; MOST_STARTS],
     letters: &mut [u8; MOST_SEGMENTS],
+    exons: &mut [u16; MOST_SEGMENTS],
 ) -> u32
     ensures { λ r. ⌜ r ≡ builtNumber (builtAnswer (judgeCard (now (card .entry)))) ⌝ }
     ensures { λ _. ⌜ now (head .exit) ≡ builtHead (builtAnswer (judgeCard (now (card .entry)))) (now (head .entry)) ⌝ }
     ensures { λ _. ⌜ tables (now (genome .exit)) (now (transcript .exit)) (now (letters .exit)) ≡ tablesAfter (judgeCard (now (card .entry))) (tables (now (genome .entry)) (now (transcript .entry)) (now (letters .entry))) ⌝ }
+    ensures { λ _. ⌜ now (exons .exit) ≡ exonsAfter (judgeCard (now (card .entry))) (now (exons .entry)) ⌝ }
 {
-    let built = card::build_card(card, genome, transcript, letters);
+    let built = card::build_card(card, genome, transcript, letters, exons);
     lay_built(built, head)
 }
 
@@ -107,7 +112,7 @@ pub extern "C" fn txc_build_length(
     cds: u32,
     cds_start: i32,
     cds_end: i32,
-    head: &mut [i32; 8],
+    head: &mut [i32; 9],
 ) -> u32
     ensures { λ r. ⌜ r ≡ builtNumber (lengthAnswer (judgeLength length cds «cds_start» «cds_end»)) ⌝ }
     ensures { λ _. ⌜ now (head .exit) ≡ builtHead (lengthAnswer (judgeLength length cds «cds_start» «cds_end»)) (now (head .entry)) ⌝ }

@@ -10,14 +10,15 @@ use worklist::Steps;
 
 #[no_mangle]
 pub extern "C" fn txc_worklist<'a>(
-    head: &'a [i32; 8],
+    head: &'a [i32; 9],
     genome: &'a [u32; MOST_STARTS],
     transcript: &'a [u32; MOST_STARTS],
     letters: &'a [u8; MOST_SEGMENTS],
+    exons: &'a [u16; MOST_SEGMENTS],
     slots: &mut [Slot],
 ) -> Steps
-    ensures { λ r. ⌜ (r ≡ toldSteps (lentAt (now (head .entry)) (now (genome .entry)) (now (transcript .entry)) (now (letters .entry))) (now (slots .entry))) × (now (slots .exit) ≡ toldSlots (lentAt (now (head .entry)) (now (genome .entry)) (now (transcript .entry)) (now (letters .entry))) (now (slots .entry))) ⌝ }
+    ensures { λ r. ⌜ (r ≡ toldSteps (lentAt (now (head .entry)) (now (genome .entry)) (now (transcript .entry)) (now (letters .entry)) (now (exons .entry))) (now (slots .entry))) × (now (slots .exit) ≡ toldSlots (lentAt (now (head .entry)) (now (genome .entry)) (now (transcript .entry)) (now (letters .entry)) (now (exons .entry))) (now (slots .entry))) ⌝ }
 {
     let known = take::head_of(head);
-    worklist::answer_list(known, genome, transcript, letters, slots)
+    worklist::answer_list(known, genome, transcript, letters, exons, slots)
 }

@@ -43,7 +43,7 @@ entries-length side f [] = refl
 entries-length side f (x ∷ xs) = omega (arith, entries-length side (f + side x) xs)
 
 -- a run from the front and zeros behind it, up to the end, are all that a table holds
-padded-whole : (entries table : List ℕ) {k n : ℕ} → length entries ≡ k → length table ≡ n → k ≤ n → sets (sets table 0 entries) k (replicate (n - k) 0) ≡ padded n entries
+pub padded-whole : (entries table : List ℕ) {k n : ℕ} → length entries ≡ k → length table ≡ n → k ≤ n → sets (sets table 0 entries) k (replicate (n - k) 0) ≡ padded n entries
 unfolding padded
 padded-whole entries table {k} {n} e long h =
     let rest : List ℕ = replicate (n - k) 0 in

@@ -11,7 +11,7 @@ use Rattle.cigar.specs.Elements.{Element}
 use Rattle.cigar.specs.Text.{elementsIn}
 use Rattle.segments.specs.Tables.{Tables, tables}
 use Rattle.records.specs.Records.{Record}
-use Rattle.transcript.specs.Building.{elementsAfter, elementsOf}
+use Rattle.transcript.specs.Building.{elementsAfter, elementsOf, numbersAfter, numbersOf}
 use Rattle.reading.specs.Reading.{between, readNext, Exons}
 use Rattle.reading.specs.Tallies.{oneOn}
 use Rattle.reading.specs.declared.Sums.{Sums}
@@ -72,6 +72,15 @@ elementsPast forward e (refused k) = []
 abbrev pub elementsAll : Bool → Exons → List Element
 elementsAll forward (answered xs) = elementsOf forward xs
 elementsAll forward (refused k) = []
+
+-- their exon numbers: of records after one that has so many before it, and of all
+abbrev pub numbersPast : Bool → ℕ → Exons → List ℕ
+numbersPast forward before (answered xs) = numbersAfter forward before xs
+numbersPast forward before (refused k) = []
+
+abbrev pub numbersAll : Bool → Exons → List ℕ
+numbersAll forward (answered xs) = numbersOf forward xs
+numbersAll forward (refused k) = []
 
 -- ---- sums
 

@@ -5,10 +5,12 @@ ghost use Prim.Native.Nat.{_≤_};
 ghost use lib.IntN.{pos, natAbs};
 ghost use lib.Signed.{leZ};
 ghost use Rattle.refusals.specs.Numbers.{mostSegments};
-ghost use Rattle.holding.specs.Holding.{segmentsIn, headHolds, cdsHolds, totalsHold, lent, recordsHold, lengthHolds, holds};
+ghost use Rattle.holding.specs.Holding.{segmentsIn, recordsIn, isForward, headHolds, cdsHolds, totalsHold, lent, recordsHold, lengthHolds, holds};
 use refusals::MOST_BASES;
+use refusals::MOST_RECORDS;
 use refusals::MOST_SEGMENTS;
 use refusals::MOST_STARTS;
+use together::exons;
 use transcript::BOTH_GIVEN;
 use transcript::Head;
 use transcript::NONE_GIVEN;
@@ -39,25 +41,44 @@ fn cds_holds(head: Head, length: u32) -> bool
     false
 }
 
-// Whether the strand is 1 or -1, there are 1 to 2,048 segments, and the first start is not negative.
+// Whether the strand is 1 or -1, there are 1 to 2,048 segments and 1 to 512 records, and the first start is not negative.
 fn head_holds(head: Head) -> bool
     ensures { λ r. ⌜ r ≡ headHolds head ⌝ }
 {
     let strand = head.strand;
     let count = head.count;
+    let records = head.records;
     let first = head.first;
     ((strand == 1) | (strand == -1))
         & ((1 <= count) & ((count as i64) <= (MOST_SEGMENTS as i64)))
+        & ((1 <= records) & ((records as i64) <= (MOST_RECORDS as i64)))
         & (0 <= first)
 }
 
 // How many segments a right head tells of.
 pub fn segment_count(head: Head) -> usize
     requires { ⌜ headHolds head ≡ true ⌝ }
-    ensures { λ r. ⌜ (r ≡ segmentsIn head) × (r ≤ mostSegments) ⌝ }
+    ensures { λ r. ⌜ (r ≡ segmentsIn head) × (1 ≤ r) × (r ≤ mostSegments) ⌝ }
 {
     let count = natural(head.count);
     count as usize
+}
+
+// How many records a right head tells of.
+pub fn record_count(head: Head) -> u16
+    requires { ⌜ headHolds head ≡ true ⌝ }
+    ensures { λ r. ⌜ r ≡ recordsIn head ⌝ }
+{
+    let records = natural(head.records);
+    records as u16
+}
+
+// Whether the strand of a right head is 1.
+pub fn is_forward(head: Head) -> bool
+    ensures { λ r. ⌜ r ≡ isForward head ⌝ }
+{
+    let strand = head.strand;
+    strand == 1
 }
 
 // The first start of a right head.
@@ -81,16 +102,20 @@ fn records_hold(
     genome: &[u32; MOST_STARTS],
     transcript: &[u32; MOST_STARTS],
     letters: &[u8; MOST_SEGMENTS],
+    exons: &[u16; MOST_SEGMENTS],
 ) -> bool
-    ensures { λ r. ⌜ r ≡ recordsHold (lent head (now (genome .entry)) (now (transcript .entry)) (now (letters .entry))) ⌝ }
+    ensures { λ r. ⌜ r ≡ recordsHold (lent head (now (genome .entry)) (now (transcript .entry)) (now (letters .entry)) (now (exons .entry))) ⌝ }
 {
     if head_holds(head) {
         let first = first_start(head);
         let count = segment_count(head);
+        let forward = is_forward(head);
+        let records = record_count(head);
         let segments = together::segments_hold(genome, transcript, letters, count);
+        let numbers = exons::numbers_hold(letters, exons, count, forward, records);
         let totals = totals_hold(first, genome[count], transcript[count]);
         let cds = cds_holds(head, transcript[count]);
-        segments & totals & cds
+        segments & numbers & totals & cds
     } else {
         false
     }
@@ -114,12 +139,13 @@ pub fn check(
     genome: &[u32; MOST_STARTS],
     transcript: &[u32; MOST_STARTS],
     letters: &[u8; MOST_SEGMENTS],
+    exons: &[u16; MOST_SEGMENTS],
 ) -> bool
-    ensures { λ r. ⌜ r ≡ holds (lent head (now (genome .entry)) (now (transcript .entry)) (now (letters .entry))) ⌝ }
+    ensures { λ r. ⌜ r ≡ holds (lent head (now (genome .entry)) (now (transcript .entry)) (now (letters .entry)) (now (exons .entry))) ⌝ }
 {
     let kind = head.kind;
     if kind == OF_RECORDS {
-        return records_hold(head, genome, transcript, letters);
+        return records_hold(head, genome, transcript, letters, exons);
     }
     if kind == OF_LENGTH {
         return length_holds(head);

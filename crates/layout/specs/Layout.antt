@@ -17,7 +17,7 @@ use Rattle.layout.specs.declared.lay.Said.{Said}
 
 -- ---- what is read
 
--- the eight numbers of a head
+-- the nine numbers of a head
 unfoldable pub headAt : List ℤ → Head
 headAt h = record {
   kind = getD h 0 (pos 0);
@@ -28,15 +28,16 @@ headAt h = record {
   start = getD h 5 (pos 0);
   end = getD h 6 (pos 0);
   length = getD h 7 (pos 0);
+  records = getD h 8 (pos 0);
 }
 
 -- and laid out again
 abbrev pub headRow : Head → List ℤ
-headRow h = h .kind ∷ h .strand ∷ h .first ∷ h .count ∷ h .bits ∷ h .start ∷ h .end ∷ h .length ∷ []
+headRow h = h .kind ∷ h .strand ∷ h .first ∷ h .count ∷ h .bits ∷ h .start ∷ h .end ∷ h .length ∷ h .records ∷ []
 
 -- what is lent: a head's numbers and the tables
-abbrev pub lentAt : List ℤ → List ℕ → List ℕ → List ℕ → Lent
-lentAt h g t l = lent (headAt h) g t l
+abbrev pub lentAt : List ℤ → List ℕ → List ℕ → List ℕ → List ℕ → Lent
+lentAt h g t l e = lent (headAt h) g t l e
 
 -- an end of a g. interval: missing where its bit is set
 abbrev pub gEnd : Bool → ℤ → GAsked
@@ -58,20 +59,21 @@ abbrev pub starOf : Bool → ℕ
 starOf star = cond star 1 0
 
 abbrev pub nowhere : Position
-nowhere = record { base = pos 0; offset = pos 0; star = 0 }
+nowhere = record { base = pos 0; offset = pos 0; star = 0; exon = 0 }
 
-abbrev pub gLaid : GPosition → Position
-gLaid a = record { base = a .base; offset = pos 0; star = 0 }
+-- a position, with its exon's number, 0 where it has none
+abbrev pub gLaid : ℕ → GPosition → Position
+gLaid exon a = record { base = a .base; offset = pos 0; star = 0; exon = exon }
 
-abbrev pub nLaid : NPosition → Position
-nLaid a = record { base = a .base; offset = a .offset; star = 0 }
+abbrev pub nLaid : ℕ → NPosition → Position
+nLaid exon a = record { base = a .base; offset = a .offset; star = 0; exon = exon }
 
-abbrev pub cLaid : CPosition → Position
-cLaid a = record { base = a .base .0; offset = a .offset; star = starOf (a .base .1) }
+abbrev pub cLaid : ℕ → CPosition → Position
+cLaid exon a = record { base = a .base .0; offset = a .offset; star = starOf (a .base .1); exon = exon }
 
 abbrev pub markNumber : paper.Mark → ℕ
-markNumber certain = 1
-markNumber uncertain = 2
+markNumber (certain exons) = 1
+markNumber (uncertain exons) = 2
 markNumber unmarked = 3
 
 -- where it refuses, the number is the refusal's and all else is 0
@@ -79,8 +81,8 @@ abbrev pub refusal : ℕ → Answer
 refusal k = record { number = k; mark = 0; start = nowhere; end = nowhere }
 
 -- an answer of any kind of position
-abbrev pub laid : {P : Type 0} → (P → Position) → paper.Answer P → Answer
-laid place (answered a) = record { number = 0; mark = markNumber (a .mark); start = place (a .interval .from); end = place (a .interval .to) }
+abbrev pub laid : {P : Type 0} → (ℕ → P → Position) → paper.Answer P → Answer
+laid place (answered a) = record { number = 0; mark = markNumber (a .mark); start = place (paper.exonsOf (a .mark) .from) (a .interval .from); end = place (paper.exonsOf (a .mark) .to) (a .interval .to) }
 laid place (refused k) = refusal k
 
 abbrev pub saidLaid : Outcome Bool → Said

@@ -3,19 +3,25 @@ ghost use mathlib.Core.Path.{_≡_};
 ghost use Rattle.positions.specs.Paper.{paperG, paperN, paperC, paperNPlain, paperCPlain, paperSaid, paperGPosition, paperNPosition, paperCPosition};
 ghost use Rattle.layout.specs.Layout.{starOf, gLaid, nLaid, cLaid, refusal, laid, saidLaid};
 use positions::CAnswer;
+use positions::CInterval;
 use positions::CPlain;
 use positions::CPosition;
+use positions::Exons;
 use positions::GAnswer;
+use positions::GInterval;
 use positions::GPosition;
 use positions::NAnswer;
+use positions::NInterval;
 use positions::NPlain;
 use positions::NPosition;
 
+// `exon` is 0 where the mapping carries no exon's number.
 #[repr(C)]
 pub struct Position {
     pub base: i32,
     pub offset: i32,
     pub star: u32,
+    pub exon: u32,
 }
 
 // `mark` is 1 for a certain answer, 2 for an uncertain one, 3 where it bears none.
@@ -46,34 +52,37 @@ pub fn star_number(star: bool) -> u32
     if star { 1 } else { 0 }
 }
 
-fn g_position(a: GPosition) -> Position
-    ensures { λ r. ⌜ r ≡ gLaid (paperGPosition a) ⌝ }
+fn g_position(exon: u16, a: GPosition) -> Position
+    ensures { λ r. ⌜ r ≡ gLaid exon (paperGPosition a) ⌝ }
 {
     Position {
         base: a.base,
         offset: 0,
         star: 0,
+        exon: exon as u32,
     }
 }
 
-fn n_position(a: NPosition) -> Position
-    ensures { λ r. ⌜ r ≡ nLaid (paperNPosition a) ⌝ }
+fn n_position(exon: u16, a: NPosition) -> Position
+    ensures { λ r. ⌜ r ≡ nLaid exon (paperNPosition a) ⌝ }
 {
     Position {
         base: a.base,
         offset: a.offset,
         star: 0,
+        exon: exon as u32,
     }
 }
 
-fn c_position(a: CPosition) -> Position
-    ensures { λ r. ⌜ r ≡ cLaid (paperCPosition a) ⌝ }
+fn c_position(exon: u16, a: CPosition) -> Position
+    ensures { λ r. ⌜ r ≡ cLaid exon (paperCPosition a) ⌝ }
 {
     let star = star_number(a.star);
     Position {
         base: a.base,
         offset: a.offset,
         star,
+        exon: exon as u32,
     }
 }
 
@@ -87,18 +96,23 @@ fn refusal_of(k: u8) -> Answer
             base: 0,
             offset: 0,
             star: 0,
+            exon: 0,
         },
         end: Position {
             base: 0,
             offset: 0,
             star: 0,
+            exon: 0,
         },
     }
 }
 
-fn answer_of(mark: u32, start: Position, end: Position) -> Answer
-    ensures { λ r. ⌜ r ≡ record { number = 0; mark = mark; start = start; end = end } ⌝ }
+// An interval laid out, with its mark's number and its exons.
+fn lay_g_interval(mark: u32, i: GInterval, exons: Exons) -> Answer
+    ensures { λ r. ⌜ r ≡ record { number = 0; mark = mark; start = gLaid (exons .from) (paperGPosition (i .from)); end = gLaid (exons .to) (paperGPosition (i .to)) } ⌝ }
 {
+    let start = g_position(exons.from, i.from);
+    let end = g_position(exons.to, i.to);
     Answer {
         number: 0,
         mark,
@@ -111,9 +125,22 @@ pub fn lay_g(a: GAnswer) -> Answer
     ensures { λ r. ⌜ r ≡ laid gLaid (paperG a) ⌝ }
 {
     match a {
-        GAnswer::Certain(i) => answer_of(1, g_position(i.from), g_position(i.to)),
-        GAnswer::Uncertain(i) => answer_of(2, g_position(i.from), g_position(i.to)),
+        GAnswer::Certain(i, exons) => lay_g_interval(1, i, exons),
+        GAnswer::Uncertain(i, exons) => lay_g_interval(2, i, exons),
         GAnswer::Refused(k) => refusal_of(k),
+    }
+}
+
+fn lay_n_interval(mark: u32, i: NInterval, exons: Exons) -> Answer
+    ensures { λ r. ⌜ r ≡ record { number = 0; mark = mark; start = nLaid (exons .from) (paperNPosition (i .from)); end = nLaid (exons .to) (paperNPosition (i .to)) } ⌝ }
+{
+    let start = n_position(exons.from, i.from);
+    let end = n_position(exons.to, i.to);
+    Answer {
+        number: 0,
+        mark,
+        start,
+        end,
     }
 }
 
@@ -121,9 +148,22 @@ pub fn lay_n(a: NAnswer) -> Answer
     ensures { λ r. ⌜ r ≡ laid nLaid (paperN a) ⌝ }
 {
     match a {
-        NAnswer::Certain(i) => answer_of(1, n_position(i.from), n_position(i.to)),
-        NAnswer::Uncertain(i) => answer_of(2, n_position(i.from), n_position(i.to)),
+        NAnswer::Certain(i, exons) => lay_n_interval(1, i, exons),
+        NAnswer::Uncertain(i, exons) => lay_n_interval(2, i, exons),
         NAnswer::Refused(k) => refusal_of(k),
+    }
+}
+
+fn lay_c_interval(mark: u32, i: CInterval, exons: Exons) -> Answer
+    ensures { λ r. ⌜ r ≡ record { number = 0; mark = mark; start = cLaid (exons .from) (paperCPosition (i .from)); end = cLaid (exons .to) (paperCPosition (i .to)) } ⌝ }
+{
+    let start = c_position(exons.from, i.from);
+    let end = c_position(exons.to, i.to);
+    Answer {
+        number: 0,
+        mark,
+        start,
+        end,
     }
 }
 
@@ -131,8 +171,8 @@ pub fn lay_c(a: CAnswer) -> Answer
     ensures { λ r. ⌜ r ≡ laid cLaid (paperC a) ⌝ }
 {
     match a {
-        CAnswer::Certain(i) => answer_of(1, c_position(i.from), c_position(i.to)),
-        CAnswer::Uncertain(i) => answer_of(2, c_position(i.from), c_position(i.to)),
+        CAnswer::Certain(i, exons) => lay_c_interval(1, i, exons),
+        CAnswer::Uncertain(i, exons) => lay_c_interval(2, i, exons),
         CAnswer::Refused(k) => refusal_of(k),
     }
 }
@@ -141,7 +181,7 @@ pub fn lay_n_plain(a: NPlain) -> Answer
     ensures { λ r. ⌜ r ≡ laid nLaid (paperNPlain a) ⌝ }
 {
     match a {
-        NPlain::Told(i) => answer_of(3, n_position(i.from), n_position(i.to)),
+        NPlain::Told(i) => lay_n_interval(3, i, Exons { from: 0, to: 0 }),
         NPlain::Refused(k) => refusal_of(k),
     }
 }
@@ -150,7 +190,7 @@ pub fn lay_c_plain(a: CPlain) -> Answer
     ensures { λ r. ⌜ r ≡ laid cLaid (paperCPlain a) ⌝ }
 {
     match a {
-        CPlain::Told(i) => answer_of(3, c_position(i.from), c_position(i.to)),
+        CPlain::Told(i) => lay_c_interval(3, i, Exons { from: 0, to: 0 }),
         CPlain::Refused(k) => refusal_of(k),
     }
 }

@@ -1,4 +1,4 @@
-// What a host hands over, taken apart: a head of eight numbers, and the ends of an interval.
+// What a host hands over, taken apart: a head of nine numbers, and the ends of an interval.
 ghost use mathlib.Core.Path.{_≡_};
 ghost use Rattle.positions.specs.Paper.{paperGAsked, paperGQuestion, paperNQuestion, paperCQuestion};
 ghost use Rattle.layout.specs.Layout.{headAt, gEnd, gAsked, nAsked, cAsked};
@@ -10,8 +10,8 @@ use positions::NAsked;
 use positions::NQuestion;
 use transcript::Head;
 
-// The head that eight lent numbers make.
-pub fn head_of(head: &[i32; 8]) -> Head
+// The head that nine lent numbers make.
+pub fn head_of(head: &[i32; 9]) -> Head
     ensures { λ r. ⌜ r ≡ headAt (now (head .entry)) ⌝ }
 {
     let kind = head[0];
@@ -22,6 +22,7 @@ pub fn head_of(head: &[i32; 8]) -> Head
     let start = head[5];
     let end = head[6];
     let length = head[7];
+    let records = head[8];
     Head {
         kind,
         strand,
@@ -31,6 +32,7 @@ pub fn head_of(head: &[i32; 8]) -> Head
         start,
         end,
         length,
+        records,
     }
 }
 

@@ -11,7 +11,7 @@ ghost use Rattle.lines.specs.Listing.{numberText, numbersText, signOf, l
 ghost use Rattle.lines.specs.Tables.{lineAt, linesFrom};
 ghost use Rattle.cigar.specs.Lent.{atFront};
 ghost use Rattle.segments.specs.Tables.{tables, Holds, read};
-ghost use Rattle.building.specs.Afterwards.{tablesAfter};
+ghost use Rattle.building.specs.Afterwards.{tablesAfter, exonsAfter};
 ghost use Rattle.card.specs.Putting.{Put};
 ghost use Rattle.card.specs.Writing.{judgeCard};
 ghost use Rattle.lines.specs.Lengths.{mostNumber, mostNumbers, mostHeader, mostLine, mostListing};
@@ -203,6 +203,7 @@ pub fn list_card(
     genome: &mut [u32; MOST_STARTS],
     transcript: &mut [u32; MOST_STARTS],
     letters: &mut [u8; MOST_SEGMENTS],
+    exons: &mut [u16; MOST_SEGMENTS],
     buffer: &mut [u8],
 ) -> usize
     requires { ⌜ mostListing ≤ length (now buffer) ⌝ }
@@ -210,8 +211,9 @@ pub fn list_card(
     ensures within { λ r. ⌜ r ≤ mostListing ⌝ }
     ensures { λ _. ⌜ now (buffer .exit) ≡ atFront (judgmentText (judgeCard (now (card .entry)))) (now (buffer .entry)) ⌝ }
     ensures { λ _. ⌜ tables (now (genome .exit)) (now (transcript .exit)) (now (letters .exit)) ≡ tablesAfter (judgeCard (now (card .entry))) (tables (now (genome .entry)) (now (transcript .entry)) (now (letters .entry))) ⌝ }
+    ensures { λ _. ⌜ now (exons .exit) ≡ exonsAfter (judgeCard (now (card .entry))) (now (exons .entry)) ⌝ }
 {
-    match card::build_card(card, genome, transcript, letters) {
+    match card::build_card(card, genome, transcript, letters, exons) {
         Built::Transcript(head) => {
             let forward = is_plus(head.strand as i64);
             let count = count_in(head.count);

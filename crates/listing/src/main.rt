@@ -12,6 +12,7 @@ fn main() {
     let mut genome = [0u32; MOST_STARTS];
     let mut transcript = [0u32; MOST_STARTS];
     let mut letters = [0u8; MOST_SEGMENTS];
+    let mut exons = [0u16; MOST_SEGMENTS];
     let mut text = [0u8; MOST_LISTING];
     let read = io::read_full(STDIN_FILENO, &mut card);
     let size = lines::list_card(
@@ -19,6 +20,7 @@ fn main() {
         &mut genome,
         &mut transcript,
         &mut letters,
+        &mut exons,
         &mut text,
     );
     io::write_all(STDOUT_FILENO, &text[..size]);

@@ -8,7 +8,7 @@ use Rattle.whole.specs.Whole.{if_then_else_}
 use Rattle.fields.specs.Fields.{le32}
 use Rattle.cigar.specs.Lent.{atFront}
 use Rattle.segments.specs.Tables.{Tables}
-use Rattle.building.specs.Afterwards.{tablesAfter}
+use Rattle.building.specs.Afterwards.{tablesAfter, exonsAfter}
 use Rattle.card.specs.Writing.{judgeCard}
 use Rattle.lines.specs.Listing.{judgmentText}
 
@@ -25,10 +25,14 @@ cardsFrom (suc k) left = if isCut left then [] else take (le32 left 0) (drop 4 l
 abbrev pub cardsIn : List ℕ → List (List ℕ)
 cardsIn s = cardsFrom (length s) s
 
--- the tables, and the buffer that each card's text is put at the front of
+-- the tables, the exon numbers, and the buffer that each card's text is put at the front of
 unfoldable pub tablesAll : List (List ℕ) → Tables → Tables
 tablesAll [] t = t
 tablesAll (card ∷ cards) t = tablesAll cards (tablesAfter (judgeCard card) t)
+
+unfoldable pub exonsAll : List (List ℕ) → List ℕ → List ℕ
+exonsAll [] e = e
+exonsAll (card ∷ cards) e = exonsAll cards (exonsAfter (judgeCard card) e)
 
 unfoldable pub textAll : List (List ℕ) → List ℕ → List ℕ
 textAll [] text = text

@@ -5,7 +5,7 @@ ghost use Prim.Native.Nat.{_≤_};
 ghost use lib.ListN.{length};
 ghost use Rattle.segments.specs.Tables.{tables};
 ghost use Rattle.lines.specs.Lengths.{mostListing};
-ghost use Rattle.listings.specs.Cards.{cardsIn, tablesAll, textAll};
+ghost use Rattle.listings.specs.Cards.{cardsIn, tablesAll, exonsAll, textAll};
 use libc::STDIN_FILENO;
 use libc::STDOUT_FILENO;
 use lines::MOST_LISTING;
@@ -24,10 +24,12 @@ fn list_all(
     genome: &mut [u32; MOST_STARTS],
     transcript: &mut [u32; MOST_STARTS],
     letters: &mut [u8; MOST_SEGMENTS],
+    exons: &mut [u16; MOST_SEGMENTS],
     text: &mut [u8],
 )
     requires { ⌜ mostListing ≤ length (now text) ⌝ }
     ensures { λ _. ⌜ tables (now (genome .exit)) (now (transcript .exit)) (now (letters .exit)) ≡ tablesAll (cardsIn (now (cards .entry))) (tables (now (genome .entry)) (now (transcript .entry)) (now (letters .entry))) ⌝ }
+    ensures { λ _. ⌜ now (exons .exit) ≡ exonsAll (cardsIn (now (cards .entry))) (now (exons .entry)) ⌝ }
     ensures { λ _. ⌜ now (text .exit) ≡ textAll (cardsIn (now (cards .entry))) (now (text .entry)) ⌝ }
 {
     let mut at = 0;
@@ -38,7 +40,7 @@ fn list_all(
             return;
         }
         let to = from + size;
-        let n = lines::list_card(&cards[from..to], genome, transcript, letters, text);
+        let n = lines::list_card(&cards[from..to], genome, transcript, letters, exons, text);
         io::write_all(STDOUT_FILENO, &text[..n]);
         at = to;
     }
@@ -49,6 +51,7 @@ fn main() {
     let mut genome = [0u32; MOST_STARTS];
     let mut transcript = [0u32; MOST_STARTS];
     let mut letters = [0u8; MOST_SEGMENTS];
+    let mut exons = [0u16; MOST_SEGMENTS];
     let mut text = [0u8; MOST_LISTING];
     let read = io::read_full(STDIN_FILENO, &mut cards);
     list_all(
@@ -56,6 +59,7 @@ fn main() {
         &mut genome,
         &mut transcript,
         &mut letters,
+        &mut exons,
         &mut text,
     );
 }

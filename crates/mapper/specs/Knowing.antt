@@ -9,7 +9,7 @@ use Rattle.whole.specs.Whole.{if_then_else_}
 use Rattle.transcript.specs.Transcript.{Cds}
 use Rattle.transcript.specs.Transcript.Cds.{noCds, cds}
 use Rattle.transcript.specs.declared.Head.{Head}
-use Rattle.holding.specs.Holding.{ofRecords, isForward, bothGiven, segmentsIn, Lent, holds}
+use Rattle.holding.specs.Holding.{ofRecords, isForward, bothGiven, segmentsIn, recordsIn, Lent, holds}
 use Rattle.positions.specs.Positions.{Interval}
 use Rattle.places.specs.declared.Alignment.{Alignment}
 use Rattle.mapper.specs.declared.knowing.Coding.{Coding}
@@ -21,7 +21,7 @@ use Rattle.mapper.specs.declared.steps.Given.the-variants as given
 
 -- how a head's transcript lies
 abbrev pub alignmentOf : Head → Alignment
-alignmentOf h = record { forward = isForward h; first = natAbs (h .first); count = segmentsIn h }
+alignmentOf h = record { forward = isForward h; first = natAbs (h .first); count = segmentsIn h; records = recordsIn h }
 
 -- CDS bounds that are given are not negative
 pub record NaturalBounds (h : Head) : Type 0 where

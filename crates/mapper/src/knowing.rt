@@ -28,14 +28,15 @@ pub fn alignment(head: Head) -> Alignment
     requires { ⌜ headHolds head ≡ true ⌝ }
     ensures { λ r. ⌜ r ≡ alignmentOf head ⌝ }
 {
-    let strand = head.strand;
-    let forward = strand == 1;
+    let forward = holding::is_forward(head);
     let first = holding::first_start(head);
     let count = holding::segment_count(head);
+    let records = holding::record_count(head);
     Alignment {
         forward,
         first,
         count,
+        records,
     }
 }
 
@@ -60,10 +61,11 @@ pub fn known_of(
     genome: &[u32; MOST_STARTS],
     transcript: &[u32; MOST_STARTS],
     letters: &[u8; MOST_SEGMENTS],
+    exons: &[u16; MOST_SEGMENTS],
 ) -> Known
-    ensures { λ r. ⌜ r ≡ knownOf (lent head (now (genome .entry)) (now (transcript .entry)) (now (letters .entry))) ⌝ }
+    ensures { λ r. ⌜ r ≡ knownOf (lent head (now (genome .entry)) (now (transcript .entry)) (now (letters .entry)) (now (exons .entry))) ⌝ }
 {
-    if holding::check(head, genome, transcript, letters) {
+    if holding::check(head, genome, transcript, letters, exons) {
         let cds = coding_of(head);
         let kind = head.kind;
         if kind == OF_RECORDS {

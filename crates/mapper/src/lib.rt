@@ -28,13 +28,14 @@ pub fn g_to_n(
     genome: &[u32; MOST_STARTS],
     transcript: &[u32; MOST_STARTS],
     letters: &[u8; MOST_SEGMENTS],
+    exons: &[u16; MOST_SEGMENTS],
     q: GQuestion,
     strict: bool,
 ) -> NAnswer
-    ensures { λ r. ⌜ paperN r ≡ checked (lent head (now (genome .entry)) (now (transcript .entry)) (now (letters .entry))) (askGToN strict (paperGQuestion q)) ⌝ }
+    ensures { λ r. ⌜ paperN r ≡ checked (lent head (now (genome .entry)) (now (transcript .entry)) (now (letters .entry)) (now (exons .entry))) (askGToN strict (paperGQuestion q)) ⌝ }
 {
-    match knowing::known_of(head, genome, transcript, letters) {
-        Known::Aligned(at, _) => steps::g_to_n(at, genome, transcript, letters, q, strict),
+    match knowing::known_of(head, genome, transcript, letters, exons) {
+        Known::Aligned(at, _) => steps::g_to_n(at, genome, transcript, letters, exons, q, strict),
         Known::OfLength(_, _) => NAnswer::Refused(NO_GENOME),
         Known::Broken => NAnswer::Refused(NOT_TOGETHER),
     }
@@ -46,13 +47,14 @@ pub fn n_to_g(
     genome: &[u32; MOST_STARTS],
     transcript: &[u32; MOST_STARTS],
     letters: &[u8; MOST_SEGMENTS],
+    exons: &[u16; MOST_SEGMENTS],
     q: NQuestion,
     strict: bool,
 ) -> GAnswer
-    ensures { λ r. ⌜ paperG r ≡ checked (lent head (now (genome .entry)) (now (transcript .entry)) (now (letters .entry))) (askNToG strict (paperNQuestion q)) ⌝ }
+    ensures { λ r. ⌜ paperG r ≡ checked (lent head (now (genome .entry)) (now (transcript .entry)) (now (letters .entry)) (now (exons .entry))) (askNToG strict (paperNQuestion q)) ⌝ }
 {
-    match knowing::known_of(head, genome, transcript, letters) {
-        Known::Aligned(at, _) => places::to_g(at, genome, transcript, letters, q, strict),
+    match knowing::known_of(head, genome, transcript, letters, exons) {
+        Known::Aligned(at, _) => places::to_g(at, genome, transcript, letters, exons, q, strict),
         Known::OfLength(_, _) => GAnswer::Refused(NO_GENOME),
         Known::Broken => GAnswer::Refused(NOT_TOGETHER),
     }
@@ -64,12 +66,13 @@ pub fn n_to_c(
     genome: &[u32; MOST_STARTS],
     transcript: &[u32; MOST_STARTS],
     letters: &[u8; MOST_SEGMENTS],
+    exons: &[u16; MOST_SEGMENTS],
     q: NQuestion,
     strict: bool,
 ) -> CPlain
-    ensures { λ r. ⌜ paperCPlain r ≡ checked (lent head (now (genome .entry)) (now (transcript .entry)) (now (letters .entry))) (askNToC strict (paperNQuestion q)) ⌝ }
+    ensures { λ r. ⌜ paperCPlain r ≡ checked (lent head (now (genome .entry)) (now (transcript .entry)) (now (letters .entry)) (now (exons .entry))) (askNToC strict (paperNQuestion q)) ⌝ }
 {
-    match knowing::known_of(head, genome, transcript, letters) {
+    match knowing::known_of(head, genome, transcript, letters, exons) {
         Known::Aligned(at, cds) => {
             let count = at.count;
             steps::n_to_c(places::last(transcript, count), cds, q, strict)
@@ -85,12 +88,13 @@ pub fn c_to_n(
     genome: &[u32; MOST_STARTS],
     transcript: &[u32; MOST_STARTS],
     letters: &[u8; MOST_SEGMENTS],
+    exons: &[u16; MOST_SEGMENTS],
     q: CQuestion,
     strict: bool,
 ) -> NPlain
-    ensures { λ r. ⌜ paperNPlain r ≡ checked (lent head (now (genome .entry)) (now (transcript .entry)) (now (letters .entry))) (askCToN strict (paperCQuestion q)) ⌝ }
+    ensures { λ r. ⌜ paperNPlain r ≡ checked (lent head (now (genome .entry)) (now (transcript .entry)) (now (letters .entry)) (now (exons .entry))) (askCToN strict (paperCQuestion q)) ⌝ }
 {
-    match knowing::known_of(head, genome, transcript, letters) {
+    match knowing::known_of(head, genome, transcript, letters, exons) {
         Known::Aligned(at, cds) => {
             let count = at.count;
             steps::c_to_n(places::last(transcript, count), cds, q, strict)
@@ -106,16 +110,17 @@ pub fn g_to_c(
     genome: &[u32; MOST_STARTS],
     transcript: &[u32; MOST_STARTS],
     letters: &[u8; MOST_SEGMENTS],
+    exons: &[u16; MOST_SEGMENTS],
     q: GQuestion,
     strict: bool,
 ) -> CAnswer
-    ensures { λ r. ⌜ paperC r ≡ checked (lent head (now (genome .entry)) (now (transcript .entry)) (now (letters .entry))) (askGToC strict (paperGQuestion q)) ⌝ }
+    ensures { λ r. ⌜ paperC r ≡ checked (lent head (now (genome .entry)) (now (transcript .entry)) (now (letters .entry)) (now (exons .entry))) (askGToC strict (paperGQuestion q)) ⌝ }
 {
-    match knowing::known_of(head, genome, transcript, letters) {
+    match knowing::known_of(head, genome, transcript, letters, exons) {
         Known::Aligned(at, cds) => {
             let count = at.count;
             let length = places::last(transcript, count);
-            let n = steps::g_to_n(at, genome, transcript, letters, q, strict);
+            let n = steps::g_to_n(at, genome, transcript, letters, exons, q, strict);
             steps::then_n_to_c(n, length, cds, strict)
         }
         Known::OfLength(_, _) => CAnswer::Refused(NO_GENOME),
@@ -129,17 +134,18 @@ pub fn c_to_g(
     genome: &[u32; MOST_STARTS],
     transcript: &[u32; MOST_STARTS],
     letters: &[u8; MOST_SEGMENTS],
+    exons: &[u16; MOST_SEGMENTS],
     q: CQuestion,
     strict: bool,
 ) -> GAnswer
-    ensures { λ r. ⌜ paperG r ≡ checked (lent head (now (genome .entry)) (now (transcript .entry)) (now (letters .entry))) (askCToG strict (paperCQuestion q)) ⌝ }
+    ensures { λ r. ⌜ paperG r ≡ checked (lent head (now (genome .entry)) (now (transcript .entry)) (now (letters .entry)) (now (exons .entry))) (askCToG strict (paperCQuestion q)) ⌝ }
 {
-    match knowing::known_of(head, genome, transcript, letters) {
+    match knowing::known_of(head, genome, transcript, letters, exons) {
         Known::Aligned(at, cds) => {
             let count = at.count;
             let length = places::last(transcript, count);
             let n = steps::c_to_n(length, cds, q, strict);
-            steps::then_n_to_g(n, at, genome, transcript, letters, strict)
+            steps::then_n_to_g(n, at, genome, transcript, letters, exons, strict)
         }
         Known::OfLength(length, cds) => steps::then_no_genome(steps::c_to_n(
             length,
@@ -157,10 +163,11 @@ pub fn is_coding_transcript(
     genome: &[u32; MOST_STARTS],
     transcript: &[u32; MOST_STARTS],
     letters: &[u8; MOST_SEGMENTS],
+    exons: &[u16; MOST_SEGMENTS],
 ) -> Said
-    ensures { λ r. ⌜ paperSaid r ≡ checked (lent head (now (genome .entry)) (now (transcript .entry)) (now (letters .entry))) askCoding ⌝ }
+    ensures { λ r. ⌜ paperSaid r ≡ checked (lent head (now (genome .entry)) (now (transcript .entry)) (now (letters .entry)) (now (exons .entry))) askCoding ⌝ }
 {
-    match knowing::known_of(head, genome, transcript, letters) {
+    match knowing::known_of(head, genome, transcript, letters, exons) {
         Known::Aligned(_, cds) => steps::is_coding(cds),
         Known::OfLength(_, cds) => steps::is_coding(cds),
         Known::Broken => Said::Refused(NOT_TOGETHER),
@@ -173,11 +180,12 @@ pub fn is_g_interval_in_bounds(
     genome: &[u32; MOST_STARTS],
     transcript: &[u32; MOST_STARTS],
     letters: &[u8; MOST_SEGMENTS],
+    exons: &[u16; MOST_SEGMENTS],
     q: GQuestion,
 ) -> Said
-    ensures { λ r. ⌜ paperSaid r ≡ checked (lent head (now (genome .entry)) (now (transcript .entry)) (now (letters .entry))) (askInBounds (paperGQuestion q)) ⌝ }
+    ensures { λ r. ⌜ paperSaid r ≡ checked (lent head (now (genome .entry)) (now (transcript .entry)) (now (letters .entry)) (now (exons .entry))) (askInBounds (paperGQuestion q)) ⌝ }
 {
-    match knowing::known_of(head, genome, transcript, letters) {
+    match knowing::known_of(head, genome, transcript, letters, exons) {
         Known::Aligned(at, _) => steps::is_in_bounds(at, genome, q),
         Known::OfLength(_, _) => Said::Refused(NO_GENOME),
         Known::Broken => Said::Refused(NOT_TOGETHER),

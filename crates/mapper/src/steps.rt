@@ -59,14 +59,24 @@ pub fn g_to_n(
     genome: &[u32; MOST_STARTS],
     transcript: &[u32; MOST_STARTS],
     letters: &[u8; MOST_SEGMENTS],
+    exons: &[u16; MOST_SEGMENTS],
     q: GQuestion,
     strict: bool,
 ) -> NAnswer
     requires { ⌜ Aligns at (tables (now genome) (now transcript) (now letters)) ⌝ }
-    ensures { λ r. ⌜ paperN r ≡ andThen (given (paperGQuestion q)) (gToN strict (alignedBy at (tables (now (genome .entry)) (now (transcript .entry)) (now (letters .entry))))) ⌝ }
+    ensures { λ r. ⌜ paperN r ≡ andThen (given (paperGQuestion q)) (gToN strict (alignedBy at (tables (now (genome .entry)) (now (transcript .entry)) (now (letters .entry))) (now (exons .entry)))) ⌝ }
 {
     match both_ends(q) {
-        Given::Ends(from, to) => places::to_n(at, genome, transcript, letters, from, to, strict),
+        Given::Ends(from, to) => places::to_n(
+            at,
+            genome,
+            transcript,
+            letters,
+            exons,
+            from,
+            to,
+            strict,
+        ),
         Given::Missing => NAnswer::Refused(MISSING_END),
     }
 }
@@ -96,13 +106,13 @@ pub fn then_n_to_c(n: NAnswer, length: u32, cds: Coding, strict: bool) -> CAnswe
     ensures { λ r. ⌜ paperC r ≡ chain asksN (paperN n) (nToC strict length (paperCoding cds)) ⌝ }
 {
     match n {
-        NAnswer::Certain(i) => {
+        NAnswer::Certain(i, exons) => {
             let q = positions::asked_again(i);
-            fitting::c_marked(true, n_to_c(length, cds, q, strict))
+            fitting::c_marked(true, exons, n_to_c(length, cds, q, strict))
         }
-        NAnswer::Uncertain(i) => {
+        NAnswer::Uncertain(i, exons) => {
             let q = positions::asked_again(i);
-            fitting::c_marked(false, n_to_c(length, cds, q, strict))
+            fitting::c_marked(false, exons, n_to_c(length, cds, q, strict))
         }
         NAnswer::Refused(k) => CAnswer::Refused(k),
     }
@@ -115,15 +125,16 @@ pub fn then_n_to_g(
     genome: &[u32; MOST_STARTS],
     transcript: &[u32; MOST_STARTS],
     letters: &[u8; MOST_SEGMENTS],
+    exons: &[u16; MOST_SEGMENTS],
     strict: bool,
 ) -> GAnswer
     requires { ⌜ Aligns at (tables (now genome) (now transcript) (now letters)) ⌝ }
-    ensures { λ r. ⌜ paperG r ≡ chain asksN (paperNPlain n) (nToG strict (alignedBy at (tables (now (genome .entry)) (now (transcript .entry)) (now (letters .entry))))) ⌝ }
+    ensures { λ r. ⌜ paperG r ≡ chain asksN (paperNPlain n) (nToG strict (alignedBy at (tables (now (genome .entry)) (now (transcript .entry)) (now (letters .entry))) (now (exons .entry)))) ⌝ }
 {
     match n {
         NPlain::Told(i) => {
             let q = positions::asked_again(i);
-            places::to_g(at, genome, transcript, letters, q, strict)
+            places::to_g(at, genome, transcript, letters, exons, q, strict)
         }
         NPlain::Refused(k) => GAnswer::Refused(k),
     }

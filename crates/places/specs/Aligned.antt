@@ -10,16 +10,21 @@ use Rattle.refusals.specs.Outcome.{Outcome}
 use Rattle.numbering.specs.Numbers.{nOfPlace}
 use Rattle.segments.specs.Places.{Spot, indexOf}
 use Rattle.segments.specs.Tables.{Tables, segmentsHold, read}
+use Rattle.segments.specs.Exons.{lastNumber, numberAt, readNumbers}
 use Rattle.transcript.specs.Transcript.{Transcript}
 use Rattle.transcript.specs.Transcript.Cds.{noCds}
-use Rattle.positions.specs.Positions.{GPosition, NPosition}
+use Rattle.positions.specs.Positions.{Interval, GPosition, NPosition}
 use Rattle.positions.specs.Answers.{Answer, markOf, ends, gFits, nFits, ifFits}
 use Rattle.places.specs.Mapping.{inside, turned, signed, earlier, later, placeOfG}
 use Rattle.places.specs.declared.Alignment.{Alignment}
 
 -- the transcript that lies so. Between g. and n. its CDS is not looked at
-abbrev pub alignedBy : Alignment → Tables → Transcript
-alignedBy a x = record { forward = a .forward; first = a .first; elements = read x (a .count); coding = noCds }
+abbrev pub alignedBy : Alignment → Tables → List ℕ → Transcript
+alignedBy a x exons = record { forward = a .forward; first = a .first; elements = read x (a .count); numbers = readNumbers exons (a .count); records = a .records; coding = noCds }
+
+-- the exon number of segment i of it, or what stands behind the last
+abbrev pub numberBy : Alignment → List ℕ → ℕ → ℕ
+numberBy a exons = numberAt exons (a .count) (lastNumber (a .forward) (a .records))
 
 -- its tables hold together
 pub record Aligns (a : Alignment) (x : Tables) : Type 0 where
@@ -36,14 +41,14 @@ pub record InSegment (a : Alignment) (genome : List ℕ) (number : ℕ) (g : ℤ
 abbrev pub nEndAt : Bool → ℕ → Spot → Outcome NPosition
 nEndAt forward len a = ifFits nFits (record { base = nOfPlace (turned forward len (a .place)); offset = signed forward (a .offset) })
 
--- an interval's two spots as an n. interval with its mark, or 17: on strand -1 start and end change places
-unfoldable pub nJoined : Bool → ℕ → Spot → Spot → Answer NPosition
-nJoined forward len a b = ends (markOf (a .sure && b .sure)) (nEndAt forward len (earlier forward a b)) (nEndAt forward len (later forward a b))
+-- an interval's two spots as an n. interval with its mark and those exons, or 17: on strand -1 start and end change places
+unfoldable pub nJoined : Bool → ℕ → Interval ℕ → Spot → Spot → Answer NPosition
+nJoined forward len exons a b = ends (markOf (a .sure && b .sure) exons) (nEndAt forward len (earlier forward a b)) (nEndAt forward len (later forward a b))
 
 -- a place of the genome with an n. number's own offset as a g. position, or 17
 abbrev pub gEndAt : Bool → ℕ → ℤ → ℤ → Outcome GPosition
 gEndAt forward first p o = ifFits gFits (record { base = p +ℤ pos first +ℤ pos 1 +ℤ signed forward o })
 
--- an interval's two spots, with the numbers' own offsets, as a g. interval with its mark, or 17
-unfoldable pub gJoined : Bool → ℕ → Spot → Spot → ℤ → ℤ → Answer GPosition
-gJoined forward first a b o u = ends (markOf (a .sure && b .sure)) (gEndAt forward first (a .place) o) (gEndAt forward first (b .place) u)
+-- an interval's two spots, with the numbers' own offsets, as a g. interval with its mark and those exons, or 17
+unfoldable pub gJoined : Bool → ℕ → Interval ℕ → Spot → Spot → ℤ → ℤ → Answer GPosition
+gJoined forward first exons a b o u = ends (markOf (a .sure && b .sure) exons) (gEndAt forward first (a .place) o) (gEndAt forward first (b .place) u)

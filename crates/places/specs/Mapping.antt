@@ -10,7 +10,8 @@ use Rattle.numbering.specs.Numbers.{nOfPlace, placeOfN}
 use Rattle.cigar.specs.Elements.{genome, transcript}
 use Rattle.segments.specs.Places.{Spot, mapPlace}
 use Rattle.segments.specs.Places.End.{start, stop}
-use Rattle.transcript.specs.Transcript.{Transcript, genomeLength, transcriptLength}
+use Rattle.segments.specs.Exons.{exonFound, exonChosen}
+use Rattle.transcript.specs.Transcript.{Transcript, exonNumber, genomeLength, transcriptLength}
 use Rattle.positions.specs.Positions.{Interval, NAsked, GPosition, NPosition}
 use Rattle.positions.specs.Answers.{Answer, markOf, gFits, nFits, fitting}
 
@@ -33,6 +34,15 @@ earlier forward a b = cond forward a b
 abbrev pub later : {A : Type 0} → Bool → A → A → A
 later forward a b = cond forward b a
 
+-- ---- exons
+
+-- the exon numbers of an interval's two ends, which go with them: from the genome, where on strand -1 they change places, and from the transcript, in genomic order
+abbrev pub foundExons : Bool → (ℕ → ℕ) → Spot → Spot → Interval ℕ
+foundExons forward number a b = record { from = exonFound number (earlier forward a b); to = exonFound number (later forward a b) }
+
+abbrev pub chosenExons : Bool → (ℕ → ℕ) → Spot → Spot → Interval ℕ
+chosenExons forward number a b = record { from = exonChosen forward number a; to = exonChosen forward number b }
+
 -- ---- g. to n.
 
 -- the place of a g. number, where the first start is this
@@ -43,7 +53,7 @@ unfoldable pub nOfSpot : Transcript → Spot → NPosition
 nOfSpot t a = record { base = nOfPlace (turned (t .forward) (transcriptLength t) (a .place)); offset = signed (t .forward) (a .offset) }
 
 abbrev pub nAnswer : Transcript → Spot → Spot → Answer NPosition
-nAnswer t a b = answered (record { mark = markOf (a .sure && b .sure); interval = record { from = nOfSpot t (earlier (t .forward) a b); to = nOfSpot t (later (t .forward) a b) } })
+nAnswer t a b = answered (record { mark = markOf (a .sure && b .sure) (foundExons (t .forward) (exonNumber t) a b); interval = record { from = nOfSpot t (earlier (t .forward) a b); to = nOfSpot t (later (t .forward) a b) } })
 
 -- before 17 is asked
 unfoldable pub wholeN : Bool → Transcript → Interval ℤ → Answer NPosition
@@ -64,7 +74,7 @@ unfoldable pub gOfSpot : Transcript → Spot → ℤ → GPosition
 gOfSpot t a o = record { base = a .place +ℤ pos (t .first) +ℤ pos 1 +ℤ signed (t .forward) o }
 
 abbrev pub gAnswer : Transcript → Spot → Spot → ℤ → ℤ → Answer GPosition
-gAnswer t a b o u = answered (record { mark = markOf (a .sure && b .sure); interval = record { from = gOfSpot t a o; to = gOfSpot t b u } })
+gAnswer t a b o u = answered (record { mark = markOf (a .sure && b .sure) (chosenExons (t .forward) (exonNumber t) a b); interval = record { from = gOfSpot t a o; to = gOfSpot t b u } })
 
 -- two positions in genomic order
 unfoldable pub gOfEnds : Bool → Transcript → NAsked → NAsked → Answer GPosition

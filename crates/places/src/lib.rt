@@ -1,7 +1,7 @@
 // Between g. and n. of a transcript that lies on the genome: places, then ends, then intervals.
 ghost use mathlib.Core.Path.{_≡_};
 ghost use mathlib.Core.Bool.{true, _&&_};
-ghost use Prim.Native.Nat.{_≤_};
+ghost use Prim.Native.Nat.{_≤_, _<_};
 ghost use lib.ListN.{getD};
 ghost use Rattle.refusals.specs.Numbers.{mostSegments};
 ghost use Rattle.whole.specs.Whole.{Within};
@@ -9,11 +9,13 @@ ghost use Rattle.numbering.specs.Numbers.{placeOfN};
 ghost use Rattle.segments.specs.Tables.{tables};
 ghost use Rattle.segments.specs.Paper.{Small, spotSaid};
 ghost use Rattle.segments.specs.Places.{stopOf};
+ghost use Rattle.segments.specs.Exons.{lastNumber};
 ghost use Rattle.positions.specs.Answers.{gFits, fitting};
-ghost use Rattle.positions.specs.Paper.{paperNAsked, paperNQuestion, paperGEnd, paperNEnd, paperG, paperN};
-ghost use Rattle.places.specs.Mapping.{inside, turned, signed, placeOfG, gToN, gOfEnds, nToG, inBounds};
-ghost use Rattle.places.specs.Aligned.{alignedBy, Aligns, InSegment, nEndAt, nJoined, gEndAt, gJoined};
+ghost use Rattle.positions.specs.Paper.{paperNAsked, paperNQuestion, paperGEnd, paperNEnd, paperExons, paperG, paperN};
+ghost use Rattle.places.specs.Mapping.{inside, turned, signed, foundExons, chosenExons, placeOfG, gToN, gOfEnds, nToG, inBounds};
+ghost use Rattle.places.specs.Aligned.{alignedBy, numberBy, Aligns, InSegment, nEndAt, nJoined, gEndAt, gJoined};
 use numbering::Place;
+use positions::Exons;
 use positions::GAnswer;
 use positions::NAnswer;
 use positions::NAsked;
@@ -25,12 +27,14 @@ use refusals::MOST_SEGMENTS;
 use refusals::MOST_STARTS;
 use segments::End;
 use segments::Spot;
+use segments::exons;
 
-// How a transcript lies on the genome, beside its tables: whether its strand is 1, its first start, how many segments it has.
+// How a transcript lies on the genome, beside its tables: whether its strand is 1, its first start, how many segments it has, and of how many records.
 pub struct Alignment {
     pub forward: bool,
     pub first: u32,
     pub count: usize,
+    pub records: u16,
 }
 
 // The last entry of a table of count segments: how far they go in all.
@@ -128,31 +132,78 @@ fn g_of_place(forward: bool, first: u32, p: Place, offset: i32) -> GEnd
     fitting::g_end(g)
 }
 
-// The n. interval of an interval's two spots: on strand -1 start and end change places.
-fn n_answer(forward: bool, len: u32, a: Spot, b: Spot) -> NAnswer
+// What stands behind the last segment's exon number.
+fn behind(at: Alignment) -> u16
+    ensures { λ r. ⌜ r ≡ lastNumber (at .forward) (at .records) ⌝ }
+{
+    if at.forward { at.records } else { 1 }
+}
+
+// The exon numbers of an interval's two spots of the transcript: on strand -1 they change places, as start and end do.
+fn found_exons(at: Alignment, exons: &[u16; MOST_SEGMENTS], a: Spot, b: Spot) -> Exons
+    requires { ⌜ (a .number < at .count) × (b .number < at .count) × (at .count ≤ mostSegments) ⌝ }
+    ensures { λ r. ⌜ paperExons r ≡ foundExons (at .forward) (numberBy at (now (exons .entry))) (spotSaid a) (spotSaid b) ⌝ }
+{
+    let forward = at.forward;
+    let count = at.count;
+    let last = behind(at);
+    let first = exons::found(exons, count, last, a);
+    let second = exons::found(exons, count, last, b);
+    if forward {
+        Exons {
+            from: first,
+            to: second,
+        }
+    } else {
+        Exons {
+            from: second,
+            to: first,
+        }
+    }
+}
+
+// The exon numbers of an interval's two spots of the genome.
+fn chosen_exons(at: Alignment, exons: &[u16; MOST_SEGMENTS], a: Spot, b: Spot) -> Exons
+    requires { ⌜ (a .number < at .count) × (b .number < at .count) × (at .count ≤ mostSegments) ⌝ }
+    ensures { λ r. ⌜ paperExons r ≡ chosenExons (at .forward) (numberBy at (now (exons .entry))) (spotSaid a) (spotSaid b) ⌝ }
+{
+    let forward = at.forward;
+    let count = at.count;
+    let last = behind(at);
+    let from = exons::chosen(forward, exons, count, last, a);
+    let to = exons::chosen(forward, exons, count, last, b);
+    Exons { from, to }
+}
+
+// The n. interval of an interval's two spots, with these exons: on strand -1 start and end change places.
+fn n_answer(forward: bool, len: u32, exons: Exons, a: Spot, b: Spot) -> NAnswer
     requires { ⌜ Small 38 a × Small 38 b ⌝ }
-    ensures { λ r. ⌜ paperN r ≡ nJoined forward len (spotSaid a) (spotSaid b) ⌝ }
+    ensures { λ r. ⌜ paperN r ≡ nJoined forward len (paperExons exons) (spotSaid a) (spotSaid b) ⌝ }
 {
     let sure = a.sure & b.sure;
     let first = n_of_spot(forward, len, a);
     let second = n_of_spot(forward, len, b);
     if forward {
-        fitting::n_marked(sure, fitting::n_both(first, second))
+        fitting::n_marked(sure, exons, fitting::n_both(first, second))
     } else {
-        fitting::n_marked(sure, fitting::n_both(second, first))
+        fitting::n_marked(sure, exons, fitting::n_both(second, first))
     }
 }
 
-// The n. interval of one place, by its spot as an interval's start: a sure one is the end's too, and is numbered once.
-fn n_of_one(forward: bool, len: u32, start: Spot) -> NAnswer
+// The n. interval of one place, by its spot as an interval's start, whose exon has this number, as the end's has: a sure one is numbered once.
+fn n_of_one(forward: bool, len: u32, number: u16, start: Spot) -> NAnswer
     requires { ⌜ Small 37 start ⌝ }
-    ensures { λ r. ⌜ paperN r ≡ nJoined forward len (spotSaid start) (stopOf (spotSaid start)) ⌝ }
+    ensures { λ r. ⌜ paperN r ≡ nJoined forward len (record { from = number; to = number }) (spotSaid start) (stopOf (spotSaid start)) ⌝ }
 {
+    let both = Exons {
+        from: number,
+        to: number,
+    };
     if start.sure {
         let end = n_of_spot(forward, len, start);
-        return fitting::n_marked(true, fitting::n_both(end, end));
+        return fitting::n_marked(true, both, fitting::n_both(end, end));
     }
-    n_answer(forward, len, start, segments::stop_of(start))
+    n_answer(forward, len, both, start, segments::stop_of(start))
 }
 
 // g. to n. of an interval of one base.
@@ -161,11 +212,12 @@ fn one_to_n(
     genome: &[u32; MOST_STARTS],
     transcript: &[u32; MOST_STARTS],
     letters: &[u8; MOST_SEGMENTS],
+    exons: &[u16; MOST_SEGMENTS],
     g: i32,
     strict: bool,
 ) -> NAnswer
     requires { ⌜ Aligns at (tables (now genome) (now transcript) (now letters)) ⌝ }
-    ensures { λ r. ⌜ paperN r ≡ gToN strict (alignedBy at (tables (now (genome .entry)) (now (transcript .entry)) (now (letters .entry)))) (record { from = g; to = g }) ⌝ }
+    ensures { λ r. ⌜ paperN r ≡ gToN strict (alignedBy at (tables (now (genome .entry)) (now (transcript .entry)) (now (letters .entry))) (now (exons .entry))) (record { from = g; to = g }) ⌝ }
 {
     let forward = at.forward;
     let count = at.count;
@@ -180,7 +232,8 @@ fn one_to_n(
             End::Start,
             forward,
         );
-        return n_of_one(forward, last(transcript, count), start);
+        let exon = exons::found(exons, count, behind(at), start);
+        return n_of_one(forward, last(transcript, count), exon, start);
     }
     NAnswer::Refused(refusals::OUTSIDE)
 }
@@ -191,12 +244,13 @@ pub fn one_to_n_at(
     genome: &[u32; MOST_STARTS],
     transcript: &[u32; MOST_STARTS],
     letters: &[u8; MOST_SEGMENTS],
+    exons: &[u16; MOST_SEGMENTS],
     number: usize,
     g: i32,
 ) -> NAnswer
     requires { ⌜ Aligns at (tables (now genome) (now transcript) (now letters)) ⌝ }
     requires { ⌜ InSegment at (now genome) number g ⌝ }
-    ensures { λ r. ⌜ paperN r ≡ gToN true (alignedBy at (tables (now (genome .entry)) (now (transcript .entry)) (now (letters .entry)))) (record { from = g; to = g }) ⌝ }
+    ensures { λ r. ⌜ paperN r ≡ gToN true (alignedBy at (tables (now (genome .entry)) (now (transcript .entry)) (now (letters .entry))) (now (exons .entry))) (record { from = g; to = g }) ⌝ }
 {
     let forward = at.forward;
     let count = at.count;
@@ -211,7 +265,8 @@ pub fn one_to_n_at(
             End::Start,
             forward,
         );
-        return n_of_one(forward, last(transcript, count), start);
+        let exon = exons::found(exons, count, behind(at), start);
+        return n_of_one(forward, last(transcript, count), exon, start);
     }
     NAnswer::Refused(refusals::OUTSIDE)
 }
@@ -222,15 +277,16 @@ pub fn to_n(
     genome: &[u32; MOST_STARTS],
     transcript: &[u32; MOST_STARTS],
     letters: &[u8; MOST_SEGMENTS],
+    exons: &[u16; MOST_SEGMENTS],
     from: i32,
     to: i32,
     strict: bool,
 ) -> NAnswer
     requires { ⌜ Aligns at (tables (now genome) (now transcript) (now letters)) ⌝ }
-    ensures { λ r. ⌜ paperN r ≡ gToN strict (alignedBy at (tables (now (genome .entry)) (now (transcript .entry)) (now (letters .entry)))) (record { from = from; to = to }) ⌝ }
+    ensures { λ r. ⌜ paperN r ≡ gToN strict (alignedBy at (tables (now (genome .entry)) (now (transcript .entry)) (now (letters .entry))) (now (exons .entry))) (record { from = from; to = to }) ⌝ }
 {
     if from == to {
-        return one_to_n(at, genome, transcript, letters, from, strict);
+        return one_to_n(at, genome, transcript, letters, exons, from, strict);
     }
     let forward = at.forward;
     let count = at.count;
@@ -255,19 +311,21 @@ pub fn to_n(
             End::Stop,
             forward,
         );
-        return n_answer(forward, last(transcript, count), a, b);
+        let numbers = found_exons(at, exons, a, b);
+        return n_answer(forward, last(transcript, count), numbers, a, b);
     }
     NAnswer::Refused(refusals::OUTSIDE)
 }
 
-// The g. interval of an interval's two spots, with the numbers' own offsets o and u.
-fn g_answer(forward: bool, first: u32, a: Spot, b: Spot, o: i32, u: i32) -> GAnswer
+// The g. interval of an interval's two spots, with these exons and the numbers' own offsets o and u.
+fn g_answer(forward: bool, first: u32, exons: Exons, a: Spot, b: Spot, o: i32, u: i32) -> GAnswer
     requires { ⌜ Small 38 a × Small 38 b ⌝ }
-    ensures { λ r. ⌜ paperG r ≡ gJoined forward first (spotSaid a) (spotSaid b) o u ⌝ }
+    ensures { λ r. ⌜ paperG r ≡ gJoined forward first (paperExons exons) (spotSaid a) (spotSaid b) o u ⌝ }
 {
     let sure = a.sure & b.sure;
     fitting::g_marked(
         sure,
+        exons,
         g_of_place(forward, first, a.place, o),
         g_of_place(forward, first, b.place, u),
     )
@@ -279,13 +337,14 @@ fn g_of_one(
     genome: &[u32; MOST_STARTS],
     transcript: &[u32; MOST_STARTS],
     letters: &[u8; MOST_SEGMENTS],
+    exons: &[u16; MOST_SEGMENTS],
     base: i32,
     o: i32,
     u: i32,
     strict: bool,
 ) -> GAnswer
     requires { ⌜ Aligns at (tables (now genome) (now transcript) (now letters)) ⌝ }
-    ensures { λ r. ⌜ paperG r ≡ fitting gFits (gOfEnds strict (alignedBy at (tables (now (genome .entry)) (now (transcript .entry)) (now (letters .entry)))) (record { base = base; offset = o }) (record { base = base; offset = u })) ⌝ }
+    ensures { λ r. ⌜ paperG r ≡ fitting gFits (gOfEnds strict (alignedBy at (tables (now (genome .entry)) (now (transcript .entry)) (now (letters .entry))) (now (exons .entry))) (record { base = base; offset = o }) (record { base = base; offset = u })) ⌝ }
 {
     let forward = at.forward;
     let count = at.count;
@@ -300,7 +359,20 @@ fn g_of_one(
             p,
             End::Start,
         );
-        return g_answer(forward, at.first, start, segments::stop_of(start), o, u);
+        let number = exons::chosen(forward, exons, count, behind(at), start);
+        let both = Exons {
+            from: number,
+            to: number,
+        };
+        return g_answer(
+            forward,
+            at.first,
+            both,
+            start,
+            segments::stop_of(start),
+            o,
+            u,
+        );
     }
     GAnswer::Refused(refusals::OUTSIDE)
 }
@@ -311,12 +383,13 @@ fn g_of_ends(
     genome: &[u32; MOST_STARTS],
     transcript: &[u32; MOST_STARTS],
     letters: &[u8; MOST_SEGMENTS],
+    exons: &[u16; MOST_SEGMENTS],
     a: NAsked,
     b: NAsked,
     strict: bool,
 ) -> GAnswer
     requires { ⌜ Aligns at (tables (now genome) (now transcript) (now letters)) ⌝ }
-    ensures { λ r. ⌜ paperG r ≡ fitting gFits (gOfEnds strict (alignedBy at (tables (now (genome .entry)) (now (transcript .entry)) (now (letters .entry)))) (paperNAsked a) (paperNAsked b)) ⌝ }
+    ensures { λ r. ⌜ paperG r ≡ fitting gFits (gOfEnds strict (alignedBy at (tables (now (genome .entry)) (now (transcript .entry)) (now (letters .entry))) (now (exons .entry))) (paperNAsked a) (paperNAsked b)) ⌝ }
 {
     let x = a.base;
     let y = b.base;
@@ -326,6 +399,7 @@ fn g_of_ends(
             genome,
             transcript,
             letters,
+            exons,
             x,
             a.offset,
             b.offset,
@@ -347,7 +421,8 @@ fn g_of_ends(
             End::Start,
         );
         let stop = segments::transcript_to_genome(genome, transcript, letters, count, q, End::Stop);
-        return g_answer(forward, at.first, start, stop, a.offset, b.offset);
+        let numbers = chosen_exons(at, exons, start, stop);
+        return g_answer(forward, at.first, numbers, start, stop, a.offset, b.offset);
     }
     GAnswer::Refused(refusals::OUTSIDE)
 }
@@ -358,19 +433,20 @@ pub fn to_g(
     genome: &[u32; MOST_STARTS],
     transcript: &[u32; MOST_STARTS],
     letters: &[u8; MOST_SEGMENTS],
+    exons: &[u16; MOST_SEGMENTS],
     q: NQuestion,
     strict: bool,
 ) -> GAnswer
     requires { ⌜ Aligns at (tables (now genome) (now transcript) (now letters)) ⌝ }
-    ensures { λ r. ⌜ paperG r ≡ nToG strict (alignedBy at (tables (now (genome .entry)) (now (transcript .entry)) (now (letters .entry)))) (paperNQuestion q) ⌝ }
+    ensures { λ r. ⌜ paperG r ≡ nToG strict (alignedBy at (tables (now (genome .entry)) (now (transcript .entry)) (now (letters .entry))) (now (exons .entry))) (paperNQuestion q) ⌝ }
 {
     let from = q.from;
     let to = q.to;
     let forward = at.forward;
     if forward {
-        g_of_ends(at, genome, transcript, letters, from, to, strict)
+        g_of_ends(at, genome, transcript, letters, exons, from, to, strict)
     } else {
-        g_of_ends(at, genome, transcript, letters, to, from, strict)
+        g_of_ends(at, genome, transcript, letters, exons, to, from, strict)
     }
 }
 

@@ -1,4 +1,5 @@
 -- What a mapping is answered with: an interval with its mark, or the number of a refusal; and refusal 17. Assumes nothing.
+use Prim.Native.Nat.{ℕ}
 use mathlib.Core.Bool.{Bool, cond, _&&_}
 use Rattle.refusals.specs.Numbers.{tooWide}
 use Rattle.refusals.specs.Outcome.{Outcome, answered, refused, andThen, through, both}
@@ -6,14 +7,20 @@ use Rattle.whole.specs.Whole.{if_then_else_}
 use Rattle.whole.specs.Fits.{fits}
 use Rattle.positions.specs.Positions.{Interval, each, GPosition, NPosition, CPosition}
 
--- across the genome an interval is certain or uncertain; between n. and c. it bears no mark
+-- across the genome an interval is certain or uncertain, and each of its ends has the number of an exon; between n. and c. it bears no mark
 pub data Mark : Type 0 where
-  certain : Mark
-  uncertain : Mark
+  certain : Interval ℕ → Mark
+  uncertain : Interval ℕ → Mark
   unmarked : Mark
 
-abbrev pub markOf : Bool → Mark
-markOf sure = cond sure certain uncertain
+abbrev pub markOf : Bool → Interval ℕ → Mark
+markOf sure exons = cond sure (certain exons) (uncertain exons)
+
+-- the exon numbers that a mark has, 0 where it has none
+abbrev pub exonsOf : Mark → Interval ℕ
+exonsOf (certain exons) = exons
+exonsOf (uncertain exons) = exons
+exonsOf unmarked = record { from = 0; to = 0 }
 
 pub record Marked (P : Type 0) : Type 0 where
   pub mark : Mark
@@ -22,11 +29,11 @@ pub record Marked (P : Type 0) : Type 0 where
 abbrev pub Answer : Type 0 → Type 0
 Answer P = Outcome (Marked P)
 
-abbrev pub certainly : {P : Type 0} → Interval P → Answer P
-certainly i = answered (record { mark = certain; interval = i })
+abbrev pub certainly : {P : Type 0} → Interval ℕ → Interval P → Answer P
+certainly exons i = answered (record { mark = certain exons; interval = i })
 
-abbrev pub uncertainly : {P : Type 0} → Interval P → Answer P
-uncertainly i = answered (record { mark = uncertain; interval = i })
+abbrev pub uncertainly : {P : Type 0} → Interval ℕ → Interval P → Answer P
+uncertainly exons i = answered (record { mark = uncertain exons; interval = i })
 
 abbrev pub plainly : {P : Type 0} → Interval P → Answer P
 plainly i = answered (record { mark = unmarked; interval = i })
@@ -37,13 +44,15 @@ ends {P} m a b = both (λ (x y : P). record { mark = m; interval = record { from
 
 -- ---- two steps in a row
 
--- uncertain where either step was; a step that bears no mark leaves the other's
+-- uncertain where either step was, with the second step's numbers; a step that bears no mark leaves the other's
 abbrev pub inARow : Mark → Mark → Mark
 inARow unmarked n = n
-inARow uncertain n = uncertain
-inARow certain certain = certain
-inARow certain uncertain = uncertain
-inARow certain unmarked = certain
+inARow (certain a) (certain b) = certain b
+inARow (certain a) (uncertain b) = uncertain b
+inARow (certain a) unmarked = certain a
+inARow (uncertain a) (certain b) = uncertain b
+inARow (uncertain a) (uncertain b) = uncertain b
+inARow (uncertain a) unmarked = uncertain a
 
 -- a second step's interval, with the mark of both
 abbrev pub after : {P : Type 0} → Mark → Marked P → Marked P

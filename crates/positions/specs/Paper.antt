@@ -1,4 +1,5 @@
 -- What the code's structs and enums say, in the paper's terms: a contract sets these values equal to a definition's. Assumes nothing.
+use Prim.Native.Nat.{ℕ}
 use mathlib.Core.Bool.{Bool, true, false}
 use Rattle.refusals.specs.Outcome.{Outcome, answered, refused}
 use Rattle.positions.specs.Positions.{Interval, GAsked, at, missing, NAsked, CAsked, GPosition, NPosition, CPosition}
@@ -15,6 +16,7 @@ use Rattle.positions.specs.declared.NPosition as code-n
 use Rattle.positions.specs.declared.NInterval as code-n-interval
 use Rattle.positions.specs.declared.CPosition as code-c
 use Rattle.positions.specs.declared.CInterval as code-c-interval
+use Rattle.positions.specs.declared.Exons as code-exons
 use Rattle.positions.specs.declared.GAnswer as code-g-answer
 use Rattle.positions.specs.declared.NAnswer as code-n-answer
 use Rattle.positions.specs.declared.CAnswer as code-c-answer
@@ -81,19 +83,22 @@ paperCEnd (code-c-end.the-variants.Refused k) = refused k
 
 -- ---- answers
 
+abbrev pub paperExons : code-exons.Exons → Interval ℕ
+paperExons x = record { from = x .from; to = x .to }
+
 abbrev pub paperG : code-g-answer.GAnswer → Answer GPosition
-paperG (code-g-answer.the-variants.Certain i) = certainly (paperGInterval i)
-paperG (code-g-answer.the-variants.Uncertain i) = uncertainly (paperGInterval i)
+paperG (code-g-answer.the-variants.Certain i exons) = certainly (paperExons exons) (paperGInterval i)
+paperG (code-g-answer.the-variants.Uncertain i exons) = uncertainly (paperExons exons) (paperGInterval i)
 paperG (code-g-answer.the-variants.Refused k) = refused k
 
 abbrev pub paperN : code-n-answer.NAnswer → Answer NPosition
-paperN (code-n-answer.the-variants.Certain i) = certainly (paperNInterval i)
-paperN (code-n-answer.the-variants.Uncertain i) = uncertainly (paperNInterval i)
+paperN (code-n-answer.the-variants.Certain i exons) = certainly (paperExons exons) (paperNInterval i)
+paperN (code-n-answer.the-variants.Uncertain i exons) = uncertainly (paperExons exons) (paperNInterval i)
 paperN (code-n-answer.the-variants.Refused k) = refused k
 
 abbrev pub paperC : code-c-answer.CAnswer → Answer CPosition
-paperC (code-c-answer.the-variants.Certain i) = certainly (paperCInterval i)
-paperC (code-c-answer.the-variants.Uncertain i) = uncertainly (paperCInterval i)
+paperC (code-c-answer.the-variants.Certain i exons) = certainly (paperExons exons) (paperCInterval i)
+paperC (code-c-answer.the-variants.Uncertain i exons) = uncertainly (paperExons exons) (paperCInterval i)
 paperC (code-c-answer.the-variants.Refused k) = refused k
 
 abbrev pub paperNPlain : code-n-plain.NPlain → Answer NPosition

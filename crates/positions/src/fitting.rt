@@ -3,11 +3,12 @@ ghost use mathlib.Core.Path.{_≡_};
 ghost use Rattle.whole.specs.Whole.{Within};
 ghost use Rattle.refusals.specs.Outcome.{through, Outcome.answered};
 ghost use Rattle.positions.specs.Answers.{gFits, nFits, cFits, ifFits, ends, after, markOf, Mark.unmarked};
-ghost use Rattle.positions.specs.Paper.{paperGEnd, paperNEnd, paperCEnd, paperNPlain, paperCPlain, paperGInterval, paperG, paperN, paperC};
+ghost use Rattle.positions.specs.Paper.{paperGEnd, paperNEnd, paperCEnd, paperNPlain, paperCPlain, paperExons, paperGInterval, paperG, paperN, paperC};
 use crate::CAnswer;
 use crate::CInterval;
 use crate::CPlain;
 use crate::CPosition;
+use crate::Exons;
 use crate::GAnswer;
 use crate::GInterval;
 use crate::GPosition;
@@ -104,54 +105,54 @@ pub fn c_both(a: CEnd, b: CEnd) -> CPlain
     }
 }
 
-// The interval of two ends with its mark, or the first refusal.
-pub fn g_marked(sure: bool, a: GEnd, b: GEnd) -> GAnswer
-    ensures { λ r. ⌜ paperG r ≡ ends (markOf sure) (paperGEnd a) (paperGEnd b) ⌝ }
+// The interval of two ends with its mark and its exons, or the first refusal.
+pub fn g_marked(sure: bool, exons: Exons, a: GEnd, b: GEnd) -> GAnswer
+    ensures { λ r. ⌜ paperG r ≡ ends (markOf sure (paperExons exons)) (paperGEnd a) (paperGEnd b) ⌝ }
 {
     match a {
         GEnd::At(from) => match b {
-            GEnd::At(to) => g_interval(sure, GInterval { from, to }),
+            GEnd::At(to) => g_interval(sure, exons, GInterval { from, to }),
             GEnd::Refused(k) => GAnswer::Refused(k),
         },
         GEnd::Refused(k) => GAnswer::Refused(k),
     }
 }
 
-fn g_interval(sure: bool, i: GInterval) -> GAnswer
-    ensures { λ r. ⌜ paperG r ≡ answered (record { mark = markOf sure; interval = paperGInterval i }) ⌝ }
+fn g_interval(sure: bool, exons: Exons, i: GInterval) -> GAnswer
+    ensures { λ r. ⌜ paperG r ≡ answered (record { mark = markOf sure (paperExons exons); interval = paperGInterval i }) ⌝ }
 {
     if sure {
-        GAnswer::Certain(i)
+        GAnswer::Certain(i, exons)
     } else {
-        GAnswer::Uncertain(i)
+        GAnswer::Uncertain(i, exons)
     }
 }
 
-// An interval that bore no mark, with the mark of the step before it; a refusal stays.
-pub fn n_marked(sure: bool, a: NPlain) -> NAnswer
-    ensures { λ r. ⌜ paperN r ≡ through (after (markOf sure)) (paperNPlain a) ⌝ }
+// An interval that bore no mark, with the mark and the exons of the step before it; a refusal stays.
+pub fn n_marked(sure: bool, exons: Exons, a: NPlain) -> NAnswer
+    ensures { λ r. ⌜ paperN r ≡ through (after (markOf sure (paperExons exons))) (paperNPlain a) ⌝ }
 {
     match a {
         NPlain::Told(i) => {
             if sure {
-                NAnswer::Certain(i)
+                NAnswer::Certain(i, exons)
             } else {
-                NAnswer::Uncertain(i)
+                NAnswer::Uncertain(i, exons)
             }
         }
         NPlain::Refused(k) => NAnswer::Refused(k),
     }
 }
 
-pub fn c_marked(sure: bool, a: CPlain) -> CAnswer
-    ensures { λ r. ⌜ paperC r ≡ through (after (markOf sure)) (paperCPlain a) ⌝ }
+pub fn c_marked(sure: bool, exons: Exons, a: CPlain) -> CAnswer
+    ensures { λ r. ⌜ paperC r ≡ through (after (markOf sure (paperExons exons))) (paperCPlain a) ⌝ }
 {
     match a {
         CPlain::Told(i) => {
             if sure {
-                CAnswer::Certain(i)
+                CAnswer::Certain(i, exons)
             } else {
-                CAnswer::Uncertain(i)
+                CAnswer::Uncertain(i, exons)
             }
         }
         CPlain::Refused(k) => CAnswer::Refused(k),

@@ -70,22 +70,28 @@ pub struct CInterval {
     pub to: CPosition,
 }
 
-// What a question across the genome is answered with: an interval with its mark, or a refusal.
+// The number of the exon of each end of an interval, which a question across the genome is answered with too.
+pub struct Exons {
+    pub from: u16,
+    pub to: u16,
+}
+
+// What a question across the genome is answered with: an interval with its mark and its exons, or a refusal.
 pub enum GAnswer {
-    Certain(GInterval),
-    Uncertain(GInterval),
+    Certain(GInterval, Exons),
+    Uncertain(GInterval, Exons),
     Refused(u8),
 }
 
 pub enum NAnswer {
-    Certain(NInterval),
-    Uncertain(NInterval),
+    Certain(NInterval, Exons),
+    Uncertain(NInterval, Exons),
     Refused(u8),
 }
 
 pub enum CAnswer {
-    Certain(CInterval),
-    Uncertain(CInterval),
+    Certain(CInterval, Exons),
+    Uncertain(CInterval, Exons),
     Refused(u8),
 }
 

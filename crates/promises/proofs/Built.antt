@@ -23,13 +23,13 @@ use Rattle.records.specs.Walk.{Ordered}
 use Rattle.records.specs.laws.Walk.{own-sound, ordered}
 use Rattle.transcript.specs.Transcript.{Transcript, transcriptLength}
 use Rattle.transcript.specs.Transcript.Source.{aligned}
-use Rattle.transcript.specs.Building.{Exon, build}
+use Rattle.transcript.specs.Building.{Exon, numbersOf, build}
 use Rattle.transcript.specs.laws.Heads.{plus-is}
 use Rattle.reading.specs.Reading.{exonOf, Exons, followedBy, readFirst, readNext, exonsAfter, exonsOf}
 use Rattle.judging.specs.Input.{Input}
 use Rattle.judging.specs.Judging.{Made, elementsMade, cdsOf, judgeInput}
 use Rattle.judging.specs.laws.Accepted.{RecordsPass, records-mean, split, AllSpanning, accepted-spanning, InOrder, CdsPass, cds-pass, last-pass, sane}
-use Rattle.segments.specs.Tables.{tablesOf}
+use Rattle.segments.specs.Tables.{padded, tablesOf}
 use Rattle.holding.specs.Holding.{Lent, holds, sourceOf}
 use Rattle.building.specs.Afterwards.{headOf}
 use Rattle.building.specs.laws.Standing.{beside, built-holds, built-stands}
@@ -81,16 +81,25 @@ span-is : (a b : ℤ) (n : ℕ) → ltZ a (pos 0) ≡ false → a +ℤ pos n ≡
 span-is (pos a) b n h e = ap natAbs e
 span-is (negsuc a) b n h e = absurd (omega order)
 
-spans-after : (p : Record) (rs : List Record) → Ordered p rs → AllSpan rs → Spans (map exonIn rs)
-spans-after p [] o spans = tt
-spans-after p (r ∷ rs) (b, o) (span, spans) = (span-is (r .alt-start) (r .alt-end) (total genome (cigarOf r)) (b .start-whole) span, spans-after r rs o spans)
+-- no record starts below 0
+abbrev pub AllWhole : List Record → Type 0
+AllWhole [] = Unit {0}
+AllWhole (r ∷ rs) = (ltZ (r .alt-start) (pos 0) ≡ false) × AllWhole rs
 
-all-span : (forward : Bool) (rs : List Record) → faults forward rs ≡ 0 → AllSpan rs → Spans (map exonIn rs)
+whole-after : (p : Record) (rs : List Record) → Ordered p rs → AllWhole rs
+whole-after p [] o = tt
+whole-after p (r ∷ rs) (b, o) = (b .start-whole, whole-after r rs o)
+
+all-whole : (forward : Bool) (rs : List Record) → faults forward rs ≡ 0 → AllWhole rs
 unfolding faults
-all-span forward [] f spans = tt
-all-span forward (r ∷ rs) f (span, spans) =
+all-whole forward [] f = tt
+all-whole forward (r ∷ rs) f =
     let (own, rest) = clear (ownFault r) (faultsAfter forward r rs) f in
-    (span-is (r .alt-start) (r .alt-end) (total genome (cigarOf r)) (own-sound r own .start-whole) span, spans-after r rs (ordered forward r rs own rest) spans)
+    (own-sound r own .start-whole, whole-after r rs (ordered forward r rs own rest))
+
+all-span : (rs : List Record) → AllWhole rs → AllSpan rs → Spans (map exonIn rs)
+all-span [] w spans = tt
+all-span (r ∷ rs) (w, ws) (span, spans) = (span-is (r .alt-start) (r .alt-end) (total genome (cigarOf r)) w span, all-span rs ws spans)
 
 -- ---- all of it
 
@@ -99,6 +108,7 @@ pub record From (x : Input) (t : Transcript) : Type 0 where
   pub is : t ≡ build (eqZ (x .strand) (pos 1)) (map exonIn (x .records)) (cdsOf (x .start) (x .end))
   pub in-order : InOrder 0 (map exonIn (x .records))
   pub all-spanning : AllSpan (x .records)
+  pub whole : AllWhole (x .records)
   pub spans : Spans (map exonIn (x .records))
   pub bounds : CdsPass (x .start) (x .end) (transcriptLength t)
   pub lent : Lent
@@ -114,15 +124,17 @@ built-from x t h = go (judgeInput x) refl h
         let s = sane x m (pass .on) in
         let exons = exons-are (x .records) (m .exon-list) (pass .on .were-read) in
         let spanning = spanning-is (x .records) (rw exons at (accepted-spanning x m (pass .on))) in
+        let whole = all-whole (m .forward) (x .records) (pass .on .sound) in
         let last = last-pass (x .start) (x .end) _ _ _ (total transcript (elementsMade m)) (pass .on .last) in
         record {
           some = pass .some;
           is = rw (pass .strand-is, plus-is (m .forward), exons, pass .on .coding-is);
           in-order = rw exons at (s .in-order);
           all-spanning = spanning;
-          spans = all-span (m .forward) (x .records) (pass .on .sound) spanning;
+          whole = whole;
+          spans = all-span (x .records) whole spanning;
           bounds = cds-pass (x .start) (x .end) (total transcript (elementsMade m)) (pass .on .both-or-none) (last .cds-fits);
-          lent = beside (headOf m) (tablesOf (elementsMade m));
+          lent = beside (headOf m) (tablesOf (elementsMade m)) (padded mostSegments (numbersOf (m .forward) (m .exon-list)));
           held = built-holds m s;
           stands = built-stands m s;
         }

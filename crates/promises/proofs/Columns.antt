@@ -11,7 +11,7 @@ use borrow.Author.Tests.{eqb-true}
 use Rattle.whole.specs.laws.Whole.{by-test}
 use Rattle.cigar.specs.Elements.{Element, Side, Kind, letterEqual, letterM, letterX, kindOf, kind, genome, transcript, total, alongGenome, alongTranscript}
 use Rattle.cigar.specs.Elements.Kind.{matches, inserts, deletes, skips}
-use Rattle.segments.specs.Places.{surely, End, spotIn, mapPlace}
+use Rattle.segments.specs.Places.{noEdge, surely, End, spotIn, mapPlace}
 use Rattle.promises.specs.Bases.{isMatch}
 use Rattle.segments.specs.laws.Totals.{total-append}
 use Rattle.segments.specs.laws.Amid.{slid, place-amid, one-place}
@@ -86,7 +86,7 @@ abbrev pub Counts : Side → Type 0
 Counts side = (x : Element) → kind x ≡ matches → side x ≡ x .count
 
 -- one element alone
-alone : (from to : Side) (x : Element) (k : ℕ) (e : End) (forward : Bool) → kind x ≡ matches → mapPlace from to (x ∷ []) (pos k) e forward ≡ surely 0 (pos k) (pos 0)
+alone : (from to : Side) (x : Element) (k : ℕ) (e : End) (forward : Bool) → kind x ≡ matches → mapPlace from to (x ∷ []) (pos k) e forward ≡ surely 0 noEdge (pos k) (pos 0)
 unfolding spotIn
 alone from to x k e forward m =
     let u : 0 + (k + 0) ≡ k = omega arith in
@@ -98,10 +98,11 @@ total-one side x = omega arith
 
 module _ (from to : Side) (from-counts : Counts from) where
   pub column-maps : {es : List Element} {p q : ℕ} (c : Column from to es p q) (e : End) (forward : Bool)
-      → mapPlace from to es (pos p) e forward ≡ surely (length (c .before) + 0) (pos q) (pos 0)
+      → mapPlace from to es (pos p) e forward ≡ surely (length (c .before)) noEdge (pos q) (pos 0)
   column-maps c e forward =
       let x = c .element in
-      rw (c .stands, c .on-from, c .on-to)
+      let none : length (c .before) + 0 ≡ length (c .before) = omega arith in
+      rw (c .stands, c .on-from, c .on-to, ← none)
       (place-amid from to (c .before) (x ∷ []) (c .after) (c .at) e forward (omega (arith, total-one from x, from-counts x (c .match), c .within))
       ∙ ap (slid (length (c .before)) (total to (c .before))) (alone from to x (c .at) e forward (c .match)))
 
@@ -111,5 +112,5 @@ module _ (from to : Side) (from-counts : Counts from) where
       let x = c .element in
       rw (c .stands) (omega (arith, total-append from (c .before) (x ∷ c .after), from-counts x (c .match), c .within, c .on-from))
 
-pub across-column : {from to : Side} {es : List Element} {p q : ℕ} → Column from to es p q → Column to from es q p
+abbrev pub across-column : {from to : Side} {es : List Element} {p q : ℕ} → Column from to es p q → Column to from es q p
 across-column c = record { before = c .before; element = c .element; after = c .after; at = c .at; stands = c .stands; match = c .match; within = c .within; on-from = c .on-to; on-to = c .on-from }

@@ -11,10 +11,11 @@ use Rattle.whole.specs.Whole.{if_then_else_}
 use Rattle.whole.specs.laws.Whole.{by-test, order, sum, dif, neg}
 use Rattle.cigar.specs.Elements.{Element, kindOf, kind, genome, transcript, total}
 use Rattle.cigar.specs.Elements.Kind.{matches, skips}
-use Rattle.segments.specs.Places.{End, leftNearer, nearer, spotIn, mapPlace}
-use Rattle.transcript.specs.Transcript.{Transcript, genomeLength, transcriptLength}
+use Rattle.segments.specs.Places.{noEdge, leftEdge, rightEdge, surely, End, leftNearer, nearer, spotIn, mapPlace}
+use Rattle.segments.specs.Exons.{exonFound}
+use Rattle.transcript.specs.Transcript.{Transcript, exonNumber, genomeLength, transcriptLength}
 use Rattle.places.specs.Mapping.{signed}
-use Rattle.promises.specs.Bases.{Lies, Matched, upstreamIn, upstreamOf, exonName, InIntron, placeBefore, placeAfter, apart, upstreamNearer, intronName}
+use Rattle.promises.specs.Bases.{Lies, Matched, upstreamIn, upstreamOf, exonName, InIntron, placeBefore, placeAfter, apart, upstreamNearer, intronName, byElements, exonBaseNumbers, intronBaseNumbers}
 use Rattle.promises.specs.Demands.{ours, Named, FromNearest, BasesNamed}
 use Rattle.promises.proofs.InRange.{InRange}
 use Rattle.segments.specs.laws.Totals.{total-append}
@@ -44,7 +45,7 @@ module _ {t : Transcript} {p : ℕ} (b : Matched t p) where
   at-in : own .at < own .element .count
   at-in = omega (arith, own .within, match-genome (own .element) kind-is)
 
-  column : Column genome transcript (t .elements) p other
+  abbrev column : Column genome transcript (t .elements) p other
   column = record {
     before = own .before;
     element = own .element;
@@ -71,9 +72,10 @@ module _ {t : Transcript} {p : ℕ} (b : Matched t p) where
 
   reaches-column : Reaches t p other p (pos 0)
   reaches-column = record {
-    segment = _;
+    segment = length (own .before);
+    edge = noEdge;
     there = λ e. column-maps genome transcript match-genome column e (t .forward);
-    exon-segment = _;
+    exon-segment = length (own .before);
     here = λ e. column-maps transcript genome match-transcript (across-column column) e true;
     sums = omega (order, sum (pos p) (pos 0));
     p-in = omega (arith, column-within genome transcript match-genome column);
@@ -81,7 +83,8 @@ module _ {t : Transcript} {p : ℕ} (b : Matched t p) where
     o-in = omega arith;
   }
 
-  exon-named : InRange t → Named ours t p (exonName b)
+  exon-named : InRange t → Named ours t p (exonName b) (exonBaseNumbers (byElements t) b)
+  unfolding exonFound reaches-column
   exon-named in-range = rw (unsigned (t .forward), counted) at (has-name t in-range p other p (pos 0) reaches-column)
 
 -- ---- an intron
@@ -187,14 +190,18 @@ module _ {t : Transcript} {p : ℕ} (b : InIntron t p) where
   inner : total genome xs + x .count < genomeLength t
   inner = column-within genome transcript match-genome (column right)
 
+  same-number : length xs + 0 ≡ length xs
+  same-number = omega arith
+
   from-left : leftNearer (t .forward) (pos (k + 1)) (pos (x .count - k)) ≡ true → Reaches t p (other left) (placeBefore b) (pos (k + 1))
   unfolding nearer
   from-left near =
       let one : pos (total transcript xs) +ℤ (pos 0 -ℤ pos 1) ≡ pos (other left) = omega (order, sum (pos (total transcript xs)) (pos 0 -ℤ pos 1), before-is .1) in
       record {
-        segment = length xs + 0;
-        there = λ e. skip-maps e (t .forward) ∙ (rw (near, one));
-        exon-segment = _;
+        segment = length xs;
+        edge = leftEdge;
+        there = λ e. skip-maps e (t .forward) ∙ (rw (near, one, same-number));
+        exon-segment = length (left .lies .before);
         here = λ e. column-maps transcript genome match-transcript (across-column (column left)) e true;
         sums = omega (order, before-is .0, b .lies .place);
         p-in = omega (arith, inner, k-in, b .lies .place);
@@ -207,9 +214,10 @@ module _ {t : Transcript} {p : ℕ} (b : InIntron t p) where
   from-right far =
       let none : total transcript xs + 0 ≡ other right = omega (arith, after-is) in
       record {
-        segment = length xs + 0;
-        there = λ e. skip-maps e (t .forward) ∙ (rw (far, none));
-        exon-segment = _;
+        segment = length xs;
+        edge = rightEdge;
+        there = λ e. skip-maps e (t .forward) ∙ (rw (far, none, same-number));
+        exon-segment = length (right .lies .before);
         here = λ e. column-maps transcript genome match-transcript (across-column (column right)) e true;
         sums = omega (order, sum (pos (placeAfter b)) (negℤ (pos (x .count - k))), neg (pos (x .count - k)), k-in, b .lies .place);
         p-in = omega (arith, inner, k-in, b .lies .place);
@@ -225,37 +233,52 @@ module _ {t : Transcript} {p : ℕ} (b : InIntron t p) where
   right-apart = omega (arith, k-in, b .lies .place)
 
   module _ (in-range : InRange t) (forward : Bool) (is : t .forward ≡ forward) where
-    -- named from the exon base e at a, whose offset along the genome is o
-    from-edge : {a : ℕ} (e : Matched t a) (o o′ : ℤ) → Reaches t p (other e) a o → signed forward o ≡ o′ → Named ours t p (record { upstream = upstreamOf e; offset = o′ })
-    from-edge {a} e o o′ r o-is = rw (counted e, ap (λ (f : Bool). signed f o) is ∙ o-is) at (has-name t in-range p (other e) a o r)
+    -- named from the exon base e at a, whose offset along the genome is o, with the number n
+    from-edge : {a : ℕ} (e : Matched t a) (o o′ : ℤ) (n : ℕ) (r : Reaches t p (other e) a o) → signed forward o ≡ o′ → exonFound (exonNumber t) (surely (r .segment) (r .edge) (pos (other e)) o) ≡ n
+        → exonNumber t (r .exon-segment) ≡ byElements t .of-exon a e → Named ours t p (record { upstream = upstreamOf e; offset = o′ }) (record { of-base = n; of-name = byElements t .of-exon a e })
+    from-edge {a} e o o′ n r o-is n-is own-is = rw (counted e, ap (λ (f : Bool). signed f o) is ∙ o-is, n-is, own-is) at (has-name t in-range p (other e) a o r)
 
     as-nearer : {v : Bool} → leftNearer forward (pos (k + 1)) (pos (x .count - k)) ≡ v → leftNearer (t .forward) (pos (k + 1)) (pos (x .count - k)) ≡ v
     as-nearer h = ap (λ (f : Bool). leftNearer f (pos (k + 1)) (pos (x .count - k))) is ∙ h
 
-    left-named : leftNearer forward (pos (k + 1)) (pos (x .count - k)) ≡ true → (o : ℤ) → signed forward (pos (k + 1)) ≡ o → Named ours t p (record { upstream = upstreamOf left; offset = o })
-    left-named near o = from-edge left (pos (k + 1)) o (from-left (as-nearer near))
+    left-named : leftNearer forward (pos (k + 1)) (pos (x .count - k)) ≡ true → (o : ℤ) → signed forward (pos (k + 1)) ≡ o → (n : ℕ) → byElements t .on-left p b ≡ n
+        → Named ours t p (record { upstream = upstreamOf left; offset = o }) (record { of-base = n; of-name = byElements t .of-exon (placeBefore b) left })
+    unfolding exonFound from-left
+    left-named near o o-is n n-is = from-edge left (pos (k + 1)) o n (from-left (as-nearer near)) o-is n-is refl
 
-    right-named : leftNearer forward (pos (k + 1)) (pos (x .count - k)) ≡ false → (o : ℤ) → signed forward (negℤ (pos (x .count - k))) ≡ o → Named ours t p (record { upstream = upstreamOf right; offset = o })
-    right-named far o = from-edge right (negℤ (pos (x .count - k))) o (from-right (as-nearer far))
+    right-named : leftNearer forward (pos (k + 1)) (pos (x .count - k)) ≡ false → (o : ℤ) → signed forward (negℤ (pos (x .count - k))) ≡ o → (n : ℕ) → byElements t .on-right p b ≡ n
+        → Named ours t p (record { upstream = upstreamOf right; offset = o }) (record { of-base = n; of-name = byElements t .of-exon (placeAfter b) right })
+    unfolding exonFound from-right
+    right-named far o o-is n n-is = from-edge right (negℤ (pos (x .count - k))) o n (from-right (as-nearer far)) o-is n-is refl
 
-  nearest : InRange t → (forward : Bool) → t .forward ≡ forward → FromNearest (Named ours t) t p (if forward then placeBefore b else placeAfter b) (if forward then placeAfter b else placeBefore b)
-  unfolding intronName
+  abbrev on-left : ℕ
+  on-left = byElements t .on-left p b
+
+  abbrev on-right : ℕ
+  on-right = byElements t .on-right p b
+
+  -- the number upstream or downstream, where the strand is known
+  side : {forward : Bool} (l r : ℕ) → t .forward ≡ forward → (if forward then l else r) ≡ (if t .forward then l else r)
+  side l r e = ap (λ (f : Bool). if f then l else r) (sym e)
+
+  nearest : InRange t → (forward : Bool) → t .forward ≡ forward → FromNearest (Named ours t) t (byElements t) p (if forward then placeBefore b else placeAfter b) (if forward then placeAfter b else placeBefore b) b
+  unfolding intronName intronBaseNumbers
   nearest in-range true e = record {
     up = left;
     down = right;
     named = by-test (upstreamNearer p (placeBefore b) (placeAfter b))
-        (λ h. rw (h, left-apart) (left-named in-range true e (omega (order, left-apart, right-apart, nearer-yes)) (pos (k + 1)) refl))
-        (λ h. rw (h, right-apart) (right-named in-range true e (omega (order, left-apart, right-apart, nearer-no)) (negℤ (pos (x .count - k))) refl));
+        (λ h. rw (h, left-apart) (left-named in-range true e (omega (order, left-apart, right-apart, nearer-yes)) (pos (k + 1)) refl _ (side on-left on-right e)))
+        (λ h. rw (h, right-apart) (right-named in-range true e (omega (order, left-apart, right-apart, nearer-no)) (negℤ (pos (x .count - k))) refl _ (side on-right on-left e)));
   }
   nearest in-range false e = record {
     up = right;
     down = left;
     named = by-test (upstreamNearer p (placeAfter b) (placeBefore b))
-        (λ h. rw (h, right-apart) (right-named in-range false e (omega (order, left-apart, right-apart, nearer-yes)) (pos (x .count - k)) (negℤ-negℤ (pos (x .count - k)))))
-        (λ h. rw (h, left-apart) (left-named in-range false e (omega (order, left-apart, right-apart, nearer-no)) (negℤ (pos (k + 1))) refl));
+        (λ h. rw (h, right-apart) (right-named in-range false e (omega (order, left-apart, right-apart, nearer-yes)) (pos (x .count - k)) (negℤ-negℤ (pos (x .count - k))) _ (side on-left on-right e)))
+        (λ h. rw (h, left-apart) (left-named in-range false e (omega (order, left-apart, right-apart, nearer-no)) (negℤ (pos (k + 1))) refl _ (side on-right on-left e)));
   }
 
-pub bases-named : (t : Transcript) → InRange t → BasesNamed (Named ours t) t
+pub bases-named : (t : Transcript) → InRange t → BasesNamed (Named ours t) t (byElements t)
 bases-named t in-range = record {
   exon-base = λ p b. exon-named b in-range;
   intron-base = λ p b. nearest b in-range (t .forward) refl;

@@ -12,15 +12,16 @@ use Rattle.records.specs.Records.{Record}
 use Rattle.records.specs.Faults.{faults, faultsAfter, ownFault, pairFault, followFault, spanFault, startFault, riseFault, joinFault}
 use Rattle.transcript.specs.Transcript.{Transcript}
 use Rattle.transcript.specs.Transcript.Cds.{cds}
-use Rattle.transcript.specs.Building.{Exon, partsOf, elementsAfter, elementsOf, firstStart, build}
+use Rattle.transcript.specs.Building.{Exon, partsOf, elementsAfter, elementsOf, numbersAfter, numbersOf, firstStart, build}
 use Rattle.reading.specs.Reading.{spanning, readFirst, readNext, exonsAfter, exonsOf}
 use Rattle.judging.specs.Input.{Input}
 use Rattle.judging.specs.Judging.{lastFault, rangeFault, judgeOn, judgeInput}
 use Rattle.transcript.specs.declared.Bound.the-variants.{Given, Absent}
-use Rattle.promises.specs.Bases.{Matched, InIntron, isMatch, nextMatches}
-use Rattle.promises.specs.Demands.{ours, Builds, Named, FromNearest, basesOf, Lengthens, Keeps}
-use Rattle.promises.specs.Table.{digit, A, B, ins, del, A+, ending, lone}
-use Rattle.promises.proofs.Promises.{demand-2-built, demand-3}
+use Rattle.promises.specs.Bases.{Matched, InIntron, isMatch, nextMatches, byElements}
+use Rattle.promises.specs.Demands.{ours, Builds, Named, FromNearest, BasesNamed, basesOf, Lengthens, Keeps}
+use Rattle.promises.specs.Table.{digit, A, B, ins, del, A+, ending, lone, spliced, spliced-1, hollow, hollow-1, led, led-1}
+use Rattle.promises.proofs.Built.{built-from}
+use Rattle.promises.proofs.Promises.{demand-2, demand-3}
 
 -- ---- the inputs
 
@@ -40,8 +41,8 @@ amid4M letter = digit 4 ∷ letterM ∷ digit 2 ∷ letter ∷ digit 4 ∷ lette
 abbrev input : ℤ → ℕ → ℕ → List Record → Input
 input strand s e rs = record { strand = strand; start = Given (pos s); end = Given (pos e); records = rs }
 
-abbrev uncoded : List Record → Input
-uncoded rs = record { strand = pos 1; start = Absent; end = Absent; records = rs }
+abbrev uncoded : ℤ → List Record → Input
+uncoded strand rs = record { strand = strand; start = Absent; end = Absent; records = rs }
 
 abbrev pub inputA : Input
 inputA = input (pos 1) 3 15 (row 10 20 0 10 0 10M ∷ row 25 33 10 18 1 (ofM 8) ∷ [])
@@ -76,13 +77,19 @@ pub all-build :
     × Builds inputB B
     × Builds inputLongA longA
     × Builds inputLongB longB
-    × Builds (uncoded (row 100 110 0 8 0 (amid4M letterI) ∷ [])) ins
-    × Builds (uncoded (row 100 108 0 10 0 (amid4M letterD) ∷ [])) del
+    × Builds (uncoded (pos 1) (row 100 110 0 8 0 (amid4M letterI) ∷ [])) ins
+    × Builds (uncoded (pos 1) (row 100 108 0 10 0 (amid4M letterD) ∷ [])) del
     × Builds (input (pos 1) 3 15 (row 10 20 0 10 0 10M ∷ row 25 33 10 18 1 (ofM 8) ∷ row 40 44 18 22 2 (ofM 4) ∷ [])) A+
     × Builds (input (pos 1) 0 4 (row 0 6 0 4 0 (digit 4 ∷ letterM ∷ digit 2 ∷ letterI ∷ []) ∷ [])) ending
     × Builds (input (pos 1) 0 4 (row 10 14 0 4 0 (ofM 4) ∷ [])) lone
+    × Builds (uncoded (pos 1) (row 10 20 0 8 0 (amid4M letterN) ∷ row 25 33 8 16 1 (ofM 8) ∷ [])) spliced
+    × Builds (uncoded (negsuc 0) (row 10 20 8 16 1 (amid4M letterN) ∷ row 25 33 0 8 0 (ofM 8) ∷ [])) spliced-1
+    × Builds (uncoded (pos 1) (row 10 20 0 10 0 10M ∷ row 22 22 10 10 1 [] ∷ row 25 33 10 18 2 (ofM 8) ∷ [])) hollow
+    × Builds (uncoded (negsuc 0) (row 10 20 8 18 2 10M ∷ row 22 22 8 8 1 [] ∷ row 25 33 0 8 0 (ofM 8) ∷ [])) hollow-1
+    × Builds (uncoded (pos 1) (row 5 5 0 0 0 [] ∷ row 10 14 0 4 1 (ofM 4) ∷ [])) led
+    × Builds (uncoded (negsuc 0) (row 5 5 4 4 1 [] ∷ row 10 14 0 4 0 (ofM 4) ∷ [])) led-1
 unfolding judgeInput judgeOn lastFault rangeFault faults faultsAfter ownFault pairFault followFault spanFault startFault riseFault joinFault exonsOf exonsAfter spanning readFirst readNext readFrom isLetter elementsOf elementsAfter partsOf firstStart total genome transcript kindOf
-all-build = (refl, refl, refl, refl, refl, refl, refl, refl, refl)
+all-build = (refl, refl, refl, refl, refl, refl, refl, refl, refl, refl, refl, refl, refl, refl, refl)
 
 -- ---- demand 2
 
@@ -117,15 +124,21 @@ of-B : B .elements ≡ elementsAB
 unfolding build elementsOf elementsAfter partsOf
 of-B = refl
 
--- one base is upstream of g.12 on A, and on B there are the 8 of the other exon and 8 of its own
-second-named : Named ours A 1 (record { upstream = 1; offset = pos 0 }) × Named ours B 1 (record { upstream = 16; offset = pos 0 })
-unfolding second build total transcript kindOf
-second-named = (demand-2-built inputA A (all-build .0) .exon-base 1 (second A of-A), demand-2-built inputB B (all-build .1) .exon-base 1 (second B of-B))
+-- what builds can be lent
+named : (x : Input) (t : Transcript) → Builds x t → BasesNamed (Named ours t) t (byElements t)
+named x t builds = let f = built-from x t builds in demand-2 (f .lent) t (f .held) (f .stands)
+
+-- one base is upstream of g.12 on A, and on B there are the 8 of the other exon and 8 of its own; it lies in exon 1 of A and in exon 2 of B
+second-named :
+    Named ours A 1 (record { upstream = 1; offset = pos 0 }) (record { of-base = 1; of-name = 1 })
+    × Named ours B 1 (record { upstream = 16; offset = pos 0 }) (record { of-base = 2; of-name = 2 })
+unfolding second build total transcript kindOf numbersOf numbersAfter partsOf
+second-named = (named inputA A (all-build .0) .exon-base 1 (second A of-A), named inputB B (all-build .1) .exon-base 1 (second B of-B))
 
 -- g.23 lies between the exon bases g.20 and g.26, of which on A the first is upstream and on B the second
-middle-named : FromNearest (Named ours A) A 12 9 15 × FromNearest (Named ours B) B 12 15 9
+middle-named : FromNearest (Named ours A) A (byElements A) 12 9 15 (middle A of-A) × FromNearest (Named ours B) B (byElements B) 12 15 9 (middle B of-B)
 unfolding middle build total genome kindOf
-middle-named = (demand-2-built inputA A (all-build .0) .intron-base 12 (middle A of-A), demand-2-built inputB B (all-build .1) .intron-base 12 (middle B of-B))
+middle-named = (named inputA A (all-build .0) .intron-base 12 (middle A of-A), named inputB B (all-build .1) .intron-base 12 (middle B of-B))
 
 -- ---- demand 3
 
@@ -159,7 +172,9 @@ lengthens-B = record {
   end-moved = refl;
 }
 
-answers-kept : Keeps ours A longA × Keeps ours B longB
+-- one record is added upstream on either strand
+answers-kept : Keeps ours 1 A longA × Keeps ours 1 B longB
+unfolding lengthens-A lengthens-B
 answers-kept = (
   demand-3 inputA inputLongA A longA (all-build .0) (all-build .2) lengthens-A,
   demand-3 inputB inputLongB B longB (all-build .1) (all-build .3) lengthens-B,

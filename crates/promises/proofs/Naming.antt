@@ -12,9 +12,10 @@ use Rattle.whole.specs.Fits.{fits}
 use Rattle.numbering.specs.Numbers.{nOfPlace, placeOfN, plainC, starC, cOfN}
 use Rattle.numbering.specs.laws.RoundTrips.{place-back, above-back}
 use Rattle.cigar.specs.Elements.{genome, transcript}
-use Rattle.segments.specs.Places.{surely, End, mapPlace}
+use Rattle.segments.specs.Places.{Edge, noEdge, surely, End, mapPlace}
 use Rattle.segments.specs.Places.End.{start, stop}
-use Rattle.transcript.specs.Transcript.{Transcript, genomeLength, transcriptLength}
+use Rattle.segments.specs.Exons.{exonFound, exonChosen}
+use Rattle.transcript.specs.Transcript.{Transcript, exonNumber, genomeLength, transcriptLength}
 use Rattle.transcript.specs.Transcript.Cds.{cds}
 use Rattle.positions.specs.Positions.{each, asksN, asksC}
 use Rattle.positions.specs.Answers.{certainly, plainly}
@@ -22,8 +23,8 @@ use Rattle.positions.specs.laws.Fits.{fits-by}
 use Rattle.coding.specs.Coding.{beyond, cPosition, cOfInterval, nToC, nPosition, cToN}
 use Rattle.places.specs.Mapping.{turned, signed, nOfSpot, gOfSpot, wholeN, gToN, gOfEnds, nToG}
 use Rattle.mapper.specs.Chains.{gToC, cToG}
-use Rattle.promises.specs.Bases.{Name, nName, cNumber}
-use Rattle.promises.specs.Demands.{ours, gNumber, askedAt, gAt, nAt, cAt, Named}
+use Rattle.promises.specs.Bases.{Name, nName, cNumber, ExonNumbers}
+use Rattle.promises.specs.Demands.{ours, single, gNumber, askedAt, gAt, nAt, cAt, Named}
 use Rattle.promises.proofs.InRange.{InRange}
 use Rattle.promises.proofs.Fits.{Within, within-fits, signed-within, c-within}
 use Rattle.promises.proofs.Turns.{turn-turn, sign-sign, across, turned-within, across-within, inside-within, n-of-place, place-of-base, same-either}
@@ -60,9 +61,10 @@ c-counted s e m ordered =
 
 pub record Reaches (t : Transcript) (p q a : ℕ) (o : ℤ) : Type 0 where
   pub segment : ℕ
-  pub there : (e : End) → mapPlace genome transcript (t .elements) (pos p) e (t .forward) ≡ surely segment (pos q) o
+  pub edge : Edge
+  pub there : (e : End) → mapPlace genome transcript (t .elements) (pos p) e (t .forward) ≡ surely segment edge (pos q) o
   pub exon-segment : ℕ
-  pub here : (e : End) → mapPlace transcript genome (t .elements) (pos q) e true ≡ surely exon-segment (pos a) (pos 0)
+  pub here : (e : End) → mapPlace transcript genome (t .elements) (pos q) e true ≡ surely exon-segment noEdge (pos a) (pos 0)
   pub sums : pos a +ℤ o ≡ pos p
   pub p-in : p < genomeLength t
   pub q-in : q < transcriptLength t
@@ -76,6 +78,10 @@ module _ (t : Transcript) (in-range : InRange t) (p q a : ℕ) (o : ℤ) (r : Re
   abbrev x : Name
   x = record { upstream = m; offset = signed (t .forward) o }
 
+  -- the number that the base is found with, and that of the exon base's own segment
+  abbrev k : ExonNumbers
+  k = record { of-base = exonFound (exonNumber t) (surely (r .segment) (r .edge) (pos q) o); of-name = exonNumber t (r .exon-segment) }
+
   m-in : m < transcriptLength t
   m-in = across-within (t .forward) (transcriptLength t) q (r .q-in)
 
@@ -88,12 +94,12 @@ module _ (t : Transcript) (in-range : InRange t) (p q a : ℕ) (o : ℤ) (r : Re
   base-fits : fits (gNumber t p) ≡ true
   base-fits = fits-by (gNumber t p) (omega (arith, r .p-in, in-range .genome-small)) (omega arith)
 
-  to-n : gToN true t (askedAt t p) ≡ certainly (nAt x)
+  to-n : gToN true t (askedAt t p) ≡ certainly (single (k .of-base)) (nAt x)
   unfolding gToN wholeN nOfSpot
-  to-n = rw (place-of-base (t .first) p, inside-within (genomeLength t) p (r .p-in), r .there start, r .there stop, same-either (t .forward) (surely (r .segment) (pos q) o), number-of (t .forward) (transcriptLength t) q (r .q-in), number-fits, offset-fits)
+  to-n = rw (place-of-base (t .first) p, inside-within (genomeLength t) p (r .p-in), r .there start, r .there stop, same-either (t .forward) (surely (r .segment) (r .edge) (pos q) o), number-of (t .forward) (transcriptLength t) q (r .q-in), number-fits, offset-fits)
 
-  n-back : nToG true t (each asksN (nAt x)) ≡ certainly (gAt t p)
-  unfolding nToG gOfEnds gOfSpot
+  n-back : nToG true t (each asksN (nAt x)) ≡ certainly (single (k .of-name)) (gAt t p)
+  unfolding nToG gOfEnds gOfSpot exonChosen
   n-back =
       let e : pos (a + t .first + 1) +ℤ o ≡ gNumber t p = omega (order, sum (pos (a + t .first + 1)) o, sum (pos a) o, r .sums) in
       rw (same-either (t .forward) (asksN (nName x)), place-of (t .forward) (transcriptLength t) q (r .q-in), inside-within (transcriptLength t) q (r .q-in), r .here start, r .here stop, sign-sign (t .forward) o, e, base-fits)
@@ -115,7 +121,7 @@ module _ (t : Transcript) (in-range : InRange t) (p q a : ℕ) (o : ℤ) (r : Re
     high : ltb (transcriptLength t) (m + 1) ≡ false
     high = le-ltb (transcriptLength t) (m + 1) (omega (arith, m-in))
 
-    to-c : gToC true t (askedAt t p) ≡ certainly (cAt s e x)
+    to-c : gToC true t (askedAt t p) ≡ certainly (single (k .of-base)) (cAt s e x)
     unfolding gToC nToC cOfInterval beyond cPosition
     to-c = rw (to-n, coding, low, high, counted, c-fits, offset-fits)
 
@@ -127,9 +133,9 @@ module _ (t : Transcript) (in-range : InRange t) (p q a : ℕ) (o : ℤ) (r : Re
         let above : pos 1 ≤ℤ pos (m + 1) = omega order in
         rw (coding, ← counted, above-back (pos s) (pos e) (pos (m + 1)) at-0 up above, low, high, number-fits, offset-fits)
 
-    c-back : cToG true t (each asksC (cAt s e x)) ≡ certainly (gAt t p)
+    c-back : cToG true t (each asksC (cAt s e x)) ≡ certainly (single (k .of-name)) (gAt t p)
     unfolding cToG
     c-back = rw (c-to-n, n-back)
 
-  pub has-name : Named ours t p x
+  pub has-name : Named ours t p x k
   has-name = record { g-to-n = to-n; n-to-g = n-back; g-to-c = to-c; c-to-g = c-back }

@@ -6,7 +6,7 @@ use mathlib.Core.List.{List, [], _∷_, _++_, map, map-map, map-append}
 use mathlib.Core.Path.{_≡_, refl, sym, ap, _∙_, subst}
 use lib.Dec.{ltb}
 use lib.IntN.{ℤ, pos, negsuc, natAbs, _+ℤ_}
-use lib.ListN.{length}
+use lib.ListN.{length, length-map}
 use Rattle.refusals.specs.Outcome.{answered, through}
 use Rattle.refusals.specs.laws.Outcomes.{clash}
 use Rattle.whole.specs.Whole.{eqZ}
@@ -23,10 +23,12 @@ use Rattle.transcript.specs.Heads.{bothBits}
 use Rattle.transcript.specs.declared.Numbers.{Numbers}
 use Rattle.transcript.specs.declared.Bound.{Bound}
 use Rattle.transcript.specs.declared.Bound.the-variants.{Given, Absent}
-use Rattle.promises.specs.Demands.{Mapper, ours, madeOf, Builds, basesOf, addedUpstream, movedUp, KeptOfRecord, kept, Lengthens, Keeps, Demand-2, Demand-2-built, Built-spans, Demand-3, Demand-3-narrow}
+use Rattle.promises.specs.Demands.{Mapper, ours, madeOf, Builds, basesOf, addedUpstream, movedUp, KeptOfRecord, kept, Lengthens, recordsUpstream, recordsAdded, Keeps, Demand-2, Demand-2-built, Built-spans, Demand-3, Demand-3-narrow}
+use Rattle.promises.specs.Bases.{byElements}
 use Rattle.promises.proofs.InRange.{InRange, held-in-range}
 use Rattle.promises.proofs.Records.{Spans, exonBases}
 use Rattle.promises.proofs.Built.{exonIn, From, built-from}
+use Rattle.promises.proofs.Counting.{counts}
 use Rattle.promises.proofs.Demand2.{bases-named}
 use Rattle.promises.proofs.Demand3.{cdsUp, lengthened, lengthened-keeps}
 
@@ -44,9 +46,9 @@ host-builds n bytes made =
 pub demand-2 : Demand-2 ours
 demand-2 x t held stands = bases-named t (held-in-range x t held stands)
 
--- what builds can be lent, and holds together
+-- what builds can be lent, and holds together; and its numbers are those of its records
 pub built-too : (m : Mapper) → Demand-2 m → Demand-2-built m
-built-too m d x t builds = let f = built-from x t builds in d (f .lent) t (f .held) (f .stands)
+built-too m d x t builds = let f = built-from x t builds in record { numbering = byElements t; counts = counts x t f; named = d (f .lent) t (f .held) (f .stands) }
 
 pub demand-2-built : Demand-2-built ours
 demand-2-built = built-too ours demand-2
@@ -79,10 +81,14 @@ added-is : (forward : Bool) (left right : List Record) → addedUpstream forward
 added-is true left right = omega (arith, bases-are left)
 added-is false left right = omega (arith, bases-are right)
 
+records-are : (forward : Bool) (left right : List Record) → recordsUpstream forward left right ≡ cond forward (length (map exonIn left)) (length (map exonIn right))
+records-are true left right = sym (length-map left exonIn)
+records-are false left right = sym (length-map right exonIn)
+
 -- over records, of which there is one at least
 some-keep : (forward : Bool) (left : List Exon) (rs : List Record) (right : List Exon) (c : Cds) → 0 < length rs
     → Spans (left ++ (map exonIn rs ++ right)) → InOrder 0 (left ++ (map exonIn rs ++ right)) → InRange (lengthened forward left (map exonIn rs) right c)
-    → Keeps ours (build forward (map exonIn rs) c) (lengthened forward left (map exonIn rs) right c)
+    → Keeps ours (cond forward (length left) (length right)) (build forward (map exonIn rs) c) (lengthened forward left (map exonIn rs) right c)
 some-keep forward left [] right c some spans order in-range = absurd (omega arith)
 some-keep forward left (r ∷ rs) right c some spans order in-range = lengthened-keeps forward left (exonIn r) (map exonIn rs) right spans order c in-range
 
@@ -114,9 +120,9 @@ module _ (x y : Input) (t u : Transcript) (from-x : From x t) (from-y : From y u
   longer-is : u ≡ lengthened forward left own right (cdsOf (x .start) (x .end))
   longer-is = from-y .is ∙ rw (exons-are, coding-is, l .strand-kept)
 
-  pub kept-all : Keeps ours t u
+  pub kept-all : Keeps ours (recordsAdded l) t u
   kept-all =
-      rw (from-x .is, longer-is)
+      rw (records-are forward (l .left) (l .right), from-x .is, longer-is)
       (some-keep forward left (x .records) right (cdsOf (x .start) (x .end)) (from-x .some)
       (subst Spans exons-are (from-y .spans))
       (subst (InOrder 0) exons-are (from-y .in-order))

@@ -23,17 +23,17 @@ exonBases (r ∷ rs) = total transcript (r .parts) + exonBases rs
 
 -- ---- the lists
 
-abbrev lastEnd : ℕ → List Exon → ℕ
+abbrev pub lastEnd : ℕ → List Exon → ℕ
 lastEnd e [] = e
 lastEnd e (r ∷ rs) = lastEnd (r .alt-end) rs
 
 -- what stands before the record r: the records a, which follow one that ends at e, and the gap to r
-leadAfter : Bool → ℕ → List Exon → Exon → List Element
+unfoldable pub leadAfter : Bool → ℕ → List Exon → Exon → List Element
 leadAfter forward e [] r = gap e r ∷ []
 leadAfter forward e (a ∷ bs) r = gap e a ∷ (partsOf forward a ++ leadAfter forward (a .alt-end) bs r)
 
 -- the elements added before r, and those added after r and rs
-pub lead : Bool → List Exon → Exon → List Element
+unfoldable pub lead : Bool → List Exon → Exon → List Element
 lead forward [] r = []
 lead forward (a ∷ bs) r = partsOf forward a ++ leadAfter forward (a .alt-end) bs r
 
@@ -50,7 +50,7 @@ unfolding elementsAfter elementsOf leadAfter
 after-lead forward e [] r rs = refl
 after-lead forward e (a ∷ bs) r rs = rw (after-lead forward (a .alt-end) bs r rs, append-assoc (partsOf forward a) (leadAfter forward (a .alt-end) bs r) (elementsOf forward (r ∷ rs)))
 
-of-lead : (forward : Bool) (left : List Exon) (r : Exon) (rs : List Exon) → elementsOf forward (left ++ r ∷ rs) ≡ lead forward left r ++ elementsOf forward (r ∷ rs)
+pub of-lead : (forward : Bool) (left : List Exon) (r : Exon) (rs : List Exon) → elementsOf forward (left ++ r ∷ rs) ≡ lead forward left r ++ elementsOf forward (r ∷ rs)
 unfolding elementsOf lead
 of-lead forward [] r rs = refl
 of-lead forward (a ∷ bs) r rs = rw (after-lead forward (a .alt-end) bs r rs, append-assoc (partsOf forward a) (leadAfter forward (a .alt-end) bs r) (elementsOf forward (r ∷ rs)))
@@ -65,7 +65,7 @@ split forward left r rs right = rw (of-lead forward left r (rs ++ right), of-tra
 
 -- ---- how far they go
 
-parts-total : (side : Side) (forward : Bool) (r : Exon) → total side (partsOf forward r) ≡ total side (r .parts)
+pub parts-total : (side : Side) (forward : Bool) (r : Exon) → total side (partsOf forward r) ≡ total side (r .parts)
 unfolding partsOf
 parts-total side true r = refl
 parts-total side false r = total-reverse side (r .parts)
@@ -74,7 +74,7 @@ gap-transcript : (e : ℕ) (r : Exon) → transcript (gap e r) ≡ 0
 unfolding transcript kindOf
 gap-transcript e r = refl
 
-gap-genome : (e : ℕ) (r : Exon) → genome (gap e r) ≡ r .alt-start - e
+pub gap-genome : (e : ℕ) (r : Exon) → genome (gap e r) ≡ r .alt-start - e
 unfolding genome kindOf
 gap-genome e r = refl
 

@@ -8,7 +8,8 @@ use Rattle.cigar.specs.Read.{readText}
 use Rattle.cigar.specs.Write.{digitsBy, decimal, elementText, elementsText}
 use Rattle.segments.specs.Tables.{entriesFrom}
 use Rattle.segments.specs.Places.{firstBelow, indexOf, spotIn, nearer, mapByTables, mapPlace}
-use Rattle.transcript.specs.Building.{partsOf, elementsAfter, elementsOf, firstStart, build}
+use Rattle.segments.specs.Exons.{exonFound, exonChosen}
+use Rattle.transcript.specs.Building.{partsOf, elementsAfter, elementsOf, numbersAfter, numbersOf, firstStart, build}
 use Rattle.whole.specs.Fits.{fitOf, fits}
 use Rattle.coding.specs.Coding.{beyond, cPosition, cOfInterval, nToC, nPosition, cToN}
 use Rattle.places.specs.Mapping.{inside, turned, nOfSpot, gOfSpot, wholeN, gToN, gOfEnds, nToG}
@@ -21,5 +22,5 @@ use Rattle.promises.specs.Demands.{ours}
 use Rattle.promises.specs.Table.{TableOfPlaces}
 
 pub table-of-places : TableOfPlaces ours
-unfolding kindOf genome transcript total entriesFrom firstBelow indexOf spotIn nearer mapByTables mapPlace nOfPlace placeOfN cOfN nOfC skipZero inside turned nOfSpot gOfSpot fitOf fits wholeN gToN gOfEnds nToG beyond cPosition cOfInterval nToC nPosition cToN gToC cToG partsOf elementsAfter elementsOf firstStart build askGToN askInBounds isLetter readFrom readText digitsBy decimal elementText elementsText prefixLen suffixLen changedOf judgeInput judgeOn lastFault rangeFault faults faultsAfter ownFault pairFault followFault spanFault startFault riseFault joinFault exonsOf exonsAfter spanning readFirst readNext
+unfolding kindOf genome transcript total entriesFrom firstBelow indexOf spotIn nearer mapByTables mapPlace exonFound exonChosen nOfPlace placeOfN cOfN nOfC skipZero inside turned nOfSpot gOfSpot fitOf fits wholeN gToN gOfEnds nToG beyond cPosition cOfInterval nToC nPosition cToN gToC cToG partsOf elementsAfter elementsOf numbersAfter numbersOf firstStart build askGToN askInBounds isLetter readFrom readText digitsBy decimal elementText elementsText prefixLen suffixLen changedOf judgeInput judgeOn lastFault rangeFault faults faultsAfter ownFault pairFault followFault spanFault startFault riseFault joinFault exonsOf exonsAfter spanning readFirst readNext
 table-of-places = refl

@@ -1,15 +1,16 @@
--- How HGVS names a base, and the bases that demand 2 speaks of, in words of their own: they are counted over the elements, and no rule of the mapper is used. Assumes nothing.
+-- How HGVS names a base, the bases that demand 2 speaks of, and their exon numbers, in words of their own: they are counted over the elements, and no rule of the mapper is used. Assumes nothing.
 use Prim.Native.Nat.{ℕ, _+_, _-_, _<_}
 use mathlib.Core.Bool.{Bool, true, false, _||_}
 use mathlib.Core.List.{List, [], _∷_, _++_, reverse}
 use mathlib.Core.Path.{_≡_}
 use lib.Dec.{eqb, leb, ltb}
 use lib.IntN.{ℤ, pos, negℤ}
+use lib.ListN.{length}
 use Rattle.whole.specs.Whole.{if_then_else_}
 use Rattle.numbering.specs.Numbers.{plainC, starC}
 use Rattle.numbering.specs.declared.CNumber.{CNumber}
 use Rattle.cigar.specs.Elements.{Element, letterEqual, letterM, letterN, letterX, genome, transcript, total}
-use Rattle.transcript.specs.Transcript.{Transcript}
+use Rattle.transcript.specs.Transcript.{Transcript, exonNumber}
 use Rattle.positions.specs.Positions.{NPosition, CPosition}
 
 -- ---- names
@@ -107,3 +108,41 @@ unfoldable pub intronName : {t : Transcript} {u d : ℕ} → ℕ → Matched t u
 intronName {t} {u} {d} p up down =
     if upstreamNearer p u d then record { upstream = upstreamOf up; offset = pos (apart p u) }
     else record { upstream = upstreamOf down; offset = negℤ (pos (apart p d)) }
+
+-- ---- exon numbers
+
+-- exon numbers of a transcript's bases: of each base in a matched column, and of each base of an intron, that on its left and that on its right along the genome
+pub record Numbering (t : Transcript) : Type 0 where
+  pub of-exon : (p : ℕ) → Matched t p → ℕ
+  pub on-left : (p : ℕ) → InIntron t p → ℕ
+  pub on-right : (p : ℕ) → InIntron t p → ℕ
+
+-- the one upstream and the one downstream
+abbrev pub upstreamNumber : {t : Transcript} {p : ℕ} → Numbering t → InIntron t p → ℕ
+upstreamNumber {t} {p} n b = if t .forward then n .on-left p b else n .on-right p b
+
+abbrev pub downstreamNumber : {t : Transcript} {p : ℕ} → Numbering t → InIntron t p → ℕ
+downstreamNumber {t} {p} n b = if t .forward then n .on-right p b else n .on-left p b
+
+-- by the elements' numbers: a column has that of its element; an intron's left side has that of the N, and its right side that of what follows the N
+abbrev pub byElements : (t : Transcript) → Numbering t
+byElements t = record {
+  of-exon = λ p b. exonNumber t (length (b .lies .before));
+  on-left = λ p b. exonNumber t (length (b .lies .before));
+  on-right = λ p b. exonNumber t (length (b .lies .before) + 1);
+}
+
+-- the numbers that go with a name: that with which the base is answered, and that with which the name, asked again, is answered
+pub record ExonNumbers : Type 0 where
+  pub of-base : ℕ
+  pub of-name : ℕ
+
+-- an exon base is the one that its name counts from
+abbrev pub exonBaseNumbers : {t : Transcript} {p : ℕ} → Numbering t → Matched t p → ExonNumbers
+exonBaseNumbers {t} {p} n b = record { of-base = n .of-exon p b; of-name = n .of-exon p b }
+
+-- an intron base has the number of the side that its name counts from, and its name that of the exon base there
+unfoldable pub intronBaseNumbers : {t : Transcript} {p u d : ℕ} → Numbering t → InIntron t p → Matched t u → Matched t d → ExonNumbers
+intronBaseNumbers {t} {p} {u} {d} n b up down =
+    if upstreamNearer p u d then record { of-base = upstreamNumber n b; of-name = n .of-exon u up }
+    else record { of-base = downstreamNumber n b; of-name = n .of-exon d down }

@@ -2,7 +2,7 @@
 --     Host-sees             each answer is the mapper's about the transcript that the records, or the card, lay out
 --     Host-sees-length      and its answer about a length
 --     Host-2, Host-3        demands 2 and 3 in the numbers that the host is told
-use Prim.Native.Nat.{ℕ}
+use Prim.Native.Nat.{ℕ, _+_}
 use mathlib.Core.Bool.{Bool}
 use mathlib.Core.List.{List, map}
 use mathlib.Core.Path.{_≡_}
@@ -17,7 +17,7 @@ use Rattle.transcript.specs.declared.Numbers.{Numbers}
 use Rattle.holding.specs.Holding.{Lent}
 use Rattle.judging.specs.Input.{Input, inputOf}
 use Rattle.judging.specs.Judging.{Made, Measured, judge, judgeLength}
-use Rattle.building.specs.Afterwards.{builtAnswer, lengthAnswer, tablesAfter}
+use Rattle.building.specs.Afterwards.{builtAnswer, lengthAnswer, tablesAfter, exonsAfter}
 use Rattle.card.specs.Card.{numbersIn, inputIn}
 use Rattle.card.specs.Writing.{judgeCard}
 use Rattle.positions.specs.Answers.{certainly}
@@ -25,12 +25,14 @@ use Rattle.coding.specs.Coding.{nToC, cToN}
 use Rattle.places.specs.Mapping.{inBounds}
 use Rattle.mapper.specs.Asking.{given, codes}
 use Rattle.layout.specs.Layout.{headAt, gAsked as asked, nAsked, cAsked, gLaid, nLaid, cLaid, laid, refusal, saidLaid}
+use Rattle.layout.specs.declared.lay.Answer.{Answer}
+use Rattle.layout.specs.declared.lay.Position.{Position}
 use Rattle.entry.specs.Boundary.{builtNumber, builtHead}
 use Rattle.entry.specs.Told.{toldGToN, toldGToC, toldNToG, toldNToC, toldCToN, toldCToG, toldInBounds, toldCoding, toldSteps, toldSlots}
 use Rattle.worklist.specs.Worklist.{positionsOf, neverFalls, trackOf, stepsOf, stepsLaid}
 use Rattle.worklist.specs.declared.Slot.{Slot}
-use Rattle.promises.specs.Bases.{Name, nName, cName}
-use Rattle.promises.specs.Demands.{Mapper, strict, Builds, gNumber, gAt, nAt, cAt, BasesNamed, Lengthens}
+use Rattle.promises.specs.Bases.{Name, nName, cName, ExonNumbers}
+use Rattle.promises.specs.Demands.{Mapper, strict, Builds, single, gNumber, gAt, nAt, cAt, NamedByRecords, Lengthens, recordsAdded}
 
 -- ---- building
 
@@ -52,9 +54,9 @@ input (of-card bytes) = inputIn bytes (numbersIn bytes)
 abbrev pub toldBuilding : Way → ℕ
 toldBuilding w = builtNumber (builtAnswer (judgment w))
 
--- the lent memory afterwards, whatever it was: the head's numbers and the tables
-abbrev pub writtenBy : Way → List ℤ → Tables → Lent
-writtenBy w head was = record { head = headAt (builtHead (builtAnswer (judgment w)) head); tables = tablesAfter (judgment w) was }
+-- the lent memory afterwards, whatever it was: the head's numbers, the tables and the exon numbers
+abbrev pub writtenBy : Way → List ℤ → Tables → List ℕ → Lent
+writtenBy w head was exons = record { head = headAt (builtHead (builtAnswer (judgment w)) head); tables = tablesAfter (judgment w) was; exons = exonsAfter (judgment w) exons }
 
 -- ---- asking
 
@@ -78,12 +80,12 @@ pub record Sees (m : Mapper) (x : Lent) (t : Transcript) : Type 0 where
 
 -- where building tells 0, a transcript builds from the input that the bytes lay out, and the host sees it
 abbrev pub Host-sees : Mapper → Type 0
-Host-sees m = (w : Way) (head : List ℤ) (was : Tables) → toldBuilding w ≡ 0 → (t : Transcript) × Builds (input w) t × Sees m (writtenBy w head was) t
+Host-sees m = (w : Way) (head : List ℤ) (was : Tables) (exons : List ℕ) → toldBuilding w ≡ 0 → (t : Transcript) × Builds (input w) t × Sees m (writtenBy w head was exons) t
 
 -- ---- a length
 
-abbrev pub writtenByLength : Outcome Measured → List ℤ → Tables → Lent
-writtenByLength j head was = record { head = headAt (builtHead (lengthAnswer j) head); tables = was }
+abbrev pub writtenByLength : Outcome Measured → List ℤ → Tables → List ℕ → Lent
+writtenByLength j head was exons = record { head = headAt (builtHead (lengthAnswer j) head); tables = was; exons = exons }
 
 -- over x: 18 for g., and between n. and c. the rules of a length and a CDS
 pub record SeesLength (x : Lent) (len : ℕ) (c : Cds) : Type 0 where
@@ -101,30 +103,37 @@ pub record SeesLength (x : Lent) (len : ℕ) (c : Cds) : Type 0 where
 
 -- where building from a length tells 0, it measured that length and that CDS, and the host sees them
 abbrev pub Host-sees-length : Type 0
-Host-sees-length = (len : ℤ) (bits : ℕ) (start end : ℤ) (head : List ℤ) (was : Tables) → builtNumber (lengthAnswer (judgeLength len bits start end)) ≡ 0
-    → (m : Measured) × (judgeLength len bits start end ≡ answered m) × SeesLength (writtenByLength (judgeLength len bits start end) head was) (m .bases) (m .coding)
+Host-sees-length = (len : ℤ) (bits : ℕ) (start end : ℤ) (head : List ℤ) (was : Tables) (exons : List ℕ) → builtNumber (lengthAnswer (judgeLength len bits start end)) ≡ 0
+    → (m : Measured) × (judgeLength len bits start end ≡ answered m) × SeesLength (writtenByLength (judgeLength len bits start end) head was exons) (m .bases) (m .coding)
 
 -- ---- demand 2
 
--- in strict mode the host is told the name y for the base at place p of t, certainly, and for the name the base
-pub record ToldName (x : Lent) (t : Transcript) (p : ℕ) (y : Name) : Type 0 where
-  pub g-to-n : toldGToN x (gNumber t p) (gNumber t p) 0 strict ≡ laid nLaid (certainly (nAt y))
-  pub n-to-g : let n = nName y in toldNToG x (n .base) (n .offset) (n .base) (n .offset) strict ≡ laid gLaid (certainly (gAt t p))
-  pub g-to-c : (s e : ℕ) → t .coding ≡ cds s e → toldGToC x (gNumber t p) (gNumber t p) 0 strict ≡ laid cLaid (certainly (cAt s e y))
+-- in strict mode the host is told the name y for the base at place p of t, certainly, and for the name the base, each with its exon number
+pub record ToldName (x : Lent) (t : Transcript) (p : ℕ) (y : Name) (k : ExonNumbers) : Type 0 where
+  pub g-to-n : toldGToN x (gNumber t p) (gNumber t p) 0 strict ≡ laid nLaid (certainly (single (k .of-base)) (nAt y))
+  pub n-to-g : let n = nName y in toldNToG x (n .base) (n .offset) (n .base) (n .offset) strict ≡ laid gLaid (certainly (single (k .of-name)) (gAt t p))
+  pub g-to-c : (s e : ℕ) → t .coding ≡ cds s e → toldGToC x (gNumber t p) (gNumber t p) 0 strict ≡ laid cLaid (certainly (single (k .of-base)) (cAt s e y))
   pub c-to-g : (s e : ℕ) → t .coding ≡ cds s e → let c = cName s e y in
-      toldCToG x (c .base .0) (c .offset) (c .base .1) (c .base .0) (c .offset) (c .base .1) strict ≡ laid gLaid (certainly (gAt t p))
+      toldCToG x (c .base .0) (c .offset) (c .base .1) (c .base .0) (c .offset) (c .base .1) strict ≡ laid gLaid (certainly (single (k .of-name)) (gAt t p))
 
 abbrev pub Host-2 : Type 0
-Host-2 = (w : Way) (head : List ℤ) (was : Tables) (t : Transcript) → toldBuilding w ≡ 0 → Builds (input w) t → BasesNamed (ToldName (writtenBy w head was) t) t
+Host-2 = (w : Way) (head : List ℤ) (was : Tables) (exons : List ℕ) (t : Transcript) → toldBuilding w ≡ 0 → Builds (input w) t → NamedByRecords (ToldName (writtenBy w head was exons) t) (input w) t
 
 -- ---- demand 3
 
--- in strict mode the host is told over y what it is told over x: the c. answer of each g. interval, and the g. answer of each c. interval
-pub record KeepsTold (x y : Lent) : Type 0 where
-  pub g-to-c : (a b : ℤ) → toldGToC x a b 0 strict .number ≡ 0 → toldGToC y a b 0 strict ≡ toldGToC x a b 0 strict
+-- an answer with both exon numbers n higher
+abbrev pub placeUp : ℕ → Position → Position
+placeUp n a = record { base = a .base; offset = a .offset; star = a .star; exon = a .exon + n }
+
+abbrev pub toldUp : ℕ → Answer → Answer
+toldUp n a = record { number = a .number; mark = a .mark; start = placeUp n (a .start); end = placeUp n (a .end) }
+
+-- in strict mode the host is told over y what it is told over x, with exon numbers that are n higher: the c. answer of each g. interval, and the g. answer of each c. interval
+pub record KeepsTold (n : ℕ) (x y : Lent) : Type 0 where
+  pub g-to-c : (a b : ℤ) → toldGToC x a b 0 strict .number ≡ 0 → toldGToC y a b 0 strict ≡ toldUp n (toldGToC x a b 0 strict)
   pub c-to-g : (a o : ℤ) (star : Bool) (b u : ℤ) (starred : Bool) → toldCToG x a o star b u starred strict .number ≡ 0
-      → toldCToG y a o star b u starred strict ≡ toldCToG x a o star b u starred strict
+      → toldCToG y a o star b u starred strict ≡ toldUp n (toldCToG x a o star b u starred strict)
 
 abbrev pub Host-3 : Type 0
-Host-3 = (w v : Way) (head : List ℤ) (was : Tables) (head′ : List ℤ) (was′ : Tables) (t : Transcript) → toldBuilding w ≡ 0 → toldBuilding v ≡ 0
-    → Builds (input w) t → Lengthens (input w) (input v) → KeepsTold (writtenBy w head was) (writtenBy v head′ was′)
+Host-3 = (w v : Way) (head : List ℤ) (was : Tables) (exons : List ℕ) (head′ : List ℤ) (was′ : Tables) (exons′ : List ℕ) (t : Transcript) → toldBuilding w ≡ 0 → toldBuilding v ≡ 0
+    → Builds (input w) t → (l : Lengthens (input w) (input v)) → KeepsTold (recordsAdded l) (writtenBy w head was exons) (writtenBy v head′ was′ exons′)

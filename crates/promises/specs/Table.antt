@@ -10,7 +10,7 @@ use Rattle.refusals.specs.Outcome.{Outcome, answered, refused}
 use Rattle.sequences.specs.Alleles.{prefixLen, changedOf}
 use Rattle.numbering.specs.Numbers.{plainC, starC}
 use Rattle.numbering.specs.declared.CNumber.{CNumber}
-use Rattle.cigar.specs.Elements.{Element, letterEqual, letterD, letterI, letterM, letterX}
+use Rattle.cigar.specs.Elements.{Element, letterEqual, letterD, letterI, letterM, letterN, letterX}
 use Rattle.cigar.specs.Text.{Reading, element}
 use Rattle.cigar.specs.Read.{readText}
 use Rattle.cigar.specs.Write.{elementsText}
@@ -119,6 +119,13 @@ asked-n i = each asksN i
 abbrev asked-c : Interval CPosition → Interval CAsked
 asked-c i = each asksC i
 
+-- the exon numbers of an answer: of both ends alike, and of each
+abbrev in-exon : ℕ → Interval ℕ
+in-exon k = single k
+
+abbrev in-exons : ℕ → ℕ → Interval ℕ
+in-exons k l = record { from = k; to = l }
+
 abbrev asked : ℕ → ℕ → Interval GAsked
 asked a b = record { from = at (pos a); to = at (pos b) }
 
@@ -188,69 +195,99 @@ withLeft text = record {
 abbrev pub spanned : Transcript
 spanned = build strand1 (exon 2 5 (2 of letterM ∷ 1 of letterI ∷ []) ∷ exon 10 14 (4 of letterM ∷ []) ∷ []) (cds 2 6)
 
+-- A's records, with an N inside the first; on both strands
+abbrev exonsSpliced : List Exon
+exonsSpliced = exon 10 20 (4 of letterM ∷ 2 of letterN ∷ 4 of letterM ∷ []) ∷ exon 25 33 (8 of letterM ∷ []) ∷ []
+
+abbrev pub spliced : Transcript
+spliced = build strand1 exonsSpliced noCds
+
+abbrev pub spliced-1 : Transcript
+spliced-1 = build strand-1 exonsSpliced noCds
+
+-- A's records, with an empty one between them
+abbrev exonsHollow : List Exon
+exonsHollow = exon 10 20 (10 of letterM ∷ []) ∷ exon 22 22 [] ∷ exon 25 33 (8 of letterM ∷ []) ∷ []
+
+abbrev pub hollow : Transcript
+hollow = build strand1 exonsHollow noCds
+
+abbrev pub hollow-1 : Transcript
+hollow-1 = build strand-1 exonsHollow noCds
+
+-- an empty record before another, along the genome
+abbrev exonsLed : List Exon
+exonsLed = exon 5 5 [] ∷ exon 10 14 (4 of letterM ∷ []) ∷ []
+
+abbrev pub led : Transcript
+led = build strand1 exonsLed noCds
+
+abbrev pub led-1 : Transcript
+led-1 = build strand-1 exonsLed noCds
+
 -- ---- the rows
 
 abbrev pub rows : List Row
 rows =
     -- P1: A g.11 = n.1 = c.-3
-    g-n strict A (g 11) (certainly (n (pos 1) (pos 0)))
-    ∷ g-c strict A (g 11) (certainly (c (plainC (minus 3)) (pos 0)))
+    g-n strict A (g 11) (certainly (in-exon 1) (n (pos 1) (pos 0)))
+    ∷ g-c strict A (g 11) (certainly (in-exon 1) (c (plainC (minus 3)) (pos 0)))
     -- P2: A g.13 = c.-1
-    ∷ g-c strict A (g 13) (certainly (c (plainC (minus 1)) (pos 0)))
+    ∷ g-c strict A (g 13) (certainly (in-exon 1) (c (plainC (minus 1)) (pos 0)))
     -- P3: A g.14 = c.1
-    ∷ g-c strict A (g 14) (certainly (c (plainC (pos 1)) (pos 0)))
+    ∷ g-c strict A (g 14) (certainly (in-exon 1) (c (plainC (pos 1)) (pos 0)))
     -- P4: A g.21 = c.7+1
-    ∷ g-c strict A (g 21) (certainly (c (plainC (pos 7)) (pos 1)))
+    ∷ g-c strict A (g 21) (certainly (in-exon 1) (c (plainC (pos 7)) (pos 1)))
     -- P5: A g.23 = c.7+3, the middle
-    ∷ g-c strict A (g 23) (certainly (c (plainC (pos 7)) (pos 3)))
+    ∷ g-c strict A (g 23) (certainly (in-exon 1) (c (plainC (pos 7)) (pos 3)))
     -- P6: A g.24 = c.8-2
-    ∷ g-c strict A (g 24) (certainly (c (plainC (pos 8)) (minus 2)))
+    ∷ g-c strict A (g 24) (certainly (in-exon 2) (c (plainC (pos 8)) (minus 2)))
     -- P7: A g.33 = c.*3
-    ∷ g-c strict A (g 33) (certainly (c (starC (pos 3)) (pos 0)))
+    ∷ g-c strict A (g 33) (certainly (in-exon 2) (c (starC (pos 3)) (pos 0)))
     -- P8: A g.34 refuses 14
     ∷ g-n strict A (g 34) (refused outside)
     ∷ g-c strict A (g 34) (refused outside)
     -- P9: A g.35 and g.10 refuse 14; lenient g.10 = n.-1 = c.-4
     ∷ g-n strict A (g 35) (refused outside)
     ∷ g-n strict A (g 10) (refused outside)
-    ∷ g-n lenient A (g 10) (certainly (n (minus 1) (pos 0)))
-    ∷ g-c lenient A (g 10) (certainly (c (plainC (minus 4)) (pos 0)))
+    ∷ g-n lenient A (g 10) (certainly (in-exon 1) (n (minus 1) (pos 0)))
+    ∷ g-c lenient A (g 10) (certainly (in-exon 1) (c (plainC (minus 4)) (pos 0)))
     -- P10: B g.33 = n.1
-    ∷ g-n strict B (g 33) (certainly (n (pos 1) (pos 0)))
+    ∷ g-n strict B (g 33) (certainly (in-exon 1) (n (pos 1) (pos 0)))
     -- P11: B g.23 = n.8+3 = c.5+3
-    ∷ g-n strict B (g 23) (certainly (n (pos 8) (pos 3)))
-    ∷ g-c strict B (g 23) (certainly (c (plainC (pos 5)) (pos 3)))
+    ∷ g-n strict B (g 23) (certainly (in-exon 1) (n (pos 8) (pos 3)))
+    ∷ g-c strict B (g 23) (certainly (in-exon 1) (c (plainC (pos 5)) (pos 3)))
     -- P12: g.105_105 = n.4_5, uncertain
-    ∷ g-n strict ins (g 105) (uncertainly (ns (pos 4) (pos 0) (pos 5) (pos 0)))
+    ∷ g-n strict ins (g 105) (uncertainly (in-exon 1) (ns (pos 4) (pos 0) (pos 5) (pos 0)))
     -- P13: n.5_5 = g.104_105, uncertain; g.105 = n.7
-    ∷ n-g strict del (asked-n (n (pos 5) (pos 0))) (uncertainly (answered-g (gs 104 105)))
-    ∷ g-n strict del (g 105) (certainly (n (pos 7) (pos 0)))
+    ∷ n-g strict del (asked-n (n (pos 5) (pos 0))) (uncertainly (in-exon 1) (answered-g (gs 104 105)))
+    ∷ g-n strict del (g 105) (certainly (in-exon 1) (n (pos 7) (pos 0)))
     -- P14: M0X3= reads as 1M 0X 3= and is written unchanged
     ∷ cigar (letterM ∷ digit 0 ∷ letterX ∷ digit 3 ∷ letterEqual ∷ []) (1 of letterM ∷ 0 of letterX ∷ 3 of letterEqual ∷ [])
     -- P15: ACGT and ACT: prefix 2 leaves GT and T; changed part G
     ∷ alleles (baseA ∷ baseC ∷ baseG ∷ baseT ∷ []) (baseA ∷ baseC ∷ baseT ∷ []) 2 (baseG ∷ baseT ∷ []) (baseT ∷ []) (baseG ∷ [])
     -- on strand -1 start and end change places: B g.11_33 = n.1_18 and back; B g.22_33 = n.1_9-2
-    ∷ g-n strict B (gs 11 33) (certainly (ns (pos 1) (pos 0) (pos 18) (pos 0)))
-    ∷ n-g strict B (asked-n (ns (pos 1) (pos 0) (pos 18) (pos 0))) (certainly (answered-g (gs 11 33)))
-    ∷ g-n strict B (gs 22 33) (certainly (ns (pos 1) (pos 0) (pos 9) (minus 2)))
+    ∷ g-n strict B (gs 11 33) (certainly (in-exons 1 2) (ns (pos 1) (pos 0) (pos 18) (pos 0)))
+    ∷ n-g strict B (asked-n (ns (pos 1) (pos 0) (pos 18) (pos 0))) (certainly (in-exons 2 1) (answered-g (gs 11 33)))
+    ∷ g-n strict B (gs 22 33) (certainly (in-exons 1 2) (ns (pos 1) (pos 0) (pos 9) (minus 2)))
     -- the numbers beside the transcript's first and last refuse 14 on either strand
     ∷ n-g strict B (asked-n (n (minus 1) (pos 0))) (refused outside)
     ∷ n-g strict B (asked-n (n (pos 19) (pos 0))) (refused outside)
     ∷ n-g strict A (asked-n (n (minus 1) (pos 0))) (refused outside)
     ∷ n-g strict A (asked-n (n (pos 19) (pos 0))) (refused outside)
     -- lenient they have answers, and so has g.34
-    ∷ n-g lenient B (asked-n (n (minus 1) (pos 0))) (certainly (answered-g (g 34)))
-    ∷ n-g lenient A (asked-n (n (pos 19) (pos 0))) (certainly (answered-g (g 34)))
-    ∷ g-c lenient A (g 34) (certainly (c (starC (pos 4)) (pos 0)))
+    ∷ n-g lenient B (asked-n (n (minus 1) (pos 0))) (certainly (in-exon 1) (answered-g (g 34)))
+    ∷ n-g lenient A (asked-n (n (pos 19) (pos 0))) (certainly (in-exon 2) (answered-g (g 34)))
+    ∷ g-c lenient A (g 34) (certainly (in-exon 2) (c (starC (pos 4)) (pos 0)))
     -- n. to c. tests both ends on both sides: n.1_0 and n.5_1 refuse 15; lenient n.1_0 is c.1_c.0
     ∷ n-c strict lone (asked-n (ns (pos 1) (pos 0) (pos 0) (pos 0))) (refused nOutside)
     ∷ n-c strict lone (asked-n (ns (pos 5) (pos 0) (pos 1) (pos 0))) (refused nOutside)
     ∷ n-c lenient lone (asked-n (ns (pos 1) (pos 0) (pos 0) (pos 0))) (plainly (cs (plainC (pos 1)) (pos 0) (plainC (pos 0)) (pos 0)))
     -- g. to n. has 14 alone: 4M2I g.5 = n.4_5 on 4 bases, uncertain, but c. refuses 15
-    ∷ g-n strict ending (g 5) (uncertainly (ns (pos 4) (pos 0) (pos 5) (pos 0)))
+    ∷ g-n strict ending (g 5) (uncertainly (in-exon 1) (ns (pos 4) (pos 0) (pos 5) (pos 0)))
     ∷ g-c strict ending (g 5) (refused nOutside)
     -- c.7+3 comes back; 16; 13; 17
-    ∷ c-g strict A (asked-c (c (plainC (pos 7)) (pos 3))) (certainly (answered-g (g 23)))
+    ∷ c-g strict A (asked-c (c (plainC (pos 7)) (pos 3))) (certainly (in-exon 1) (answered-g (g 23)))
     ∷ c-n strict A (asked-c (c (starC (pos 4)) (pos 0))) (refused cOutside)
     ∷ n-c strict del (asked-n (n (pos 1) (pos 0))) (refused notCoding)
     ∷ n-g lenient A (asked-n (ns (pos 1) (pos 2147483647) (pos 1) (pos 0))) (refused tooWide)
@@ -268,12 +305,38 @@ rows =
     ∷ in-bounds (record { from = missing; to = at (pos 33) }) (aligned A) (refused missingEnd)
     -- demand 3 speaks of answers: A g.34_33 refuses 14, and with an exon added it is c.*3+1_*3
     ∷ g-c strict A (gs 34 33) (refused outside)
-    ∷ g-c strict A+ (gs 34 33) (certainly (cs (starC (pos 3)) (pos 1) (starC (pos 3)) (pos 0)))
+    ∷ g-c strict A+ (gs 34 33) (certainly (in-exon 2) (cs (starC (pos 3)) (pos 1) (starC (pos 3)) (pos 0)))
     -- 32: with `2M` on 2..5 added g.11 would move from c.1 to c.2; with `2MI` it stays
-    ∷ g-c strict lone (g 11) (certainly (c (plainC (pos 1)) (pos 0)))
+    ∷ g-c strict lone (g 11) (certainly (in-exon 1) (c (plainC (pos 1)) (pos 0)))
     ∷ builds (withLeft (digit 2 ∷ letterM ∷ [])) (refused notSpanning)
     ∷ builds (withLeft (digit 2 ∷ letterM ∷ letterI ∷ [])) (answered spanned)
-    ∷ g-c strict spanned (g 11) (certainly (c (plainC (pos 1)) (pos 0)))
+    ∷ g-c strict spanned (g 11) (certainly (in-exon 2) (c (plainC (pos 1)) (pos 0)))
+    -- exon numbers, counted in transcript order. B's gap: its left half counts from 10..20, which is exon 2, its middle (P11) and its right half from 25..33, which is exon 1
+    ∷ g-n strict B (g 22) (certainly (in-exon 2) (n (pos 9) (minus 2)))
+    ∷ g-n strict B (g 24) (certainly (in-exon 1) (n (pos 8) (pos 2)))
+    -- a name has the number of the exon base that it counts from: A c.8-2 and c.7+4 are both g.24
+    ∷ c-g strict A (asked-c (c (plainC (pos 8)) (minus 2))) (certainly (in-exon 2) (answered-g (g 24)))
+    ∷ c-g strict A (asked-c (c (plainC (pos 7)) (pos 4))) (certainly (in-exon 1) (answered-g (g 24)))
+    -- an N inside a record belongs to that record
+    ∷ g-n strict spliced (g 15) (certainly (in-exon 1) (n (pos 4) (pos 1)))
+    ∷ g-n strict spliced (g 16) (certainly (in-exon 1) (n (pos 5) (minus 1)))
+    ∷ g-n strict spliced (g 26) (certainly (in-exon 2) (n (pos 9) (pos 0)))
+    ∷ g-n strict spliced-1 (g 15) (certainly (in-exon 2) (n (pos 13) (minus 1)))
+    ∷ g-n strict spliced-1 (g 16) (certainly (in-exon 2) (n (pos 12) (pos 1)))
+    ∷ g-n strict spliced-1 (g 26) (certainly (in-exon 1) (n (pos 8) (pos 0)))
+    -- an empty record counts: on its left the gap of g.21 and g.22, on its right that of g.23 to g.25
+    ∷ g-n strict hollow (g 21) (certainly (in-exon 1) (n (pos 10) (pos 1)))
+    ∷ g-n strict hollow (g 22) (certainly (in-exon 2) (n (pos 11) (minus 1)))
+    ∷ g-n strict hollow (g 24) (certainly (in-exon 2) (n (pos 10) (pos 2)))
+    ∷ g-n strict hollow (g 25) (certainly (in-exon 3) (n (pos 11) (minus 1)))
+    ∷ n-g strict hollow (asked-n (n (pos 11) (minus 1))) (certainly (in-exon 3) (answered-g (g 25)))
+    ∷ g-n strict hollow-1 (g 21) (certainly (in-exon 3) (n (pos 9) (minus 1)))
+    ∷ g-n strict hollow-1 (g 22) (certainly (in-exon 2) (n (pos 8) (pos 1)))
+    ∷ g-n strict hollow-1 (g 23) (certainly (in-exon 2) (n (pos 9) (minus 1)))
+    ∷ g-n strict hollow-1 (g 24) (certainly (in-exon 1) (n (pos 8) (pos 2)))
+    -- a gap that is chosen leniently, before all else along the genome, counts as the record before it in transcript order
+    ∷ n-g lenient led (asked-n (n (minus 1) (pos 0))) (certainly (in-exon 1) (answered-g (g 5)))
+    ∷ n-g lenient led-1 (asked-n (n (pos 5) (pos 0))) (certainly (in-exon 1) (answered-g (g 5)))
     ∷ []
 
 -- each row's question has the answer that is due

@@ -41,18 +41,25 @@ segmentAt from to letters i = record { number = i; does = kindOf (getD letters i
 
 -- ---- the place p of a segment
 
--- a place on the other side, with its offset; it is not sure if it fell in an I or a D; and the number of the segment that it fell in
+-- the edge of an N that a place of it counts from; a place of any other segment counts from none
+pub data Edge : Type 0 where
+  noEdge : Edge
+  leftEdge : Edge
+  rightEdge : Edge
+
+-- a place on the other side, with its offset; it is not sure if it fell in an I or a D; the number of the segment that it fell in, and the edge that it counts from
 pub record Spot : Type 0 where
   pub place : ℤ
   pub offset : ℤ
   pub sure : Bool
   pub number : ℕ
+  pub edge : Edge
 
-abbrev pub surely : ℕ → ℤ → ℤ → Spot
-surely i p o = record { place = p; offset = o; sure = true; number = i }
+abbrev pub surely : ℕ → Edge → ℤ → ℤ → Spot
+surely i e p o = record { place = p; offset = o; sure = true; number = i; edge = e }
 
 abbrev pub unsurely : ℕ → ℤ → Spot
-unsurely i p = record { place = p; offset = pos 0; sure = false; number = i }
+unsurely i p = record { place = p; offset = pos 0; sure = false; number = i; edge = noEdge }
 
 -- an interval has two ends
 pub data End : Type 0 where
@@ -72,12 +79,12 @@ leftNearer false left right = ltZ left right
 -- from the N with the number i at t: the nearer edge, and how far it is
 unfoldable pub nearer : ℕ → Bool → ℕ → ℤ → ℤ → Spot
 nearer i forward t left right =
-    if leftNearer forward left right then surely i (pos t -ℤ pos 1) left
-    else surely i (pos t) (negℤ right)
+    if leftNearer forward left right then surely i leftEdge (pos t -ℤ pos 1) left
+    else surely i rightEdge (pos t) (negℤ right)
 
 -- the place p of the segment i, which goes from f to h and begins at t on the other side
 unfoldable pub spotIn : ℕ → Kind → ℕ → ℕ → ℕ → ℤ → End → Bool → Spot
-spotIn i matches f h t p end forward = surely i (pos t +ℤ (p -ℤ pos f)) (pos 0)
+spotIn i matches f h t p end forward = surely i noEdge (pos t +ℤ (p -ℤ pos f)) (pos 0)
 spotIn i inserts f h t p end forward = unsurely i (beside end t)
 spotIn i deletes f h t p end forward = unsurely i (beside end t)
 spotIn i skips f h t p end forward = nearer i forward t (p -ℤ pos f +ℤ pos 1) (pos h -ℤ p)
@@ -87,7 +94,7 @@ spotOf s p end forward = spotIn (s .number) (s .does) (s .begins) (s .ends) (s .
 
 -- the spot of an interval's end, where its start is the same place and has the spot a: the same where it is sure, and otherwise one place further
 unfoldable pub stopOf : Spot → Spot
-stopOf a = if a .sure then a else unsurely (a .number) (a .place +ℤ pos 1)
+stopOf a = if a .sure then a else record { place = a .place +ℤ pos 1; offset = pos 0; sure = false; number = a .number; edge = a .edge }
 
 -- ---- the place p, which begins an interval or ends it
 

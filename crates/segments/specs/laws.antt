@@ -4,6 +4,7 @@
 --     Totals     how far a list of elements goes, by its parts
 --     Made       the tables that elements make: what stands at every index, that they hold together, and that they read as the elements
 --     Finding    the number of a place's segment
+--     Exons      the exon numbers that are read from a table
 --     Sizes      how large a spot's numbers are
 --     Reading    tables that hold together map a place as their elements do
 --     Amid       a place of the middle part of a list of elements is found there, and goes where the middle part alone sends it, slid along
@@ -12,6 +13,7 @@ pub mod Gathering
 pub mod Totals
 pub mod Made
 pub mod Finding
+pub mod Exons
 pub mod Sizes
 pub mod Reading
 pub mod Amid

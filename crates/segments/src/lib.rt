@@ -15,18 +15,29 @@ use numbering::Place;
 use refusals::MOST_SEGMENTS;
 use refusals::MOST_STARTS;
 
+pub mod exons;
+
 // An interval's end.
 pub enum End {
     Start,
     Stop,
 }
 
-// A place on the other side, with its offset; it is not sure if it fell in an I or a D; and the number of the segment that it fell in.
+// The edge of an N that a place of it counts from; a place of any other segment counts from none.
+pub enum Edge {
+    None,
+    Left,
+    Right,
+}
+
+// A place on the other side, with its offset; it is not sure if it fell in an I or a D; the number of the segment that it fell in, and the edge
+// that it counts from.
 pub struct Spot {
     pub place: Place,
     pub offset: i64,
     pub sure: bool,
     pub number: usize,
+    pub edge: Edge,
 }
 
 // Whether a segment's end is above p.
@@ -95,6 +106,7 @@ fn nearer_edge(number: usize, forward: bool, t: u32, left: i64, right: i64) -> S
             offset: left,
             sure: true,
             number,
+            edge: Edge::Left,
         }
     } else {
         let back = -right;
@@ -103,6 +115,7 @@ fn nearer_edge(number: usize, forward: bool, t: u32, left: i64, right: i64) -> S
             offset: back,
             sure: true,
             number,
+            edge: Edge::Right,
         }
     }
 }
@@ -121,6 +134,7 @@ fn beside_at(number: usize, end: End, t: u32) -> Spot
                 offset: 0,
                 sure: false,
                 number,
+                edge: Edge::None,
             }
         }
         End::Stop => Spot {
@@ -128,6 +142,7 @@ fn beside_at(number: usize, end: End, t: u32) -> Spot
             offset: 0,
             sure: false,
             number,
+            edge: Edge::None,
         },
     }
 }
@@ -163,6 +178,7 @@ fn spot_in(
                 offset: 0,
                 sure: true,
                 number,
+                edge: Edge::None,
             }
         }
     }
@@ -263,6 +279,7 @@ pub fn stop_of(start: Spot) -> Spot
         start
     } else {
         let number = start.number;
+        let edge = start.edge;
         let place = start.place.0;
         let next = place + 1;
         Spot {
@@ -270,6 +287,7 @@ pub fn stop_of(start: Spot) -> Spot
             offset: 0,
             sure: false,
             number,
+            edge,
         }
     }
 }

@@ -27,6 +27,13 @@ from-none f first = sym (all-of (from first f) first (λ i l. rw (lt-ltb i first
 pub from-more : (f : ℕ → Bool) (first i : ℕ) {flag found : Bool} → first ≤ i → flag ≡ allBelow (from first f) i → found ≡ f i → (flag && found) ≡ allBelow (from first f) (i + 1)
 from-more f first i l flag≡ found≡ = all-more (from first f) i flag≡ (found≡ ∙ rw (le-ltb i first l))
 
+-- from 0 on nothing is passed
+pub from-start : (f : ℕ → Bool) (n : ℕ) → allBelow (from 0 f) n ≡ allBelow f n
+from-start f n =
+    equal-where _ _
+    (λ h. all-of f n (λ i l. rw (le-ltb i 0 (omega arith)) at (all-at (from 0 f) n h i l)))
+    (λ h. all-of (from 0 f) n (λ i l. rw (le-ltb i 0 (omega arith)) (all-at f n h i l)))
+
 -- two stretches that overlap or meet make one
 pub stretched : (f : ℕ → Bool) (mid first n : ℕ) → first ≤ mid → mid ≤ n → (allBelow (from 0 f) mid && allBelow (from first f) n) ≡ allBelow f n
 stretched f mid first n meet within = equal-where _ _ joined split

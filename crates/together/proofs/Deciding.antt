@@ -1,45 +1,59 @@
--- That the passes over the tables decide. Where segments hold together and the last entries are low, all entries are low, as they rise; and where steps and ends are low no difference has wrapped, so that the steps are what they seem. Assumes nothing.
-use Prim.Native.Nat.{ℕ, zero, suc, _+_, _-_, _^_, _≤_, _<_}
+-- That the passes over the tables decide. Where segments hold together and the last entries are low, all entries are low, as they rise; and where all steps are short, or steps and ends are low, no difference has wrapped, so that the steps are what they seem. Assumes nothing.
+use Prim.Native.Nat.{ℕ, zero, suc, _+_, _*_, _-_, _^_, _≤_, _<_}
+use native.Mathlib.Nat.{lt-of-le-of-lt}
 use native.Mathlib.Numerals.{add-one}
 use native.Mathlib.Omega.{arith}
 use mathlib.Core.Bool.{Bool, true, false, cond, _&&_, _||_, false≢true}
 use mathlib.Core.List.{List}
-use mathlib.Core.Path.{_≡_, refl, sym, _∙_}
+use mathlib.Core.Path.{_≡_, refl, sym, ap, _∙_}
 use lib.Dec.{eqb, leb}
 use lib.ListN.{getD}
 use borrow.Author.Tests.{eqb-true, eq-eqb, leb-true, le-leb, ltb-true, lt-ltb}
 use Rattle.whole.specs.laws.Whole.{by-test, both, both-of}
 use Rattle.cigar.specs.Elements.{isLetter, letterD, letterEqual, letterI, letterM, letterN, letterX}
-use Rattle.segments.specs.Tables.{Tables, allBelow, knownAt, segmentsHold, Holds}
+use Rattle.segments.specs.Tables.{Tables, allBelow, knownAt, segmentsHold, Rising, Holds}
 use Rattle.segments.specs.laws.Meaning.{all-at, all-of, rising, holds-means, holds-where}
-use Rattle.together.specs.Steps.{wrapped, low, same, lowSteps, isCommon, commonSame, commonLow, sameAt, lowAt, commonAt, commonSameAt, commonLowAt, begin, LowEnds}
+use Rattle.together.specs.Steps.{wrapped, within, same, stepsWithin, isCommon, isPlain, commonSame, commonWithin, sameAt, withinAt, endWithinAt, commonAt, plainAt, commonSameAt, commonWithinAt, begin, LowEnds}
 use Rattle.together.proofs.All.{equal-where}
 use Rattle.together.proofs.OneStep.{masked}
 
--- ---- low numbers, and differences
+-- ---- numbers of so many bits, and differences
 
-low-says : (n : ℕ) → low n ≡ true → n < 2 ^ 31
-unfolding low
-low-says n h = ltb-true n (2 ^ 31) h
+within-says : (k n : ℕ) → within k n ≡ true → n < 2 ^ k
+unfolding within
+within-says k n h = ltb-true n (2 ^ k) h
 
-low-by : (n : ℕ) → n < 2 ^ 31 → low n ≡ true
-unfolding low
-low-by n h = lt-ltb n (2 ^ 31) h
+within-by : (k n : ℕ) → n < 2 ^ k → within k n ≡ true
+unfolding within
+within-by k n h = lt-ltb n (2 ^ k) h
 
 -- a difference that is not negative
 exact : (a b : ℕ) → b ≤ a → wrapped a b ≡ a - b
 unfolding wrapped
 exact a b h = rw (le-leb b a h)
 
--- a low difference from a low number is not negative
-not-wrapped : (a b d : ℕ) → d ≡ wrapped a b → d < 2 ^ 31 → b < 2 ^ 31 → b ≤ a
+-- a difference below s, from a number that s more would not wrap, is not negative
+not-wrapped : (a b d s : ℕ) → d ≡ wrapped a b → d < s → b + s ≤ 2 ^ 32 → b ≤ a
 unfolding wrapped
-not-wrapped a b d is d-low b-low =
+not-wrapped a b d s is small room =
     by-test (leb b a)
     (λ t. leb-true b a t)
     (λ t. let e : d ≡ a + 2 ^ 32 - b = rw t at is in absurd (omega arith))
 
 -- ---- a common letter
+
+plain-common : (c : ℕ) → isPlain c ≡ true → isCommon c ≡ true
+unfolding isPlain isCommon
+plain-common c h = go (eqb c letterEqual) (eqb c letterM) (eqb c letterN) (eqb c letterX) h
+  where
+    go : (e m n x : Bool) → (m || n) ≡ true → (e || m || n || x) ≡ true
+    go true m n x h = refl
+    go false true n x h = refl
+    go false false true x h = refl
+    go false false false x h = absurd (false≢true h)
+
+pub plains-common : (letters : List ℕ) (n : ℕ) → allBelow (plainAt letters) n ≡ true → allBelow (commonAt letters) n ≡ true
+plains-common letters n h = all-of (commonAt letters) n (λ i l. plain-common (getD letters i 0) (all-at (plainAt letters) n h i l))
 
 common-known : (c : ℕ) → isCommon c ≡ true → isLetter c ≡ true
 unfolding isCommon isLetter
@@ -62,23 +76,55 @@ common-alike c g₀ g₁ t₀ t₁ h =
     (λ u. absurd (false≢true (rw (eqb-true c letterD u) at h)))
     (λ u. rw (e, u)))
 
-common-lower : (g₀ g₁ t₀ t₁ : ℕ) → lowSteps g₀ g₁ t₀ t₁ ≡ true → commonLow g₀ g₁ ≡ true
-unfolding lowSteps commonLow
-common-lower g₀ g₁ t₀ t₁ h = both (low (wrapped g₁ g₀) && low g₁) _ (both (low (wrapped g₁ g₀) && low g₁ && low (wrapped t₁ t₀)) _ h .0) .0
+common-lower : (k g₀ g₁ t₀ t₁ : ℕ) → stepsWithin k g₀ g₁ t₀ t₁ ≡ true → commonWithin k g₀ g₁ ≡ true
+unfolding stepsWithin commonWithin
+common-lower k g₀ g₁ t₀ t₁ h = both (within k (wrapped g₁ g₀)) _ h .0
 
 -- its transcript step is the genome's or 0
-no-further : (c g₀ g₁ t₀ t₁ : ℕ) → g₀ < 2 ^ 31 → wrapped g₁ g₀ < 2 ^ 31 → t₀ ≤ g₀ → commonSame c g₀ g₁ t₀ t₁ ≡ true → (wrapped t₁ t₀ < 2 ^ 31) × (t₁ ≤ g₁)
-unfolding commonSame
-no-further c g₀ g₁ t₀ t₁ g-low step within h =
-    let up = not-wrapped g₁ g₀ _ refl step g-low in
-    let is : cond (eqb c letterN) 0 (wrapped g₁ g₀) ≡ wrapped t₁ t₀ = eqb-true _ _ h in
+common-both : (k c g₀ g₁ t₀ t₁ : ℕ) → commonSame c g₀ g₁ t₀ t₁ ≡ true → commonWithin k g₀ g₁ ≡ true → stepsWithin k g₀ g₁ t₀ t₁ ≡ true
+unfolding commonSame stepsWithin commonWithin
+common-both k c g₀ g₁ t₀ t₁ h w =
+    let is : cond (eqb c letterN) 0 (wrapped g₁ g₀) ≡ wrapped t₁ t₀ = eqb-true (cond (eqb c letterN) 0 (wrapped g₁ g₀)) (wrapped t₁ t₀) h in
     let short = at-most (eqb c letterN) (wrapped g₁ g₀) in
-    let t-up = not-wrapped t₁ t₀ _ refl (omega (arith, is, short, step)) (omega arith) in
-    (omega (arith, is, short, step), omega (arith, is, short, exact g₁ g₀ up, exact t₁ t₀ t-up, up, t-up))
+    both-of w (within-by k (wrapped t₁ t₀) (lt-of-le-of-lt (omega (arith, is, short)) (within-says k (wrapped g₁ g₀) w)))
   where
     at-most : (f : Bool) (n : ℕ) → cond f 0 n ≤ n
     at-most true n = omega arith
     at-most false n = omega arith
+
+-- ---- the entries of one table
+
+module _ (entries : List ℕ) (n : ℕ) (begins : getD entries 0 0 ≡ 0) where
+  abbrev e : ℕ → ℕ
+  e i = getD entries i 0
+
+  -- short steps do not come as far as to wrap
+  module _ (few : n ≤ 2048) (short : (i : ℕ) → i < n → wrapped (e (i + 1)) (e i) < 2 ^ 21) where
+    short-up : (i : ℕ) → i < n → e i ≤ i * 2 ^ 21 → e i ≤ e (i + 1)
+    short-up i l far = not-wrapped (e (i + 1)) (e i) _ (2 ^ 21) refl (short i l) (omega (arith, far, l, few))
+
+    short-far : (i : ℕ) → i ≤ n → e i ≤ i * 2 ^ 21
+    short-far zero l = omega (arith, begins)
+    short-far (suc i) l =
+        let far = short-far i (omega arith) in
+        let is = exact (e (i + 1)) (e i) (short-up i l far) in
+        let step = short i l in
+        let next : e (i + 1) ≤ i * 2 ^ 21 + 2 ^ 21 = omega (arith, far, is, step) in
+        let at-next : e (suc i) ≤ i * 2 ^ 21 + 2 ^ 21 = rw add-one at next in
+        omega (arith, at-next)
+
+    short-rises : Rising entries n
+    short-rises = record { each = λ i l. short-up i l (short-far i (omega arith)) }
+
+  -- low steps between low entries have not wrapped
+  module _ (low : (i : ℕ) → i < n → wrapped (e (i + 1)) (e i) < 2 ^ 31) (ends : (i : ℕ) → i < n → e (i + 1) < 2 ^ 31) where
+    -- an entry is 0, or the end of a segment before
+    entry-low : (i : ℕ) → i ≤ n → e i < 2 ^ 31
+    entry-low zero l = omega (arith, begins)
+    entry-low (suc i) l = rw add-one at (ends i l)
+
+    low-rises : Rising entries n
+    low-rises = record { each = λ i l. let small = entry-low i (omega arith) in not-wrapped (e (i + 1)) (e i) _ (2 ^ 31) refl (low i l) (omega (arith, small)) }
 
 module _ (a : Tables) (n : ℕ) where
   abbrev g : ℕ → ℕ
@@ -105,52 +151,32 @@ module _ (a : Tables) (n : ℕ) where
         rw (exact (g (i + 1)) (g i) (h .genome-rises .each i l), exact (t (i + 1)) (t i) (h .transcript-rises .each i l))
         (masked (c i) (g (i + 1) - g i) (t (i + 1) - t i) ∙ h .steps i l)
 
-    low-seen : (i : ℕ) → i < n → lowAt a i ≡ true
-    unfolding lowSteps
+    low-seen : (i : ℕ) → i < n → withinAt 31 a i ≡ true
+    unfolding stepsWithin
     low-seen i l =
         let g-next = g-low (i + 1) (omega arith) in
         let t-next = t-low (i + 1) (omega arith) in
         rw (exact (g (i + 1)) (g i) (h .genome-rises .each i l), exact (t (i + 1)) (t i) (h .transcript-rises .each i l))
-        (both-of (both-of (both-of (low-by _ (omega (arith, g-next))) (low-by _ g-next)) (low-by _ (omega (arith, t-next)))) (low-by _ t-next))
+        (both-of (within-by 31 _ (omega (arith, g-next))) (within-by 31 _ (omega (arith, t-next))))
 
   -- ---- what is seen so holds together
 
-  -- the parts of a segment whose steps and ends are low
-  record Low (i : ℕ) : Type 0 where
-    g-step : wrapped (g (i + 1)) (g i) < 2 ^ 31
-    g-next : g (i + 1) < 2 ^ 31
-    t-step : wrapped (t (i + 1)) (t i) < 2 ^ 31
-    t-next : t (i + 1) < 2 ^ 31
+  within-parts : (k i : ℕ) → withinAt k a i ≡ true → (wrapped (g (i + 1)) (g i) < 2 ^ k) × (wrapped (t (i + 1)) (t i) < 2 ^ k)
+  unfolding stepsWithin
+  within-parts k i h =
+      let (p, q) = both (within k (wrapped (g (i + 1)) (g i))) (within k (wrapped (t (i + 1)) (t i))) h in
+      (within-says k (wrapped (g (i + 1)) (g i)) p, within-says k (wrapped (t (i + 1)) (t i)) q)
 
-  low-parts : (i : ℕ) → lowAt a i ≡ true → Low i
-  unfolding lowSteps
-  low-parts i h =
-      let (three, t-next) = both _ _ h in
-      let (two, t-step) = both _ _ three in
-      let (g-step, g-next) = both _ _ two in
-      record { g-step = low-says _ g-step; g-next = low-says _ g-next; t-step = low-says _ t-step; t-next = low-says _ t-next }
-
-  -- an entry is 0, or the end of a segment before
-  entry-low : (entries : List ℕ) → getD entries 0 0 ≡ 0 → ((i : ℕ) → i < n → getD entries (i + 1) 0 < 2 ^ 31) → (i : ℕ) → i ≤ n → getD entries i 0 < 2 ^ 31
-  entry-low entries begins next zero l = omega (arith, begins)
-  entry-low entries begins next (suc i) l = rw add-one at (next i l)
-
-  module _ (g-begins : g 0 ≡ 0) (t-begins : t 0 ≡ 0) (known : (i : ℕ) → i < n → isLetter (c i) ≡ true) (sames : (i : ℕ) → i < n → sameAt a i ≡ true) (lows : (i : ℕ) → i < n → Low i) where
-    g-up : (i : ℕ) → i < n → g i ≤ g (i + 1)
-    g-up i l = not-wrapped (g (i + 1)) (g i) _ refl (lows i l .g-step) (entry-low (a .genome) g-begins (λ k m. lows k m .g-next) i (omega arith))
-
-    t-up : (i : ℕ) → i < n → t i ≤ t (i + 1)
-    t-up i l = not-wrapped (t (i + 1)) (t i) _ refl (lows i l .t-step) (entry-low (a .transcript) t-begins (λ k m. lows k m .t-next) i (omega arith))
-
+  module _ (g-begins : g 0 ≡ 0) (t-begins : t 0 ≡ 0) (known : (i : ℕ) → i < n → isLetter (c i) ≡ true) (sames : (i : ℕ) → i < n → sameAt a i ≡ true) (g-rises : Rising (a .genome) n) (t-rises : Rising (a .transcript) n) where
     held : Holds a n
     unfolding same
     held = record {
       genome-from-0 = g-begins;
       transcript-from-0 = t-begins;
       letters = known;
-      genome-rises = record { each = g-up };
-      transcript-rises = record { each = t-up };
-      steps = λ i l. sym (masked (c i) (g (i + 1) - g i) (t (i + 1) - t i)) ∙ rw (exact (g (i + 1)) (g i) (g-up i l), exact (t (i + 1)) (t i) (t-up i l)) at (sames i l);
+      genome-rises = g-rises;
+      transcript-rises = t-rises;
+      steps = λ i l. sym (masked (c i) (g (i + 1) - g i) (t (i + 1) - t i)) ∙ rw (exact (g (i + 1)) (g i) (g-rises .each i l), exact (t (i + 1)) (t i) (t-rises .each i l)) at (sames i l);
     }
 
   -- ---- the definition, by the passes
@@ -163,25 +189,48 @@ module _ (a : Tables) (n : ℕ) where
   unfolding begin
   begin-of p q = both-of (eq-eqb (g 0) 0 p) (eq-eqb (t 0) 0 q)
 
-  module _ (ends : LowEnds (a .genome) (a .transcript) n) where
-    pub decided : (begin (a .genome) (a .transcript) && (allBelow (knownAt (a .letters)) n && (allBelow (sameAt a) n && allBelow (lowAt a) n))) ≡ segmentsHold a n
+  -- no end has the highest bit
+  abbrev pub lowEnds : Bool
+  lowEnds = allBelow (endWithinAt 31 (a .genome)) n && allBelow (endWithinAt 31 (a .transcript)) n
+
+  module _ (few : n ≤ 2048) (ends : LowEnds (a .genome) (a .transcript) n) where
+    pub decided : (begin (a .genome) (a .transcript) && (allBelow (knownAt (a .letters)) n && (allBelow (sameAt a) n && (allBelow (withinAt 21 a) n || (allBelow (withinAt 31 a) n && lowEnds))))) ≡ segmentsHold a n
     decided = equal-where _ _ seen-holds holds-seen
       where
-        seen-holds : (begin (a .genome) (a .transcript) && (allBelow (knownAt (a .letters)) n && (allBelow (sameAt a) n && allBelow (lowAt a) n))) ≡ true → segmentsHold a n ≡ true
+        seen-holds : (begin (a .genome) (a .transcript) && (allBelow (knownAt (a .letters)) n && (allBelow (sameAt a) n && (allBelow (withinAt 21 a) n || (allBelow (withinAt 31 a) n && lowEnds))))) ≡ true → segmentsHold a n ≡ true
         seen-holds h =
             let (begins, rest) = both (begin (a .genome) (a .transcript)) _ h in
             let (known, steps) = both (allBelow (knownAt (a .letters)) n) _ rest in
-            let (sames, lows) = both (allBelow (sameAt a) n) (allBelow (lowAt a) n) steps in
+            let (sames, fine) = both (allBelow (sameAt a) n) _ steps in
             let (g-begins, t-begins) = begin-parts begins in
-            holds-where a n (held g-begins t-begins (all-at _ n known) (all-at _ n sames) (λ i l. low-parts i (all-at (lowAt a) n lows i l)))
+            let holds : Rising (a .genome) n → Rising (a .transcript) n → segmentsHold a n ≡ true = λ g-rises t-rises. holds-where a n (held g-begins t-begins (all-at _ n known) (all-at _ n sames) g-rises t-rises) in
+            by-test (allBelow (withinAt 21 a) n)
+            (λ short.
+            let each : (i : ℕ) → i < n → (wrapped (g (i + 1)) (g i) < 2 ^ 21) × (wrapped (t (i + 1)) (t i) < 2 ^ 21) = λ i l. within-parts 21 i (all-at (withinAt 21 a) n short i l) in
+            holds (short-rises (a .genome) n g-begins few (λ i l. each i l .0)) (short-rises (a .transcript) n t-begins few (λ i l. each i l .1)))
+            (λ long.
+            let (lows, both-ends) = both (allBelow (withinAt 31 a) n) lowEnds (rw long at fine) in
+            let (g-ends, t-ends) = both (allBelow (endWithinAt 31 (a .genome)) n) (allBelow (endWithinAt 31 (a .transcript)) n) both-ends in
+            let each : (i : ℕ) → i < n → (wrapped (g (i + 1)) (g i) < 2 ^ 31) × (wrapped (t (i + 1)) (t i) < 2 ^ 31) = λ i l. within-parts 31 i (all-at (withinAt 31 a) n lows i l) in
+            holds
+            (low-rises (a .genome) n g-begins (λ i l. each i l .0) (λ i l. within-says 31 (g (i + 1)) (all-at (endWithinAt 31 (a .genome)) n g-ends i l)))
+            (low-rises (a .transcript) n t-begins (λ i l. each i l .1) (λ i l. within-says 31 (t (i + 1)) (all-at (endWithinAt 31 (a .transcript)) n t-ends i l))))
 
-        holds-seen : segmentsHold a n ≡ true → (begin (a .genome) (a .transcript) && (allBelow (knownAt (a .letters)) n && (allBelow (sameAt a) n && allBelow (lowAt a) n))) ≡ true
+        or-true : (b : Bool) {d : Bool} → d ≡ true → (b || d) ≡ true
+        or-true true h = refl
+        or-true false h = h
+
+        holds-seen : segmentsHold a n ≡ true → (begin (a .genome) (a .transcript) && (allBelow (knownAt (a .letters)) n && (allBelow (sameAt a) n && (allBelow (withinAt 21 a) n || (allBelow (withinAt 31 a) n && lowEnds))))) ≡ true
         holds-seen h =
             let x = holds-means a n h in
             let g-end = ends .genome-low in
             let t-end = ends .transcript-low in
+            let g-ends = all-of (endWithinAt 31 (a .genome)) n (λ i l. within-by 31 (g (i + 1)) (g-low x g-end t-end (i + 1) (omega arith))) in
+            let t-ends = all-of (endWithinAt 31 (a .transcript)) n (λ i l. within-by 31 (t (i + 1)) (t-low x g-end t-end (i + 1) (omega arith))) in
             both-of (begin-of (x .genome-from-0) (x .transcript-from-0))
-            (both-of (all-of _ n (x .letters)) (both-of (all-of _ n (same-seen x g-end t-end)) (all-of _ n (low-seen x g-end t-end))))
+            (both-of (all-of _ n (x .letters))
+            (both-of (all-of _ n (same-seen x g-end t-end))
+            (or-true (allBelow (withinAt 21 a) n) (both-of (all-of _ n (low-seen x g-end t-end)) (both-of g-ends t-ends)))))
 
     -- ---- common letters
 
@@ -192,51 +241,27 @@ module _ (a : Tables) (n : ℕ) where
       known : allBelow (knownAt (a .letters)) n ≡ true
       known = all-of _ n (λ i l. common-known (c i) (common i l))
 
-      common-parts : (i : ℕ) → commonLowAt a i ≡ true → (wrapped (g (i + 1)) (g i) < 2 ^ 31) × (g (i + 1) < 2 ^ 31)
-      unfolding commonLow
-      common-parts i h = let (step, next) = both (low (wrapped (g (i + 1)) (g i))) (low (g (i + 1))) h in (low-says _ step, low-says _ next)
+      alike : (i : ℕ) → i < n → commonSameAt a i ≡ sameAt a i
+      alike i l = common-alike (c i) (g i) (g (i + 1)) (t i) (t (i + 1)) (common i l)
 
-      -- the transcript goes no further than the genome
-      module _ (g-begins : g 0 ≡ 0) (t-begins : t 0 ≡ 0) (sames : (i : ℕ) → i < n → commonSameAt a i ≡ true) (lows : (i : ℕ) → i < n → commonLowAt a i ≡ true) where
-        genome-low : (i : ℕ) → i ≤ n → g i < 2 ^ 31
-        genome-low = entry-low (a .genome) g-begins (λ k m. common-parts k (lows k m) .1)
+      sames : allBelow (commonSameAt a) n ≡ allBelow (sameAt a) n
+      sames =
+          equal-where _ _
+          (λ h. all-of (sameAt a) n (λ i l. sym (alike i l) ∙ all-at (commonSameAt a) n h i l))
+          (λ h. all-of (commonSameAt a) n (λ i l. alike i l ∙ all-at (sameAt a) n h i l))
 
-        transcript-within : (i : ℕ) → i ≤ n → t i ≤ g i
-        transcript-within zero l = omega (arith, g-begins, t-begins)
-        transcript-within (suc i) l =
-            rw add-one at
-            (no-further (c i) (g i) (g (i + 1)) (t i) (t (i + 1)) (genome-low i (omega arith)) (common-parts i (lows i l) .0) (transcript-within i (omega arith)) (sames i l) .1)
+      -- where steps are the same, the genome's have as many bits as both
+      withins : (k : ℕ) → allBelow (commonSameAt a) n ≡ true → allBelow (commonWithinAt k a) n ≡ allBelow (withinAt k a) n
+      withins k same-all =
+          equal-where _ _
+          (λ h. all-of (withinAt k a) n (λ i l. common-both k (c i) (g i) (g (i + 1)) (t i) (t (i + 1)) (all-at (commonSameAt a) n same-all i l) (all-at (commonWithinAt k a) n h i l)))
+          (λ h. all-of (commonWithinAt k a) n (λ i l. common-lower k (g i) (g (i + 1)) (t i) (t (i + 1)) (all-at (withinAt k a) n h i l)))
 
-        transcript-step : (i : ℕ) → i < n → (wrapped (t (i + 1)) (t i) < 2 ^ 31) × (t (i + 1) ≤ g (i + 1))
-        transcript-step i l = no-further (c i) (g i) (g (i + 1)) (t i) (t (i + 1)) (genome-low i (omega arith)) (common-parts i (lows i l) .0) (transcript-within i (omega arith)) (sames i l)
+      alike-all : (allBelow (commonSameAt a) n && (allBelow (commonWithinAt 21 a) n || (allBelow (commonWithinAt 31 a) n && lowEnds))) ≡ (allBelow (knownAt (a .letters)) n && (allBelow (sameAt a) n && (allBelow (withinAt 21 a) n || (allBelow (withinAt 31 a) n && lowEnds))))
+      alike-all =
+          by-test (allBelow (commonSameAt a) n)
+          (λ h. rw (known, sym sames, withins 21 h, withins 31 h))
+          (λ h. rw (known, sym sames, h))
 
-        all-low : (i : ℕ) → i < n → lowAt a i ≡ true
-        unfolding lowSteps commonLow
-        all-low i l =
-            let (step, next) = common-parts i (lows i l) in
-            let (t-step, within) = transcript-step i l in
-            both-of (both-of (both-of (low-by _ step) (low-by _ next)) (low-by _ t-step)) (low-by _ (omega (arith, within, next)))
-
-      pub decided-common : (begin (a .genome) (a .transcript) && (allBelow (commonSameAt a) n && allBelow (commonLowAt a) n)) ≡ segmentsHold a n
-      decided-common = equal-where _ _ seen-holds holds-seen ∙ decided
-        where
-          seen-holds : (begin (a .genome) (a .transcript) && (allBelow (commonSameAt a) n && allBelow (commonLowAt a) n)) ≡ true
-              → (begin (a .genome) (a .transcript) && (allBelow (knownAt (a .letters)) n && (allBelow (sameAt a) n && allBelow (lowAt a) n))) ≡ true
-          seen-holds h =
-              let (begins, steps) = both (begin (a .genome) (a .transcript)) _ h in
-              let (sames, lows) = both (allBelow (commonSameAt a) n) (allBelow (commonLowAt a) n) steps in
-              let (g-begins, t-begins) = begin-parts begins in
-              both-of begins
-              (both-of known
-              (both-of (all-of _ n (λ i l. sym (common-alike (c i) (g i) (g (i + 1)) (t i) (t (i + 1)) (common i l)) ∙ all-at (commonSameAt a) n sames i l))
-              (all-of _ n (all-low g-begins t-begins (all-at (commonSameAt a) n sames) (all-at (commonLowAt a) n lows)))))
-
-          holds-seen : (begin (a .genome) (a .transcript) && (allBelow (knownAt (a .letters)) n && (allBelow (sameAt a) n && allBelow (lowAt a) n))) ≡ true
-              → (begin (a .genome) (a .transcript) && (allBelow (commonSameAt a) n && allBelow (commonLowAt a) n)) ≡ true
-          holds-seen h =
-              let (begins, rest) = both (begin (a .genome) (a .transcript)) _ h in
-              let (letters, steps) = both (allBelow (knownAt (a .letters)) n) _ rest in
-              let (sames, lows) = both (allBelow (sameAt a) n) (allBelow (lowAt a) n) steps in
-              both-of begins
-              (both-of (all-of _ n (λ i l. common-alike (c i) (g i) (g (i + 1)) (t i) (t (i + 1)) (common i l) ∙ all-at (sameAt a) n sames i l))
-              (all-of _ n (λ i l. common-lower (g i) (g (i + 1)) (t i) (t (i + 1)) (all-at (lowAt a) n lows i l))))
+      pub decided-common : (begin (a .genome) (a .transcript) && (allBelow (commonSameAt a) n && (allBelow (commonWithinAt 21 a) n || (allBelow (commonWithinAt 31 a) n && lowEnds)))) ≡ segmentsHold a n
+      decided-common = ap (λ (b : Bool). begin (a .genome) (a .transcript) && b) alike-all ∙ decided

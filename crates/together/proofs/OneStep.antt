@@ -1,19 +1,21 @@
 -- One segment's steps, computed with differences that wrap. Assumes nothing.
-use Prim.Native.Nat.{ℕ, _+_, _%_, _^_, _<_}
+use Prim.Native.Nat.{ℕ, _+_, _%_, _^_, _≤_, _<_}
+use native.Mathlib.Nat.{lt-of-le-of-lt}
 use native.Mathlib.Omega.{arith}
-use mathlib.Core.Bool.{cond, _&&_, _||_}
+use mathlib.Core.Bool.{true, cond, _&&_, _||_}
 use mathlib.Core.Path.{_≡_, sym}
 use lib.Bits.{bitOr, or-add-and, and-le-l, and-le-r, or-lt}
 use lib.Dec.{leb, ltb, eqb}
+use lib.Pow.{pow-pos}
 use borrow.Author.Tests.{leb-true, leb-false, ltb-true, lt-ltb, eqb-true, eqb-false, eq-eqb, ne-eqb}
 use Rattle.whole.specs.laws.Whole.{by-test, both, both-of}
-use Rattle.cigar.specs.Elements.{kindOf, letterD, letterI, letterN}
+use Rattle.cigar.specs.Elements.{kindOf, letterD, letterI, letterM, letterN}
 use Rattle.segments.specs.Tables.{stepsOf}
-use Rattle.together.specs.Steps.{wrapped, low}
+use Rattle.together.specs.Steps.{wrapped, within, isPlain}
 use Rattle.together.proofs.All.{equal-where}
 
 -- the order of two numbers does not matter to the test that they are equal
-eqb-sym : (a b : ℕ) → eqb a b ≡ eqb b a
+pub eqb-sym : (a b : ℕ) → eqb a b ≡ eqb b a
 eqb-sym a b =
     by-test (eqb a b)
     (λ e. rw (e, eq-eqb b a (sym (eqb-true a b e))))
@@ -42,10 +44,38 @@ wrapped-is a b d a< b< d< e =
     (λ t. let l = leb-false b a t in rw t (omega arith))
 
 -- the bits of two numbers together
-pub low-or : (a b : ℕ) → low (bitOr a b) ≡ (low a && low b)
-unfolding low
-low-or a b =
+pub within-or : (k a b : ℕ) → within k (bitOr a b) ≡ (within k a && within k b)
+unfolding within
+within-or k a b =
     equal-where _ _
-    (λ h. let l = ltb-true (bitOr a b) (2 ^ 31) h in
-    both-of (lt-ltb a (2 ^ 31) (omega (arith, or-add-and a b, and-le-r a b, l))) (lt-ltb b (2 ^ 31) (omega (arith, or-add-and a b, and-le-l a b, l))))
-    (λ h. let (p, q) = both (ltb a (2 ^ 31)) (ltb b (2 ^ 31)) h in lt-ltb (bitOr a b) (2 ^ 31) (or-lt 31 a b (ltb-true a (2 ^ 31) p) (ltb-true b (2 ^ 31) q)))
+    (λ h. let l = ltb-true (bitOr a b) (2 ^ k) h in
+    both-of (lt-ltb a (2 ^ k) (lt-of-le-of-lt (or-above-l a b) l)) (lt-ltb b (2 ^ k) (lt-of-le-of-lt (or-above-r a b) l)))
+    (λ h. let (p, q) = both (ltb a (2 ^ k)) (ltb b (2 ^ k)) h in lt-ltb (bitOr a b) (2 ^ k) (or-lt k a b (ltb-true a (2 ^ k) p) (ltb-true b (2 ^ k) q)))
+  where
+    or-above-l : (a b : ℕ) → a ≤ bitOr a b
+    or-above-l a b = omega (arith, or-add-and a b, and-le-r a b)
+
+    or-above-r : (a b : ℕ) → b ≤ bitOr a b
+    or-above-r a b = omega (arith, or-add-and a b, and-le-l a b)
+
+-- 0 has none
+pub within-none : (k : ℕ) → within k 0 ≡ true
+unfolding within
+within-none k = lt-ltb 0 (2 ^ k) (pow-pos k)
+
+-- a letter's number above an M's, which wraps: 0 for an M, 1 for an N, else more
+pub plain-is : (c d : ℕ) → c < 2 ^ 8 → d < 2 ^ 8 → (d + letterM) % 2 ^ 8 ≡ c → within 1 d ≡ isPlain c
+unfolding within isPlain
+plain-is c d c< d< e =
+    equal-where _ _
+    (λ h. let l = ltb-true d 2 h in
+    by-test (eqb c letterM)
+    (λ m. rw m)
+    (λ m. let other = eqb-false c letterM m in rw (m, eq-eqb c letterN (other-n other l))))
+    (λ h.
+    by-test (eqb c letterM)
+    (λ m. let is = eqb-true c letterM m in lt-ltb d 2 (omega (arith, is, e, d<)))
+    (λ m. let is = eqb-true c letterN (rw m at h) in lt-ltb d 2 (omega (arith, is, e, d<))))
+  where
+    other-n : (c ≡ letterM → ⊥) → d < 2 → c ≡ letterN
+    other-n other l = omega (arith, other, l, e)

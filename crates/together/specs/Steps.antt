@@ -1,4 +1,4 @@
--- A segment's steps as the machine takes them: differences that may wrap, and the bit that no length has. Assumes nothing.
+-- A segment's steps as the machine takes them: differences that may wrap, and how many bits they have. Assumes nothing.
 use Prim.Native.Nat.{ℕ, _+_, _-_, _^_, _<_}
 use mathlib.Core.Bool.{Bool, cond, _&&_, _||_}
 use mathlib.Core.List.{List}
@@ -12,9 +12,9 @@ use Rattle.segments.specs.Tables.{Tables}
 unfoldable pub wrapped : ℕ → ℕ → ℕ
 wrapped later earlier = if leb earlier later then later - earlier else later + 2 ^ 32 - earlier
 
--- a number without the highest bit of 32
-unfoldable pub low : ℕ → Bool
-low n = ltb n (2 ^ 31)
+-- a number of k bits at most
+unfoldable pub within : ℕ → ℕ → Bool
+within k n = ltb n (2 ^ k)
 
 -- ---- one segment of the letter c, which goes from g₀ to g₁ and from t₀ to t₁
 
@@ -22,20 +22,24 @@ low n = ltb n (2 ^ 31)
 unfoldable pub same : ℕ → ℕ → ℕ → ℕ → ℕ → Bool
 same c g₀ g₁ t₀ t₁ = eqb (cond (eqb c letterI || eqb c letterN) 0 (wrapped g₁ g₀)) (cond (eqb c letterD) 0 (wrapped t₁ t₀))
 
--- no step and no end is high
-unfoldable pub lowSteps : ℕ → ℕ → ℕ → ℕ → Bool
-lowSteps g₀ g₁ t₀ t₁ = low (wrapped g₁ g₀) && low g₁ && low (wrapped t₁ t₀) && low t₁
+-- neither step has more than k bits
+unfoldable pub stepsWithin : ℕ → ℕ → ℕ → ℕ → ℕ → Bool
+stepsWithin k g₀ g₁ t₀ t₁ = within k (wrapped g₁ g₀) && within k (wrapped t₁ t₀)
 
 -- the common letters, which advance both sides alike or, as N, the genome alone: = M N X
 unfoldable pub isCommon : ℕ → Bool
 isCommon c = eqb c letterEqual || eqb c letterM || eqb c letterN || eqb c letterX
 
--- the same tests for them: the transcript goes no further than the genome, so its steps and ends are not looked at
+-- the two of them that most tables have alone: M N
+unfoldable pub isPlain : ℕ → Bool
+isPlain c = eqb c letterM || eqb c letterN
+
+-- the same tests for common letters: the transcript's step is the genome's or 0, so how many bits it has is not looked at
 unfoldable pub commonSame : ℕ → ℕ → ℕ → ℕ → ℕ → Bool
 commonSame c g₀ g₁ t₀ t₁ = eqb (cond (eqb c letterN) 0 (wrapped g₁ g₀)) (wrapped t₁ t₀)
 
-unfoldable pub commonLow : ℕ → ℕ → Bool
-commonLow g₀ g₁ = low (wrapped g₁ g₀) && low g₁
+unfoldable pub commonWithin : ℕ → ℕ → ℕ → Bool
+commonWithin k g₀ g₁ = within k (wrapped g₁ g₀)
 
 -- ---- segment i of tables
 
@@ -45,8 +49,14 @@ at test a i = test (getD (a .letters) i 0) (getD (a .genome) i 0) (getD (a .geno
 abbrev pub sameAt : Tables → ℕ → Bool
 sameAt a i = at same a i
 
-abbrev pub lowAt : Tables → ℕ → Bool
-lowAt a i = at (λ c g₀ g₁ t₀ t₁. lowSteps g₀ g₁ t₀ t₁) a i
+abbrev pub withinAt : ℕ → Tables → ℕ → Bool
+withinAt k a i = at (λ c g₀ g₁ t₀ t₁. stepsWithin k g₀ g₁ t₀ t₁) a i
+
+abbrev pub endWithinAt : ℕ → List ℕ → ℕ → Bool
+endWithinAt k entries i = within k (getD entries (i + 1) 0)
+
+abbrev pub plainAt : List ℕ → ℕ → Bool
+plainAt letters i = isPlain (getD letters i 0)
 
 abbrev pub commonAt : List ℕ → ℕ → Bool
 commonAt letters i = isCommon (getD letters i 0)
@@ -54,8 +64,8 @@ commonAt letters i = isCommon (getD letters i 0)
 abbrev pub commonSameAt : Tables → ℕ → Bool
 commonSameAt a i = at commonSame a i
 
-abbrev pub commonLowAt : Tables → ℕ → Bool
-commonLowAt a i = at (λ c g₀ g₁ t₀ t₁. commonLow g₀ g₁) a i
+abbrev pub commonWithinAt : ℕ → Tables → ℕ → Bool
+commonWithinAt k a i = at (λ c g₀ g₁ t₀ t₁. commonWithin k g₀ g₁) a i
 
 -- a test from the number `first` on: those before it pass
 abbrev pub from : ℕ → (ℕ → Bool) → ℕ → Bool
@@ -67,7 +77,7 @@ from first test i = ltb i first || test i
 unfoldable pub begin : List ℕ → List ℕ → Bool
 begin genome transcript = eqb (getD genome 0 0) 0 && eqb (getD transcript 0 0) 0
 
--- neither last entry is high
+-- neither last entry has the highest bit of 32
 pub record LowEnds (genome transcript : List ℕ) (n : ℕ) : Type 0 where
   pub genome-low : getD genome n 0 < 2 ^ 31
   pub transcript-low : getD transcript n 0 < 2 ^ 31

@@ -1,22 +1,28 @@
 // Whether the segments of lent tables hold together, which every question asks first: it is to cost what reading the tables costs.
-// A step is taken as a difference that may wrap. Where no step and no entry has the highest bit of 32, none has wrapped; and where the last entries
-// lack it, any entry that has it makes a table fall later. So one pass that gathers bits and compares steps decides, with no early way out, and is vectorised.
+// A step is taken as a difference that may wrap. Where all steps are short, 2,048 of them do not come as far as to wrap. Where one is not, the entries are looked at too: where no step and
+// no entry has the highest bit of 32, none has wrapped; and where the last entries lack it, any entry that has it makes a table fall later. So one pass that gathers
+// bits and compares steps decides, with no early way out, and is vectorised.
 ghost use mathlib.Core.Path.{_≡_};
-ghost use mathlib.Core.Bool.{cond, _&&_};
-ghost use Prim.Native.Nat.{_≤_};
+ghost use mathlib.Core.Bool.{cond, _&&_, _||_};
+ghost use Prim.Native.Nat.{ℕ, _≤_};
 ghost use lib.Dec.{leb};
 ghost use Rattle.refusals.specs.Numbers.{mostSegments};
 ghost use Rattle.cigar.specs.Elements.{isLetter};
 ghost use Rattle.segments.specs.Tables.{tables, allBelow, knownAt, segmentsHold};
-ghost use Rattle.together.specs.Steps.{low, same, lowSteps, isCommon, commonSame, commonLow, sameAt, lowAt, commonAt, commonSameAt, commonLowAt, from, begin, LowEnds};
+ghost use Rattle.together.specs.Steps.{within, same, stepsWithin, isCommon, isPlain, commonSame, commonWithin, sameAt, withinAt, endWithinAt, commonAt, plainAt, commonSameAt, commonWithinAt, from, begin, LowEnds};
 use refusals::MOST_SEGMENTS;
 use refusals::MOST_STARTS;
+
+pub mod exons;
 
 // The highest bit of 32.
 const HIGH: u32 = 2_147_483_648;
 
+// No short step has this or more: 2,048 short steps have no more than 32 bits together.
+const SHORT: u32 = 2_097_152;
+
 // What a stretch of segments showed: whether each one's steps are the same as far as its letter lets the sides see them, and
-// all bits of the steps and ends together.
+// all bits of the steps together.
 pub struct Seen {
     pub same: bool,
     pub bits: u32,
@@ -50,37 +56,60 @@ fn unless(flag: bool, x: u32) -> u32
 
 // The bits of two numbers together.
 fn with_bits(a: u32, b: u32) -> u32
-    ensures { λ r. ⌜ low r ≡ (low a && low b) ⌝ }
+    ensures { λ r. ⌜ ((k : ℕ) → within k r ≡ (within k a && within k b)) ⌝ }
 {
     a | b
 }
 
-// Whether the first count letters are known.
-fn all_known(letters: &[u8; MOST_SEGMENTS], count: usize) -> bool
-    requires { ⌜ count ≤ mostSegments ⌝ }
-    ensures { λ r. ⌜ r ≡ allBelow (knownAt (now (letters .entry))) count ⌝ }
+// Whether the letters from one segment up to another are known.
+fn known_in(letters: &[u8; MOST_SEGMENTS], first: usize, to: usize) -> bool
+    requires { ⌜ (first ≤ to) × (to ≤ mostSegments) ⌝ }
+    ensures { λ r. ⌜ r ≡ allBelow (from first (knownAt (now (letters .entry)))) to ⌝ }
 {
     let mut ok = true;
-    let mut i = 0;
-    while i < count {
+    let mut i = first;
+    while i < to {
         ok = ok & is_known(letters[i]);
         i += 1;
     }
     ok
 }
 
+// Whether the first count letters are known. The compiler makes straight code of whole blocks, so the last block overlaps the others; from 8 to 15
+// letters two blocks of 8 do, and from 4 to 7 two of 4.
+fn all_known(letters: &[u8; MOST_SEGMENTS], count: usize) -> bool
+    requires { ⌜ count ≤ mostSegments ⌝ }
+    ensures { λ r. ⌜ r ≡ allBelow (knownAt (now (letters .entry))) count ⌝ }
+{
+    if count < 4 {
+        return known_in(letters, 0, count);
+    }
+    if count < 8 {
+        let front = known_in(letters, 0, 4);
+        let back = known_in(letters, count - 4, count);
+        return front & back;
+    }
+    if count < 16 {
+        let front = known_in(letters, 0, 8);
+        let back = known_in(letters, count - 8, count);
+        return front & back;
+    }
+    let front = known_in(letters, 0, count - count % 16);
+    let back = known_in(letters, count - 16, count);
+    front & back
+}
+
 // What a stretch showed, with one segment more.
 fn one_on(seen: Seen, letter: u8, g0: u32, g1: u32, t0: u32, t1: u32) -> Seen
     ensures { λ r. ⌜ r .same ≡ (seen .same && same letter g0 g1 t0 t1) ⌝ }
-    ensures { λ r. ⌜ low (r .bits) ≡ (low (seen .bits) && lowSteps g0 g1 t0 t1) ⌝ }
+    ensures { λ r. ⌜ ((k : ℕ) → within k (r .bits) ≡ (within k (seen .bits) && stepsWithin k g0 g1 t0 t1)) ⌝ }
 {
     let dg = std::num::wrapping_sub_u32(g1, g0);
     let dt = std::num::wrapping_sub_u32(t1, t0);
     let genome = unless((letter == b'I') | (letter == b'N'), dg);
     let transcript = unless(letter == b'D', dt);
     let same = seen.same & (genome == transcript);
-    let steps = with_bits(with_bits(with_bits(dg, g1), dt), t1);
-    let bits = with_bits(seen.bits, steps);
+    let bits = with_bits(seen.bits, with_bits(dg, dt));
     Seen { same, bits }
 }
 
@@ -93,7 +122,7 @@ fn steps(
 ) -> Seen
     requires { ⌜ count ≤ mostSegments ⌝ }
     ensures { λ r. ⌜ r .same ≡ allBelow (sameAt (tables (now (genome .entry)) (now (transcript .entry)) (now (letters .entry)))) count ⌝ }
-    ensures { λ r. ⌜ low (r .bits) ≡ allBelow (lowAt (tables (now (genome .entry)) (now (transcript .entry)) (now (letters .entry)))) count ⌝ }
+    ensures { λ r. ⌜ ((k : ℕ) → within k (r .bits) ≡ allBelow (withinAt k (tables (now (genome .entry)) (now (transcript .entry)) (now (letters .entry)))) count) ⌝ }
 {
     let mut seen = Seen {
         same: true,
@@ -131,13 +160,13 @@ fn common_in(letters: &[u8; MOST_SEGMENTS], first: usize, to: usize) -> bool
 // What a stretch of common letters showed, with one segment more.
 fn common_on(seen: Seen, letter: u8, g0: u32, g1: u32, t0: u32, t1: u32) -> Seen
     ensures { λ r. ⌜ r .same ≡ (seen .same && commonSame letter g0 g1 t0 t1) ⌝ }
-    ensures { λ r. ⌜ low (r .bits) ≡ (low (seen .bits) && commonLow g0 g1) ⌝ }
+    ensures { λ r. ⌜ ((k : ℕ) → within k (r .bits) ≡ (within k (seen .bits) && commonWithin k g0 g1)) ⌝ }
 {
     let dg = std::num::wrapping_sub_u32(g1, g0);
     let dt = std::num::wrapping_sub_u32(t1, t0);
     let step = unless(letter == b'N', dg);
     let same = seen.same & (step == dt);
-    let bits = with_bits(seen.bits, with_bits(dg, g1));
+    let bits = with_bits(seen.bits, dg);
     Seen { same, bits }
 }
 
@@ -151,7 +180,7 @@ fn common_steps_in(
 ) -> Seen
     requires { ⌜ (first ≤ to) × (to ≤ mostSegments) ⌝ }
     ensures { λ r. ⌜ r .same ≡ allBelow (from first (commonSameAt (tables (now (genome .entry)) (now (transcript .entry)) (now (letters .entry))))) to ⌝ }
-    ensures { λ r. ⌜ low (r .bits) ≡ allBelow (from first (commonLowAt (tables (now (genome .entry)) (now (transcript .entry)) (now (letters .entry))))) to ⌝ }
+    ensures { λ r. ⌜ ((k : ℕ) → within k (r .bits) ≡ allBelow (from first (commonWithinAt k (tables (now (genome .entry)) (now (transcript .entry)) (now (letters .entry))))) to) ⌝ }
 {
     let mut seen = Seen {
         same: true,
@@ -175,15 +204,46 @@ fn common_steps_in(
 // What two stretches showed.
 fn both_seen(a: Seen, b: Seen) -> Seen
     ensures { λ r. ⌜ r .same ≡ (a .same && b .same) ⌝ }
-    ensures { λ r. ⌜ low (r .bits) ≡ (low (a .bits) && low (b .bits)) ⌝ }
+    ensures { λ r. ⌜ ((k : ℕ) → within k (r .bits) ≡ (within k (a .bits) && within k (b .bits))) ⌝ }
 {
     let same = a.same & b.same;
     let bits = with_bits(a.bits, b.bits);
     Seen { same, bits }
 }
 
-// Whether there are 8 letters at least and all are common. The compiler makes straight code of whole blocks, so the last block overlaps the others; from 8 to 15
-// letters two blocks of 8 do. The last block comes first: where it has another letter, which most tables with one show, the others need no look.
+// The bits that letters have above an M's number, with one letter more: an N has the lowest, and any other letter has more.
+fn plain_on(bits: u8, letter: u8) -> u8
+    ensures { λ r. ⌜ within 1 r ≡ (within 1 bits && isPlain letter) ⌝ }
+{
+    bits | std::num::wrapping_sub_u8(letter, b'M')
+}
+
+// Whether the letters from one segment up to another are M and N alone.
+fn plain_in(letters: &[u8; MOST_SEGMENTS], first: usize, to: usize) -> bool
+    requires { ⌜ (first ≤ to) × (to ≤ mostSegments) ⌝ }
+    ensures { λ r. ⌜ r ≡ allBelow (from first (plainAt (now (letters .entry)))) to ⌝ }
+{
+    let mut bits = 0;
+    let mut i = first;
+    while i < to {
+        bits = plain_on(bits, letters[i]);
+        i += 1;
+    }
+    bits < 2
+}
+
+// Whether all letters are M and N, which is seen at less cost than that all are common. The last block comes first: where it has another letter, the others need no look.
+fn all_plain(letters: &[u8; MOST_SEGMENTS], count: usize) -> bool
+    requires { ⌜ (16 ≤ count) × (count ≤ mostSegments) ⌝ }
+    ensures { λ r. ⌜ r ≡ allBelow (plainAt (now (letters .entry))) count ⌝ }
+{
+    if plain_in(letters, count - 16, count) {
+        return plain_in(letters, 0, count - count % 16);
+    }
+    false
+}
+
+// Whether there are 8 letters at least and all are common, by blocks too. The last block comes first: where it has another letter, which most tables with one show, the others need no look.
 fn all_common(letters: &[u8; MOST_SEGMENTS], count: usize) -> bool
     requires { ⌜ count ≤ mostSegments ⌝ }
     ensures { λ r. ⌜ r ≡ (leb 8 count && allBelow (commonAt (now (letters .entry))) count) ⌝ }
@@ -195,6 +255,9 @@ fn all_common(letters: &[u8; MOST_SEGMENTS], count: usize) -> bool
         let front = common_in(letters, 0, 8);
         let back = common_in(letters, count - 8, count);
         return front & back;
+    }
+    if all_plain(letters, count) {
+        return true;
     }
     if common_in(letters, count - 16, count) {
         return common_in(letters, 0, count - count % 16);
@@ -211,7 +274,7 @@ fn common_steps(
 ) -> Seen
     requires { ⌜ (8 ≤ count) × (count ≤ mostSegments) ⌝ }
     ensures { λ r. ⌜ r .same ≡ allBelow (commonSameAt (tables (now (genome .entry)) (now (transcript .entry)) (now (letters .entry)))) count ⌝ }
-    ensures { λ r. ⌜ low (r .bits) ≡ allBelow (commonLowAt (tables (now (genome .entry)) (now (transcript .entry)) (now (letters .entry)))) count ⌝ }
+    ensures { λ r. ⌜ ((k : ℕ) → within k (r .bits) ≡ allBelow (commonWithinAt k (tables (now (genome .entry)) (now (transcript .entry)) (now (letters .entry)))) count) ⌝ }
 {
     if count < 16 {
         let front = common_steps_in(genome, transcript, letters, 0, 8);
@@ -230,11 +293,38 @@ fn begins(genome: &[u32; MOST_STARTS], transcript: &[u32; MOST_STARTS]) -> bool
     (genome[0] == 0) & (transcript[0] == 0)
 }
 
-// Whether nothing wrong was seen and no bit is the highest.
-fn is_fine(seen: Seen) -> bool
-    ensures { λ r. ⌜ r ≡ (seen .same && low (seen .bits)) ⌝ }
+// All bits of the ends of the first count segments together.
+fn ends_of(entries: &[u32; MOST_STARTS], count: usize) -> u32
+    requires { ⌜ count ≤ mostSegments ⌝ }
+    ensures { λ r. ⌜ ((k : ℕ) → within k r ≡ allBelow (endWithinAt k (now (entries .entry))) count) ⌝ }
 {
-    seen.same & (seen.bits < HIGH)
+    let mut bits = 0;
+    let mut i = 0;
+    while i < count {
+        bits = with_bits(bits, entries[i + 1]);
+        i += 1;
+    }
+    bits
+}
+
+// Whether steps are the same and none has wrapped: all are short, or no step and no end has the highest bit.
+fn is_fine(
+    seen: Seen,
+    genome: &[u32; MOST_STARTS],
+    transcript: &[u32; MOST_STARTS],
+    count: usize,
+) -> bool
+    requires { ⌜ count ≤ mostSegments ⌝ }
+    ensures { λ r. ⌜ r ≡ (seen .same && (within 21 (seen .bits) || (within 31 (seen .bits) && (allBelow (endWithinAt 31 (now (genome .entry))) count && allBelow (endWithinAt 31 (now (transcript .entry))) count)))) ⌝ }
+{
+    let same = seen.same;
+    let bits = seen.bits;
+    if bits < SHORT {
+        return same;
+    }
+    let ends = with_bits(ends_of(genome, count), ends_of(transcript, count));
+    let all = with_bits(bits, ends);
+    same & (all < HIGH)
 }
 
 // Whether count segments hold together, where no table goes as far as the highest bit: the caller has longer ones refused in any case.
@@ -248,10 +338,12 @@ pub fn segments_hold(
     ensures { λ r. ⌜ (LowEnds (now (genome .entry)) (now (transcript .entry)) count → r ≡ segmentsHold (tables (now (genome .entry)) (now (transcript .entry)) (now (letters .entry))) count) ⌝ }
 {
     if all_common(letters, count) {
-        let fine = is_fine(common_steps(genome, transcript, letters, count));
+        let seen = common_steps(genome, transcript, letters, count);
+        let fine = is_fine(seen, genome, transcript, count);
         return begins(genome, transcript) & fine;
     }
     let known = all_known(letters, count);
-    let fine = is_fine(steps(genome, transcript, letters, count));
+    let seen = steps(genome, transcript, letters, count);
+    let fine = is_fine(seen, genome, transcript, count);
     begins(genome, transcript) & (known & fine)
 }

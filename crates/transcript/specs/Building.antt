@@ -1,7 +1,8 @@
 -- The transcript that records make. Assumes nothing.
-use Prim.Native.Nat.{ℕ, _-_}
+use Prim.Native.Nat.{ℕ, _+_, _-_}
 use mathlib.Core.Bool.{Bool, cond}
 use mathlib.Core.List.{List, [], _∷_, _++_, reverse}
+use lib.ListN.{length, replicate}
 use Rattle.cigar.specs.Elements.{Element, letterN}
 use Rattle.transcript.specs.Transcript.{Transcript, Cds}
 
@@ -29,9 +30,24 @@ unfoldable pub elementsOf : Bool → List Exon → List Element
 elementsOf forward [] = []
 elementsOf forward (r ∷ rs) = partsOf forward r ++ elementsAfter forward (r .alt-end) rs
 
+-- the number of the record that has so many before it and so many after it, along the genome: counted from 1 in transcript order
+abbrev pub numberedBy : Bool → ℕ → ℕ → ℕ
+numberedBy forward before after = cond forward (before + 1) (after + 1)
+
+-- the exon numbers of the elements of the records after one that has so many before it: the gap has that record's number, and each record its own
+unfoldable pub numbersAfter : Bool → ℕ → List Exon → List ℕ
+numbersAfter forward before [] = []
+numbersAfter forward before (r ∷ rs) =
+    numberedBy forward before (length (r ∷ rs)) ∷ (replicate (length (partsOf forward r)) (numberedBy forward (before + 1) (length rs)) ++ numbersAfter forward (before + 1) rs)
+
+-- the exon numbers of the elements of all records
+unfoldable pub numbersOf : Bool → List Exon → List ℕ
+numbersOf forward [] = []
+numbersOf forward (r ∷ rs) = replicate (length (partsOf forward r)) (numberedBy forward 0 (length rs)) ++ numbersAfter forward 0 rs
+
 unfoldable pub firstStart : List Exon → ℕ
 firstStart [] = 0
 firstStart (r ∷ rs) = r .alt-start
 
 unfoldable pub build : Bool → List Exon → Cds → Transcript
-build forward rs c = record { forward = forward; first = firstStart rs; elements = elementsOf forward rs; coding = c }
+build forward rs c = record { forward = forward; first = firstStart rs; elements = elementsOf forward rs; numbers = numbersOf forward rs; records = length rs; coding = c }

@@ -57,11 +57,12 @@ withCds h bits start end = record {
   start = numberOf (startOf bits start);
   end = numberOf (endOf bits end);
   length = h .length;
+  records = h .records;
 }
 
--- a head of records without a CDS
-abbrev pub bareHead : ℤ → ℤ → ℕ → Head
-bareHead strand first n = record { kind = pos 0; strand = strand; first = first; count = pos n; bits = pos 0; start = pos 0; end = pos 0; length = pos 0 }
+-- a head of k records, of n segments, without a CDS
+abbrev pub bareHead : ℤ → ℤ → ℕ → ℕ → Head
+bareHead strand first n k = record { kind = pos 0; strand = strand; first = first; count = pos n; bits = pos 0; start = pos 0; end = pos 0; length = pos 0; records = pos k }
 
 -- the number of a strand
 abbrev pub strandOf : Bool → ℤ

@@ -1,3 +1,5 @@
 -- What is shown of the definitions.
---     Heads    the number of a strand
+--     Heads       the number of a strand
+--     Numbered    the exon numbers of what records make
 pub mod Heads
+pub mod Numbered

@@ -14,8 +14,8 @@ pub const BOTH_GIVEN: i32 = 3;
 // The same as they are handed over.
 pub const BOTH_BITS: u32 = BOTH_GIVEN as u32;
 
-// A transcript beside its three tables: kind (0 built from records, 1 from a length), strand, first start, segment count, CDS bits
-// (1 start given, 2 end given), CDS start, CDS end, and the length of a length-only one. The numbers are the host's own, and any may be wrong.
+// A transcript beside its four tables: kind (0 built from records, 1 from a length), strand, first start, segment count, CDS bits
+// (1 start given, 2 end given), CDS start, CDS end, the length of a length-only one, and the record count. The numbers are the host's own, and any may be wrong.
 pub struct Head {
     pub kind: i32,
     pub strand: i32,
@@ -25,6 +25,7 @@ pub struct Head {
     pub start: i32,
     pub end: i32,
     pub length: i32,
+    pub records: i32,
 }
 
 // What building is handed beside the records' bytes, by a host or by a card: strand, CDS bits (1 start given, 2 end given), CDS start, CDS end, and how many records there are. Any number may be wrong.

@@ -12,9 +12,10 @@ use Rattle.transcript.specs.declared.Numbers.{Numbers}
 use Rattle.segments.specs.Tables.{Tables, tables}
 use Rattle.judging.specs.Input.{numbersOf}
 use Rattle.judging.specs.Judging.{Made, Measured, judge, judgeLength}
-use Rattle.building.specs.Afterwards.{builtAnswer, lengthAnswer, tablesAfter}
+use Rattle.building.specs.Afterwards.{builtAnswer, lengthAnswer, tablesAfter, exonsAfter}
 use Rattle.card.specs.Writing.{judgeCard}
 use Rattle.entry.specs.Boundary.{builtNumber, builtHead}
+use Rattle.vectors.specs.Sizes.{headNumbers}
 use Rattle.vectors.specs.Rows.{callOf, flagsOf, recordedSize, recordedNumber, payloadOf, recordedAnswer}
 use Rattle.vectors.specs.Words.{sixWords, twoWords}
 
@@ -54,7 +55,7 @@ lengthOnlyWords number head =
 abbrev pub builtWords : List ℕ → Built → List ℤ → Tables → List ℤ
 builtWords row b head t = recordsWords row (builtNumber b) head (t .genome) (t .transcript)
 
--- ---- damage: one number of the head (0), of a table of starts (1, 2) or of the letters (3) is set, where there is such a place
+-- ---- damage: one number of the head (0), of a table of starts (1, 2), of the letters (3) or of the exon numbers (4) is set, where there is such a place
 
 unfoldable pub headDamaged : List ℕ → List ℤ → List ℤ
 headDamaged row head = if eqb (recordedSize row 0) 0 then set head (recordedSize row 1) (recordedNumber row 2) else head
@@ -65,12 +66,15 @@ startsDamaged which row starts = if eqb (recordedSize row 0) which then set star
 unfoldable pub lettersDamaged : List ℕ → List ℕ → List ℕ
 lettersDamaged row letters = if eqb (recordedSize row 0) 3 then set letters (recordedSize row 1) (recordedSize row 2 % 256) else letters
 
+unfoldable pub exonsDamaged : List ℕ → List ℕ → List ℕ
+exonsDamaged row exons = if eqb (recordedSize row 0) 4 then set exons (recordedSize row 1) (recordedSize row 2 % 65536) else exons
+
 abbrev pub tablesDamaged : List ℕ → Tables → Tables
 tablesDamaged row t = tables (startsDamaged 1 row (t .genome)) (startsDamaged 2 row (t .transcript)) (lettersDamaged row (t .letters))
 
 -- how many places the memory of that number has
 unfoldable pub placesOf : ℕ → ℕ
-placesOf which = if eqb which 0 then 8 else if ltb which 3 then mostStarts else if eqb which 3 then mostSegments else 0
+placesOf which = if eqb which 0 then headNumbers else if ltb which 3 then mostStarts else if ltb which 5 then mostSegments else 0
 
 -- nothing is answered; where there is no such place, a number that no such row expects
 unfoldable pub damageWords : List ℕ → List ℤ
@@ -91,6 +95,13 @@ tablesThen row t =
     else if eqb (callOf row) 2 then tablesAfter (recordsMade row) t
     else if eqb (callOf row) 3 then t
     else tablesDamaged row t
+
+unfoldable pub exonsThen : List ℕ → List ℕ → List ℕ
+exonsThen row exons =
+    if eqb (callOf row) 1 then exonsAfter (cardMade row) exons
+    else if eqb (callOf row) 2 then exonsAfter (recordsMade row) exons
+    else if eqb (callOf row) 3 then exons
+    else exonsDamaged row exons
 
 -- with the head and the tables as they are afterwards
 unfoldable pub changeWords : List ℕ → List ℤ → Tables → List ℤ

@@ -37,10 +37,14 @@ fromN row x =
     if eqb (callOf row) 8 then toldNToC x (recordedNumber row 0) (recordedNumber row 1) (recordedNumber row 2) (recordedNumber row 3) (isStrict row)
     else toldNToG x (recordedNumber row 0) (recordedNumber row 1) (recordedNumber row 2) (recordedNumber row 3) (isStrict row)
 
+abbrev pub cToN : List ℕ → Lent → Answer
+cToN row x = toldCToN x (recordedNumber row 0) (recordedNumber row 1) (startStar row) (recordedNumber row 2) (recordedNumber row 3) (endStar row) (isStrict row)
+
+abbrev pub cToG : List ℕ → Lent → Answer
+cToG row x = toldCToG x (recordedNumber row 0) (recordedNumber row 1) (startStar row) (recordedNumber row 2) (recordedNumber row 3) (endStar row) (isStrict row)
+
 unfoldable pub fromC : List ℕ → Lent → Answer
-fromC row x =
-    if eqb (callOf row) 9 then toldCToN x (recordedNumber row 0) (recordedNumber row 1) (startStar row) (recordedNumber row 2) (recordedNumber row 3) (endStar row) (isStrict row)
-    else toldCToG x (recordedNumber row 0) (recordedNumber row 1) (startStar row) (recordedNumber row 2) (recordedNumber row 3) (endStar row) (isStrict row)
+fromC row x = if eqb (callOf row) 9 then cToN row x else cToG row x
 
 unfoldable pub saidTo : List ℕ → Lent → Said
 saidTo row x = if eqb (callOf row) 11 then toldInBounds x (recordedNumber row 0) (recordedNumber row 2) (missingOf row) else toldCoding x

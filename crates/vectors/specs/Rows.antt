@@ -1,4 +1,4 @@
--- What the file of recorded answers holds, as host/compare/README.md lays it out: rows of sixteen words and of bytes. Assumes nothing.
+-- What the file of recorded answers holds, as host/compare/README.md lays it out: rows of eighteen words and of bytes. Assumes nothing.
 use Prim.Native.Nat.{ℕ, _+_, _-_, _*_, _/_, _%_, min}
 use mathlib.Core.Bool.{Bool, _&&_}
 use mathlib.Core.List.{List, []}
@@ -10,9 +10,16 @@ use Rattle.sequences.specs.Alleles.{stretch}
 use Rattle.fields.specs.Fields.{le32, signed32}
 use Rattle.segments.specs.Tables.{allBelow}
 
--- the bytes of a block
+-- the words of a block, and its bytes
+abbrev pub blockWords : ℕ
+blockWords = 18
+
 abbrev pub blockSize : ℕ
-blockSize = 64
+blockSize = 72
+
+-- the words of an answer
+abbrev pub answerSize : ℕ
+answerSize = 10
 
 -- so many bytes from the front, none where there are fewer
 unfoldable pub firstOf : List ℕ → ℕ → List ℕ
@@ -51,7 +58,7 @@ recordedSize row i = wordAt row (2 + i)
 abbrev pub recordedNumber : List ℕ → ℕ → ℤ
 recordedNumber row i = signedAt row (2 + i)
 
--- the answer's eight words
+-- the answer's ten words
 abbrev pub recordedAnswer : List ℕ → ℕ → ℕ
 recordedAnswer row i = wordAt row (8 + i)
 
@@ -61,13 +68,13 @@ isWord row i z = eqZ (signedAt row (8 + i)) z
 
 -- they are these words
 unfoldable pub expected : List ℕ → List ℤ → Bool
-expected row words = allBelow (λ (i : ℕ). isWord row i (getD words i (pos 0))) 8
+expected row words = allBelow (λ (i : ℕ). isWord row i (getD words i (pos 0))) answerSize
 
 -- ---- the file
 
 -- it begins with a block that makes no call and whose first number is the layout's version
 abbrev pub hasHead : List ℕ → Bool
-hasHead file = (leb blockSize (length file) && eqb (callOf file) 0) && eqb (recordedSize file 0) 1
+hasHead file = (leb blockSize (length file) && eqb (callOf file) 0) && eqb (recordedSize file 0) 2
 
 -- the bytes of a row with so many of its own
 abbrev pub wholeSize : ℕ → ℕ

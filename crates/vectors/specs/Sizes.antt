@@ -3,7 +3,7 @@ use Prim.Native.Nat.{ℕ}
 
 -- the most bytes of a file of recorded answers
 abbrev pub mostFile : ℕ
-mostFile = 1048576
+mostFile = 1179648
 
 -- the most bytes that are lent as a buffer
 abbrev pub mostRoom : ℕ
@@ -12,3 +12,7 @@ mostRoom = 131072
 -- the most words of a row, and the most places of a slice that it lends
 abbrev pub mostWords : ℕ
 mostWords = 4096
+
+-- the numbers of a head
+abbrev pub headNumbers : ℕ
+headNumbers = 9

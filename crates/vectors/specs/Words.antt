@@ -1,4 +1,4 @@
--- Answers as the eight words that a row records of them: what an answer lacks is 0. Assumes nothing.
+-- Answers as the ten words that a row records of them: what an answer lacks is 0. Assumes nothing.
 use Prim.Native.Nat.{ℕ, min}
 use mathlib.Core.List.{List, [], _∷_}
 use lib.IntN.{ℤ, pos}
@@ -7,16 +7,16 @@ use Rattle.layout.specs.declared.lay.Length.{Length}
 use Rattle.layout.specs.declared.lay.Said.{Said}
 
 abbrev pub sixWords : ℤ → ℤ → ℤ → ℤ → ℤ → ℤ → List ℤ
-sixWords a b c d e f = a ∷ b ∷ c ∷ d ∷ e ∷ f ∷ pos 0 ∷ pos 0 ∷ []
+sixWords a b c d e f = a ∷ b ∷ c ∷ d ∷ e ∷ f ∷ pos 0 ∷ pos 0 ∷ pos 0 ∷ pos 0 ∷ []
 
 -- a refusal's number, or 0, and one number more
 abbrev pub twoWords : ℕ → ℤ → List ℤ
 twoWords number z = sixWords (pos number) z (pos 0) (pos 0) (pos 0) (pos 0)
 
--- the number, the mark, and base, offset and star of both ends
+-- the number, the mark, and base, offset, star and exon of both ends
 abbrev pub answerWords : Answer → List ℤ
 answerWords a =
-    pos (a .number) ∷ pos (a .mark) ∷ a .start .base ∷ a .start .offset ∷ pos (a .start .star) ∷ a .end .base ∷ a .end .offset ∷ pos (a .end .star) ∷ []
+    pos (a .number) ∷ pos (a .mark) ∷ a .start .base ∷ a .start .offset ∷ pos (a .start .star) ∷ pos (a .start .exon) ∷ a .end .base ∷ a .end .offset ∷ pos (a .end .star) ∷ pos (a .end .exon) ∷ []
 
 abbrev pub saidWords : Said → List ℤ
 saidWords a = twoWords (a .number) (pos (a .yes))

@@ -1,4 +1,4 @@
-// Answers as the eight words that a row records of them, each a number: what an answer lacks is 0.
+// Answers as the ten words that a row records of them, each a number: what an answer lacks is 0.
 ghost use mathlib.Core.Path.{_≡_};
 ghost use lib.IntN.{pos};
 ghost use Rattle.vectors.specs.Words.{sixWords, twoWords, answerWords, saidWords, sizeWord, lengthWords};
@@ -14,7 +14,7 @@ const TOO_LONG: i64 = 4_294_967_296;
 pub(crate) fn of_numbers(a: i64, b: i64, c: i64, d: i64, e: i64, f: i64) -> [i64; ANSWER]
     ensures { λ r. ⌜ r ≡ sixWords a b c d e f ⌝ }
 {
-    [a, b, c, d, e, f, 0, 0]
+    [a, b, c, d, e, f, 0, 0, 0, 0]
 }
 
 // An answer in positions.
@@ -29,9 +29,11 @@ pub(crate) fn of_answer(a: Answer) -> [i64; ANSWER]
         start.base as i64,
         start.offset as i64,
         start.star as i64,
+        start.exon as i64,
         end.base as i64,
         end.offset as i64,
         end.star as i64,
+        end.exon as i64,
     ]
 }
 

@@ -2,11 +2,12 @@
 // bits 3 and 4 which ends are missing, as the boundary has it.
 ghost use mathlib.Core.Path.{_≡_};
 ghost use Rattle.layout.specs.Layout.{lentAt};
-ghost use Rattle.vectors.specs.Questions.{isStrict, startStar, endStar, missingOf, fromG, fromN, fromC, saidTo, questionWords};
+ghost use Rattle.vectors.specs.Questions.{isStrict, startStar, endStar, missingOf, fromG, fromN, cToN, cToG, fromC, saidTo, questionWords};
 use crate::answers;
 use crate::calls;
 use crate::rows;
 use crate::rows::ANSWER;
+use crate::transcripts::HEAD;
 use entry::ask;
 use layout::lay::Answer;
 use layout::lay::Said;
@@ -44,12 +45,13 @@ fn missing(row: &[u8]) -> u32
 // What is answered to a g. interval, in c. or in n.
 fn from_g(
     row: &[u8],
-    head: &[i32; 8],
+    head: &[i32; HEAD],
     genome: &[u32; MOST_STARTS],
     transcript: &[u32; MOST_STARTS],
     letters: &[u8; MOST_SEGMENTS],
+    exons: &[u16; MOST_SEGMENTS],
 ) -> Answer
-    ensures { λ r. ⌜ r ≡ fromG (now (row .entry)) (lentAt (now (head .entry)) (now (genome .entry)) (now (transcript .entry)) (now (letters .entry))) ⌝ }
+    ensures { λ r. ⌜ r ≡ fromG (now (row .entry)) (lentAt (now (head .entry)) (now (genome .entry)) (now (transcript .entry)) (now (letters .entry)) (now (exons .entry))) ⌝ }
 {
     let start = rows::number(row, 0);
     let end = rows::number(row, 2);
@@ -61,6 +63,7 @@ fn from_g(
             genome,
             transcript,
             letters,
+            exons,
             start,
             end,
             missing,
@@ -72,6 +75,7 @@ fn from_g(
         genome,
         transcript,
         letters,
+        exons,
         start,
         end,
         missing,
@@ -82,29 +86,26 @@ fn from_g(
 // What is answered to an n. interval, in c. or in g.
 fn from_n(
     row: &[u8],
-    head: &[i32; 8],
+    head: &[i32; HEAD],
     genome: &[u32; MOST_STARTS],
     transcript: &[u32; MOST_STARTS],
     letters: &[u8; MOST_SEGMENTS],
+    exons: &[u16; MOST_SEGMENTS],
 ) -> Answer
-    ensures { λ r. ⌜ r ≡ fromN (now (row .entry)) (lentAt (now (head .entry)) (now (genome .entry)) (now (transcript .entry)) (now (letters .entry))) ⌝ }
+    ensures { λ r. ⌜ r ≡ fromN (now (row .entry)) (lentAt (now (head .entry)) (now (genome .entry)) (now (transcript .entry)) (now (letters .entry)) (now (exons .entry))) ⌝ }
 {
-    let start = rows::number(row, 0);
-    let past_start = rows::number(row, 1);
-    let end = rows::number(row, 2);
-    let past_end = rows::number(row, 3);
-    let strict = is_strict(row);
     if rows::call(row) == calls::N_TO_C {
         return ask::txc_n_to_c(
             head,
             genome,
             transcript,
             letters,
-            start,
-            past_start,
-            end,
-            past_end,
-            strict,
+            exons,
+            rows::number(row, 0),
+            rows::number(row, 1),
+            rows::number(row, 2),
+            rows::number(row, 3),
+            is_strict(row),
         );
     }
     ask::txc_n_to_g(
@@ -112,44 +113,32 @@ fn from_n(
         genome,
         transcript,
         letters,
-        start,
-        past_start,
-        end,
-        past_end,
-        strict,
+        exons,
+        rows::number(row, 0),
+        rows::number(row, 1),
+        rows::number(row, 2),
+        rows::number(row, 3),
+        is_strict(row),
     )
 }
 
-// What is answered to a c. interval, in n. or in g.
-fn from_c(
+// What is answered to a c. interval in n.
+fn c_to_n(
     row: &[u8],
-    head: &[i32; 8],
+    head: &[i32; HEAD],
     genome: &[u32; MOST_STARTS],
     transcript: &[u32; MOST_STARTS],
     letters: &[u8; MOST_SEGMENTS],
+    exons: &[u16; MOST_SEGMENTS],
 ) -> Answer
-    ensures { λ r. ⌜ r ≡ fromC (now (row .entry)) (lentAt (now (head .entry)) (now (genome .entry)) (now (transcript .entry)) (now (letters .entry))) ⌝ }
+    ensures { λ r. ⌜ r ≡ cToN (now (row .entry)) (lentAt (now (head .entry)) (now (genome .entry)) (now (transcript .entry)) (now (letters .entry)) (now (exons .entry))) ⌝ }
 {
-    if rows::call(row) == calls::C_TO_N {
-        return ask::txc_c_to_n(
-            head,
-            genome,
-            transcript,
-            letters,
-            rows::number(row, 0),
-            rows::number(row, 1),
-            has_start_star(row),
-            rows::number(row, 2),
-            rows::number(row, 3),
-            has_end_star(row),
-            is_strict(row),
-        );
-    }
-    ask::txc_c_to_g(
+    ask::txc_c_to_n(
         head,
         genome,
         transcript,
         letters,
+        exons,
         rows::number(row, 0),
         rows::number(row, 1),
         has_start_star(row),
@@ -160,44 +149,99 @@ fn from_c(
     )
 }
 
-// What is answered to a yes or no question.
-fn said(
+// What is answered to a c. interval in g.
+fn c_to_g(
     row: &[u8],
-    head: &[i32; 8],
+    head: &[i32; HEAD],
     genome: &[u32; MOST_STARTS],
     transcript: &[u32; MOST_STARTS],
     letters: &[u8; MOST_SEGMENTS],
+    exons: &[u16; MOST_SEGMENTS],
+) -> Answer
+    ensures { λ r. ⌜ r ≡ cToG (now (row .entry)) (lentAt (now (head .entry)) (now (genome .entry)) (now (transcript .entry)) (now (letters .entry)) (now (exons .entry))) ⌝ }
+{
+    ask::txc_c_to_g(
+        head,
+        genome,
+        transcript,
+        letters,
+        exons,
+        rows::number(row, 0),
+        rows::number(row, 1),
+        has_start_star(row),
+        rows::number(row, 2),
+        rows::number(row, 3),
+        has_end_star(row),
+        is_strict(row),
+    )
+}
+
+// What is answered to a c. interval, in n. or in g.
+fn from_c(
+    row: &[u8],
+    head: &[i32; HEAD],
+    genome: &[u32; MOST_STARTS],
+    transcript: &[u32; MOST_STARTS],
+    letters: &[u8; MOST_SEGMENTS],
+    exons: &[u16; MOST_SEGMENTS],
+) -> Answer
+    ensures { λ r. ⌜ r ≡ fromC (now (row .entry)) (lentAt (now (head .entry)) (now (genome .entry)) (now (transcript .entry)) (now (letters .entry)) (now (exons .entry))) ⌝ }
+{
+    if rows::call(row) == calls::C_TO_N {
+        return c_to_n(row, head, genome, transcript, letters, exons);
+    }
+    c_to_g(row, head, genome, transcript, letters, exons)
+}
+
+// What is answered to a yes or no question.
+fn said(
+    row: &[u8],
+    head: &[i32; HEAD],
+    genome: &[u32; MOST_STARTS],
+    transcript: &[u32; MOST_STARTS],
+    letters: &[u8; MOST_SEGMENTS],
+    exons: &[u16; MOST_SEGMENTS],
 ) -> Said
-    ensures { λ r. ⌜ r ≡ saidTo (now (row .entry)) (lentAt (now (head .entry)) (now (genome .entry)) (now (transcript .entry)) (now (letters .entry))) ⌝ }
+    ensures { λ r. ⌜ r ≡ saidTo (now (row .entry)) (lentAt (now (head .entry)) (now (genome .entry)) (now (transcript .entry)) (now (letters .entry)) (now (exons .entry))) ⌝ }
 {
     let start = rows::number(row, 0);
     let end = rows::number(row, 2);
     let missing = missing(row);
     if rows::call(row) == calls::IN_BOUNDS {
-        return ask::txc_in_bounds(head, genome, transcript, letters, start, end, missing);
+        return ask::txc_in_bounds(
+            head,
+            genome,
+            transcript,
+            letters,
+            exons,
+            start,
+            end,
+            missing,
+        );
     }
-    ask::txc_is_coding(head, genome, transcript, letters)
+    ask::txc_is_coding(head, genome, transcript, letters, exons)
 }
 
 // What is answered to a question.
 pub(crate) fn answered(
     row: &[u8],
-    head: &[i32; 8],
+    head: &[i32; HEAD],
     genome: &[u32; MOST_STARTS],
     transcript: &[u32; MOST_STARTS],
     letters: &[u8; MOST_SEGMENTS],
+    exons: &[u16; MOST_SEGMENTS],
 ) -> [i64; ANSWER]
-    ensures { λ r. ⌜ r ≡ questionWords (now (row .entry)) (lentAt (now (head .entry)) (now (genome .entry)) (now (transcript .entry)) (now (letters .entry))) ⌝ }
+    ensures { λ r. ⌜ r ≡ questionWords (now (row .entry)) (lentAt (now (head .entry)) (now (genome .entry)) (now (transcript .entry)) (now (letters .entry)) (now (exons .entry))) ⌝ }
 {
     let call = rows::call(row);
     if call < calls::N_TO_G {
-        return answers::of_answer(from_g(row, head, genome, transcript, letters));
+        return answers::of_answer(from_g(row, head, genome, transcript, letters, exons));
     }
     if call < calls::C_TO_N {
-        return answers::of_answer(from_n(row, head, genome, transcript, letters));
+        return answers::of_answer(from_n(row, head, genome, transcript, letters, exons));
     }
     if call < calls::IN_BOUNDS {
-        return answers::of_answer(from_c(row, head, genome, transcript, letters));
+        return answers::of_answer(from_c(row, head, genome, transcript, letters, exons));
     }
-    answers::of_said(said(row, head, genome, transcript, letters))
+    answers::of_said(said(row, head, genome, transcript, letters, exons))
 }

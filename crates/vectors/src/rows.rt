@@ -1,25 +1,25 @@
 // The file of recorded answers, as host/compare/README.md lays it out. A row is a block and as many more as its own bytes fill. A block is
-// sixteen words of 32 bits: call, flags and origin in one, how many bytes follow, six numbers of the call, and eight words to expect, the
+// eighteen words of 32 bits: call, flags and origin in one, how many bytes follow, six numbers of the call, and ten words to expect, the
 // refusal's number first. What a row lacks reads as 0.
 ghost use mathlib.Core.Path.{_≡_};
 ghost use Prim.Native.Nat.{_≤_, _<_};
 ghost use lib.ListN.{length, replicate};
 ghost use Rattle.vectors.specs.Sizes.{mostFile};
-ghost use Rattle.vectors.specs.Rows.{firstOf, wordAt, signedAt, callOf, flagsOf, originOf, recordedSize, recordedNumber, payloadOf, recordedAnswer, isWord, expected, hasHead, rowSize};
+ghost use Rattle.vectors.specs.Rows.{blockWords, answerSize, firstOf, wordAt, signedAt, callOf, flagsOf, originOf, recordedSize, recordedNumber, payloadOf, recordedAnswer, isWord, expected, hasHead, rowSize};
 use crate::say;
 
 // The bytes of a block.
-pub const BLOCK: usize = 64;
+pub const BLOCK: usize = 72;
 // The most bytes of a file.
 const MOST_FILE: usize = 16_384 * BLOCK;
 // The layout's version.
-const VERSION: usize = 1;
-// Where the call's six numbers begin, and the answer's eight words.
+const VERSION: usize = 2;
+// Where the call's six numbers begin, and the answer's ten words.
 const FIRST_NUMBER: usize = 2;
 
 const FIRST_ANSWER: usize = 8;
 // How many words an answer has.
-pub const ANSWER: usize = 8;
+pub const ANSWER: usize = 10;
 
 // Room for a file.
 pub(crate) fn space() -> [u8; MOST_FILE]
@@ -41,7 +41,7 @@ pub(crate) fn first(s: &[u8], size: usize) -> &[u8]
 
 // A word of a row.
 fn word(row: &[u8], i: usize) -> u32
-    requires { ⌜ i < 16 ⌝ }
+    requires { ⌜ i < blockWords ⌝ }
     ensures { λ r. ⌜ r ≡ wordAt (now (row .entry)) i ⌝ }
 {
     if row.len() < BLOCK {
@@ -52,7 +52,7 @@ fn word(row: &[u8], i: usize) -> u32
 
 // A word of a row as a signed number.
 fn signed_word(row: &[u8], i: usize) -> i32
-    requires { ⌜ i < 16 ⌝ }
+    requires { ⌜ i < blockWords ⌝ }
     ensures { λ r. ⌜ r ≡ signedAt (now (row .entry)) i ⌝ }
 {
     if row.len() < BLOCK {
@@ -115,7 +115,7 @@ pub(crate) fn payload(row: &[u8]) -> &[u8]
 
 // A word of the answer that a row expects, as a size.
 pub(crate) fn answer(row: &[u8], i: usize) -> usize
-    requires { ⌜ i < 8 ⌝ }
+    requires { ⌜ i < answerSize ⌝ }
     ensures { λ r. ⌜ r ≡ recordedAnswer (now (row .entry)) i ⌝ }
 {
     word(row, FIRST_ANSWER + i) as usize
@@ -123,7 +123,7 @@ pub(crate) fn answer(row: &[u8], i: usize) -> usize
 
 // Whether a word of the answer is this number.
 fn is_word(row: &[u8], i: usize, z: i64) -> bool
-    requires { ⌜ i < 8 ⌝ }
+    requires { ⌜ i < answerSize ⌝ }
     ensures { λ r. ⌜ r ≡ isWord (now (row .entry)) i z ⌝ }
 {
     let word = signed_word(row, FIRST_ANSWER + i) as i64;

@@ -2,9 +2,9 @@
 ghost use mathlib.Core.Path.{_≡_};
 ghost use lib.ListN.{set};
 ghost use Rattle.segments.specs.Tables.{tables};
-ghost use Rattle.building.specs.Afterwards.{builtAnswer, lengthAnswer, tablesAfter};
+ghost use Rattle.building.specs.Afterwards.{builtAnswer, lengthAnswer, tablesAfter, exonsAfter};
 ghost use Rattle.entry.specs.Boundary.{builtNumber, builtHead};
-ghost use Rattle.vectors.specs.Changes.{cardMade, recordsMade, lengthMade, totalOf, recordsWords, lengthOnlyWords, builtWords, headDamaged, tablesDamaged, placesOf, damageWords, headAfter, tablesThen, changeWords};
+ghost use Rattle.vectors.specs.Changes.{cardMade, recordsMade, lengthMade, totalOf, recordsWords, lengthOnlyWords, builtWords, headDamaged, tablesDamaged, exonsDamaged, placesOf, damageWords, headAfter, tablesThen, exonsThen, changeWords};
 use crate::answers;
 use crate::calls;
 use crate::rows;
@@ -12,6 +12,8 @@ use crate::rows::ANSWER;
 use refusals::MOST_SEGMENTS;
 use refusals::MOST_STARTS;
 
+// The numbers of a head.
+pub const HEAD: usize = 9;
 // What damage answers where there is no such place.
 const NO_PLACE: u32 = 1;
 
@@ -30,7 +32,7 @@ fn total(row: &[u8], starts: &[u32; MOST_STARTS]) -> u32
 fn of_records(
     row: &[u8],
     number: u32,
-    head: &[i32; 8],
+    head: &[i32; HEAD],
     genome: &[u32; MOST_STARTS],
     transcript: &[u32; MOST_STARTS],
 ) -> [i64; ANSWER]
@@ -55,7 +57,7 @@ fn of_records(
 }
 
 // What is recorded of a length-only transcript: its length, with zeros in the place of what it lacks; or of its refusal.
-fn of_length_only(number: u32, head: &[i32; 8]) -> [i64; ANSWER]
+fn of_length_only(number: u32, head: &[i32; HEAD]) -> [i64; ANSWER]
     ensures { λ r. ⌜ r ≡ lengthOnlyWords number (now (head .entry)) ⌝ }
 {
     if number == 0 {
@@ -95,16 +97,28 @@ fn put_letter(table: &mut [u8], i: usize, letter: u8)
     table[i] = letter;
 }
 
-// Changes one number of the lent memory: of the head (0), of a table of starts (1, 2) or of the letters (3).
+// Puts a number into the table of exon numbers, where it has that place.
+fn put_exon(table: &mut [u16], i: usize, exon: u16)
+    ensures { λ _. ⌜ now (table .exit) ≡ set (now (table .entry)) i exon ⌝ }
+{
+    if table.len() <= i {
+        return;
+    }
+    table[i] = exon;
+}
+
+// Changes one number of the lent memory: of the head (0), of a table of starts (1, 2), of the letters (3) or of the exon numbers (4).
 fn damage(
     row: &[u8],
-    head: &mut [i32; 8],
+    head: &mut [i32; HEAD],
     genome: &mut [u32; MOST_STARTS],
     transcript: &mut [u32; MOST_STARTS],
     letters: &mut [u8; MOST_SEGMENTS],
+    exons: &mut [u16; MOST_SEGMENTS],
 )
     ensures { λ _. ⌜ now (head .exit) ≡ headDamaged (now (row .entry)) (now (head .entry)) ⌝ }
     ensures { λ _. ⌜ tables (now (genome .exit)) (now (transcript .exit)) (now (letters .exit)) ≡ tablesDamaged (now (row .entry)) (tables (now (genome .entry)) (now (transcript .entry)) (now (letters .entry))) ⌝ }
+    ensures { λ _. ⌜ now (exons .exit) ≡ exonsDamaged (now (row .entry)) (now (exons .entry)) ⌝ }
 {
     let table = rows::size(row, 0);
     let i = rows::size(row, 1);
@@ -123,20 +137,24 @@ fn damage(
     }
     if table == 3 {
         put_letter(letters, i, (value % 256) as u8);
+        return;
+    }
+    if table == 4 {
+        put_exon(exons, i, (value % 65_536) as u16);
     }
 }
 
-// How many places the head (0), a table of starts (1, 2) and the letters (3) have.
+// How many places the head (0), a table of starts (1, 2), the letters (3) and the exon numbers (4) have.
 fn places(table: usize) -> usize
     ensures { λ r. ⌜ r ≡ placesOf table ⌝ }
 {
     if table == 0 {
-        return 8;
+        return HEAD;
     }
     if table < 3 {
         return MOST_STARTS;
     }
-    if table == 3 {
+    if table < 5 {
         return MOST_SEGMENTS;
     }
     0
@@ -155,31 +173,35 @@ fn of_damage(row: &[u8]) -> [i64; ANSWER]
 // What `txc_build_card` answers.
 fn build_card(
     row: &[u8],
-    head: &mut [i32; 8],
+    head: &mut [i32; HEAD],
     genome: &mut [u32; MOST_STARTS],
     transcript: &mut [u32; MOST_STARTS],
     letters: &mut [u8; MOST_SEGMENTS],
+    exons: &mut [u16; MOST_SEGMENTS],
 ) -> [i64; ANSWER]
     ensures { λ r. ⌜ r ≡ builtWords (now (row .entry)) (builtAnswer (cardMade (now (row .entry)))) (now (head .exit)) (tables (now (genome .exit)) (now (transcript .exit)) (now (letters .exit))) ⌝ }
     ensures { λ _. ⌜ now (head .exit) ≡ builtHead (builtAnswer (cardMade (now (row .entry)))) (now (head .entry)) ⌝ }
     ensures { λ _. ⌜ tables (now (genome .exit)) (now (transcript .exit)) (now (letters .exit)) ≡ tablesAfter (cardMade (now (row .entry))) (tables (now (genome .entry)) (now (transcript .entry)) (now (letters .entry))) ⌝ }
+    ensures { λ _. ⌜ now (exons .exit) ≡ exonsAfter (cardMade (now (row .entry))) (now (exons .entry)) ⌝ }
 {
     let card = rows::payload(row);
-    let number = entry::build::txc_build_card(card, head, genome, transcript, letters);
+    let number = entry::build::txc_build_card(card, head, genome, transcript, letters, exons);
     of_records(row, number, head, genome, transcript)
 }
 
 // What `txc_build` answers.
 fn build(
     row: &[u8],
-    head: &mut [i32; 8],
+    head: &mut [i32; HEAD],
     genome: &mut [u32; MOST_STARTS],
     transcript: &mut [u32; MOST_STARTS],
     letters: &mut [u8; MOST_SEGMENTS],
+    exons: &mut [u16; MOST_SEGMENTS],
 ) -> [i64; ANSWER]
     ensures { λ r. ⌜ r ≡ builtWords (now (row .entry)) (builtAnswer (recordsMade (now (row .entry)))) (now (head .exit)) (tables (now (genome .exit)) (now (transcript .exit)) (now (letters .exit))) ⌝ }
     ensures { λ _. ⌜ now (head .exit) ≡ builtHead (builtAnswer (recordsMade (now (row .entry)))) (now (head .entry)) ⌝ }
     ensures { λ _. ⌜ tables (now (genome .exit)) (now (transcript .exit)) (now (letters .exit)) ≡ tablesAfter (recordsMade (now (row .entry))) (tables (now (genome .entry)) (now (transcript .entry)) (now (letters .entry))) ⌝ }
+    ensures { λ _. ⌜ now (exons .exit) ≡ exonsAfter (recordsMade (now (row .entry))) (now (exons .entry)) ⌝ }
 {
     let number = entry::build::txc_build(
         rows::number(row, 0),
@@ -192,12 +214,13 @@ fn build(
         genome,
         transcript,
         letters,
+        exons,
     );
     of_records(row, number, head, genome, transcript)
 }
 
 // What `txc_build_length` answers.
-fn build_length(row: &[u8], head: &mut [i32; 8]) -> [i64; ANSWER]
+fn build_length(row: &[u8], head: &mut [i32; HEAD]) -> [i64; ANSWER]
     ensures { λ r. ⌜ r ≡ lengthOnlyWords (builtNumber (lengthAnswer (lengthMade (now (row .entry))))) (now (head .exit)) ⌝ }
     ensures { λ _. ⌜ now (head .exit) ≡ builtHead (lengthAnswer (lengthMade (now (row .entry)))) (now (head .entry)) ⌝ }
 {
@@ -214,25 +237,27 @@ fn build_length(row: &[u8], head: &mut [i32; 8]) -> [i64; ANSWER]
 // What is answered to a row that changes the lent transcript.
 pub(crate) fn answered(
     row: &[u8],
-    head: &mut [i32; 8],
+    head: &mut [i32; HEAD],
     genome: &mut [u32; MOST_STARTS],
     transcript: &mut [u32; MOST_STARTS],
     letters: &mut [u8; MOST_SEGMENTS],
+    exons: &mut [u16; MOST_SEGMENTS],
 ) -> [i64; ANSWER]
     ensures { λ r. ⌜ r ≡ changeWords (now (row .entry)) (now (head .exit)) (tables (now (genome .exit)) (now (transcript .exit)) (now (letters .exit))) ⌝ }
     ensures { λ _. ⌜ now (head .exit) ≡ headAfter (now (row .entry)) (now (head .entry)) ⌝ }
     ensures { λ _. ⌜ tables (now (genome .exit)) (now (transcript .exit)) (now (letters .exit)) ≡ tablesThen (now (row .entry)) (tables (now (genome .entry)) (now (transcript .entry)) (now (letters .entry))) ⌝ }
+    ensures { λ _. ⌜ now (exons .exit) ≡ exonsThen (now (row .entry)) (now (exons .entry)) ⌝ }
 {
     let call = rows::call(row);
     if call == calls::BUILD_CARD {
-        return build_card(row, head, genome, transcript, letters);
+        return build_card(row, head, genome, transcript, letters, exons);
     }
     if call == calls::BUILD {
-        return build(row, head, genome, transcript, letters);
+        return build(row, head, genome, transcript, letters, exons);
     }
     if call == calls::BUILD_LENGTH {
         return build_length(row, head);
     }
-    damage(row, head, genome, transcript, letters);
+    damage(row, head, genome, transcript, letters, exons);
     of_damage(row)
 }

@@ -83,7 +83,7 @@ module _ (x : Lent) where
   -- ---- the list that is walked
 
   abbrev asked-of : Transcript
-  asked-of = alignedBy (alignmentOf (x .head)) (x .tables)
+  asked-of = alignedBy (alignmentOf (x .head)) (x .tables) (x .exons)
 
   module _ (e : holds x ≡ true) (r : ofRecords (x .head) ≡ true) where
     lies : knownOf x ≡ known.Aligned (alignmentOf (x .head)) (codingIn (x .head))

@@ -6,7 +6,7 @@
 --     Looking    it looks at fewer entries than there are segments and slots
 --     Refusing   which refusals there are, each with an example
 --     Worked     a worked list
---     Shared     the three tables as a proof by hand holds them
+--     Shared     the four tables as a proof by hand holds them
 pub mod Largest
 pub mod Alike
 pub mod Slots

@@ -37,11 +37,12 @@ fn why_not<'a>(
     genome: &'a [u32; MOST_STARTS],
     transcript: &'a [u32; MOST_STARTS],
     letters: &'a [u8; MOST_SEGMENTS],
+    exons: &'a [u16; MOST_SEGMENTS],
     rises: bool,
 ) -> u8
-    ensures { λ r. ⌜ r ≡ whyNot (lent head (now (genome .entry)) (now (transcript .entry)) (now (letters .entry))) rises ⌝ }
+    ensures { λ r. ⌜ r ≡ whyNot (lent head (now (genome .entry)) (now (transcript .entry)) (now (letters .entry)) (now (exons .entry))) rises ⌝ }
 {
-    match knowing::known_of(head, genome, transcript, letters) {
+    match knowing::known_of(head, genome, transcript, letters, exons) {
         Known::Aligned(_, _) => { if rises { 0 } else { FALLING } }
         Known::OfLength(_, _) => NO_GENOME,
         Known::Broken => NOT_TOGETHER,
@@ -64,15 +65,16 @@ pub fn answer_list<'a>(
     genome: &'a [u32; MOST_STARTS],
     transcript: &'a [u32; MOST_STARTS],
     letters: &'a [u8; MOST_SEGMENTS],
+    exons: &'a [u16; MOST_SEGMENTS],
     slots: &mut [Slot],
 ) -> Steps
-    ensures { λ r. ⌜ (r ≡ stepsLaid (listed (lent head (now (genome .entry)) (now (transcript .entry)) (now (letters .entry))) (now (slots .entry)))) × (now (slots .exit) ≡ slotsAfter (lent head (now (genome .entry)) (now (transcript .entry)) (now (letters .entry))) (now (slots .entry))) ⌝ }
+    ensures { λ r. ⌜ (r ≡ stepsLaid (listed (lent head (now (genome .entry)) (now (transcript .entry)) (now (letters .entry)) (now (exons .entry))) (now (slots .entry)))) × (now (slots .exit) ≡ slotsAfter (lent head (now (genome .entry)) (now (transcript .entry)) (now (letters .entry)) (now (exons .entry))) (now (slots .entry))) ⌝ }
 {
     let rises = order::never_falls(slots);
-    let number = why_not(head, genome, transcript, letters, rises);
+    let number = why_not(head, genome, transcript, letters, exons, rises);
     if number == 0 {
         let at = knowing::alignment(head);
-        return walk::fill(at, genome, transcript, letters, slots);
+        return walk::fill(at, genome, transcript, letters, exons, slots);
     }
     refused(number)
 }

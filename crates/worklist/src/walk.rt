@@ -35,14 +35,15 @@ fn answer_slot<'a>(
     genome: &'a [u32; MOST_STARTS],
     transcript: &'a [u32; MOST_STARTS],
     letters: &'a [u8; MOST_SEGMENTS],
+    exons: &'a [u16; MOST_SEGMENTS],
     index: usize,
     s: Slot,
 ) -> Slot
     requires { ⌜ Aligns at (tables (now genome) (now transcript) (now letters)) × InSegment at (now genome) index (s .position) ⌝ }
-    ensures { λ r. ⌜ r ≡ answeredBy (alignedBy at (tables (now (genome .entry)) (now (transcript .entry)) (now (letters .entry)))) s ⌝ }
+    ensures { λ r. ⌜ r ≡ answeredBy (alignedBy at (tables (now (genome .entry)) (now (transcript .entry)) (now (letters .entry))) (now (exons .entry))) s ⌝ }
 {
     let position = s.position;
-    let n = places::one_to_n_at(at, genome, transcript, letters, index, position);
+    let n = places::one_to_n_at(at, genome, transcript, letters, exons, index, position);
     let answer = lay::lay_n(n);
     Slot { position, answer }
 }
@@ -64,17 +65,18 @@ pub fn fill<'a>(
     genome: &'a [u32; MOST_STARTS],
     transcript: &'a [u32; MOST_STARTS],
     letters: &'a [u8; MOST_SEGMENTS],
+    exons: &'a [u16; MOST_SEGMENTS],
     slots: &mut [Slot],
 ) -> Steps
     requires { ⌜ Aligns at (tables (now genome) (now transcript) (now letters)) × (neverFalls (positionsOf (now slots)) ≡ true) ⌝ }
-    ensures { λ r. ⌜ (r ≡ stepsLaid (answered (stepsOf (trackBy at (now (genome .entry))) (positionsOf (now (slots .entry)))))) × (now (slots .exit) ≡ map (answeredBy (alignedBy at (tables (now (genome .entry)) (now (transcript .entry)) (now (letters .entry))))) (now (slots .entry))) ⌝ }
+    ensures { λ r. ⌜ (r ≡ stepsLaid (answered (stepsOf (trackBy at (now (genome .entry))) (positionsOf (now (slots .entry)))))) × (now (slots .exit) ≡ map (answeredBy (alignedBy at (tables (now (genome .entry)) (now (transcript .entry)) (now (letters .entry))) (now (exons .entry)))) (now (slots .entry))) ⌝ }
 {
     let mut index = 0;
     let mut i = 0;
     while i < slots.len() {
         let s = slots[i];
         index = step(at, genome, index, s);
-        let t = answer_slot(at, genome, transcript, letters, index, s);
+        let t = answer_slot(at, genome, transcript, letters, exons, index, s);
         slots[i] = t;
         i += 1;
     }

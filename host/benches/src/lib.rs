@@ -1,6 +1,9 @@
 //! The transcripts and positions that are timed, on both sides.
 
-use compare::original::{self, Outcome};
+use compare::{
+    original::{self, Outcome},
+    settle,
+};
 use hgvs::{
     mapper::alignment::Mapper,
     parser::{CdsInterval, GenomeInterval},
@@ -139,7 +142,7 @@ pub struct Bench {
 }
 
 impl Bench {
-    /// Builds a transcript on both sides, and holds them to each other at every position.
+    /// Builds a transcript on both sides, and holds them to each other at every position, but for the exon numbers.
     pub fn new(letters: Letters, segments: usize, strand: i32) -> Bench {
         let asking = Asking::new(letters, segments, strand);
         let Some(Outcome::Answered(mut mapper)) = original::build(&asking.case) else { panic!("it builds") };
@@ -148,7 +151,8 @@ impl Bench {
         let c_to_g: Vec<_> = (0..POSITIONS).map(|index| asking.about_c(Kind::CToG, index)).collect();
         for question in g_to_n.iter().chain(&g_to_c).chain(&c_to_g) {
             let answer = question.ask(&asking.lent);
-            assert_eq!(original::ask(&mut mapper, question), Outcome::Answered(answer));
+            let said = original::ask(&mut mapper, question).map(|said| settle::numbered(said, answer));
+            assert_eq!(said, Outcome::Answered(answer));
         }
         let crate_g = g_to_n.iter().map(original::g_interval).collect();
         let crate_c = c_to_g.iter().map(original::c_interval).collect();

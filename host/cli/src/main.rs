@@ -2,6 +2,7 @@
 
 mod bam;
 mod card;
+mod exon;
 mod hts;
 mod list;
 mod map;
@@ -32,8 +33,9 @@ struct Options {
 enum Command {
     /// Map positions from standard input, one a line: `g 23`, `g 11_33`, `c 7+3`, `c *3`, `n 8+3`
     ///
-    /// Beside each stand its names of the other two kinds, an uncertain one in parentheses, or the refusal's number and
-    /// words. Empty lines and lines that begin with # are skipped. A line that is no position is reported with its
+    /// Beside each stand the exon that it lies in (`exon 2`; `exons 2_3` from one to another; `intron 2` behind exon 2) and its
+    /// names of the other two kinds, an uncertain one in parentheses, or the refusal's number and words. Exons are counted
+    /// from 1 in transcript order; an intron is told by the exon and the sign of the offset. Empty lines and lines that begin with # are skipped. A line that is no position is reported with its
     /// number, and the run goes on; the exit status is then 1. Single g. positions that come in order are put to the
     /// transcript as sorted worklists; each line says the same either way.
     Map {

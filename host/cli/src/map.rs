@@ -1,4 +1,4 @@
-//! `map`: positions from lines, with their names of the other kinds beside them.
+//! `map`: positions from lines, with their exons and their names of the other kinds beside them.
 
 use std::{
     fmt::Display,
@@ -11,7 +11,10 @@ use pulindraxi::{
     Bounds, Mapped, NoName, Refusal, Slot, Transcript,
 };
 
-use crate::Outcome;
+use crate::{
+    exon::{self, End},
+    Outcome,
+};
 
 /// A position of one of the three kinds.
 enum Asked {
@@ -41,16 +44,49 @@ fn said<T: Display>(answer: Result<T, Refusal>) -> String {
 /// What g. to n. answers.
 type Numbered = Result<Mapped<answered::NInterval>, Refusal>;
 
-/// The position and its names of the two other kinds. A g. position's n. answer may be at hand already.
-fn names(transcript: &Transcript, asked: &Asked, bounds: Bounds, at_hand: Option<Numbered>) -> [String; 3] {
-    match *asked {
+/// A position, where it lies, and its names of the two other kinds.
+struct Row {
+    asked: String,
+    /// None where the position is not mapped to or from g.
+    exon: Option<String>,
+    names: [String; 2],
+}
+
+/// The exons of an n. answer, with its offsets.
+fn ends_of_n(n: answered::NInterval) -> Option<[End; 2]> {
+    Some([(n.start.exon?, n.start.offset), (n.end.exon?, n.end.offset)])
+}
+
+/// The exons of a g. answer in transcript direction, with the offsets that were asked.
+fn ends_of_g(g: answered::GInterval, strand: i32, [start, end]: [i32; 2]) -> [End; 2] {
+    let [first, last] = if strand == 1 { [g.start, g.end] } else { [g.end, g.start] };
+    [(first.exon, start), (last.exon, end)]
+}
+
+/// The row of a position. A g. position's n. answer may be at hand already.
+fn row(transcript: &Transcript, asked: &Asked, bounds: Bounds, at_hand: Option<Numbered>) -> Row {
+    let from_g = |g: Result<Mapped<answered::GInterval>, Refusal>, offsets| {
+        g.ok().map(|g| ends_of_g(g.interval(), transcript.strand(), offsets))
+    };
+    let (asked, ends, names) = match *asked {
         Asked::G(g) => {
             let n = at_hand.unwrap_or_else(|| transcript.g_to_n(g, bounds));
-            [g.to_string(), said(n), said(transcript.g_to_c(g, bounds))]
+            let ends = n.ok().and_then(|n| ends_of_n(n.interval()));
+            (g.to_string(), ends, [said(n), said(transcript.g_to_c(g, bounds))])
         }
-        Asked::N(n) => [n.to_string(), said(transcript.n_to_g(n, bounds)), said(transcript.n_to_c(n, bounds))],
-        Asked::C(c) => [c.to_string(), said(transcript.c_to_g(c, bounds)), said(transcript.c_to_n(c, bounds))],
-    }
+        Asked::N(n) => {
+            let g = transcript.n_to_g(n, bounds);
+            let ends = from_g(g, [n.start.offset, n.end.offset]);
+            (n.to_string(), ends, [said(g), said(transcript.n_to_c(n, bounds))])
+        }
+        Asked::C(c) => {
+            let g = transcript.c_to_g(c, bounds);
+            let ends = from_g(g, [c.start.offset, c.end.offset]);
+            (c.to_string(), ends, [said(g), said(transcript.c_to_n(c, bounds))])
+        }
+    };
+    let exons = u32::try_from(transcript.record_count()).unwrap_or(u32::MAX);
+    Row { asked, exon: ends.map(|ends| exon::said(ends, exons)), names }
 }
 
 /// The position as a worklist takes it: one base of the genome, asked with strict bounds.
@@ -120,7 +156,7 @@ pub fn run(
                 None => (),
                 Some(Ok(asked)) => {
                     let at_hand = listed(asked, bounds).and_then(|_| walked.next());
-                    write_row(&mut output, names(transcript, asked, bounds, at_hand))?;
+                    write_row(&mut output, row(transcript, asked, bounds, at_hand))?;
                 }
                 Some(Err(why)) => {
                     bad += 1;
@@ -134,12 +170,18 @@ pub fn run(
     Ok(bad == 0)
 }
 
-/// Writes a position and its two other names, or the refusal once where both are the same.
-fn write_row(output: &mut impl Write, [asked, first, second]: [String; 3]) -> io::Result<()> {
+/// Writes a position, its exon if it has one, and its two other names, or the refusal once where both are the same. A refusal's
+/// words stand last.
+fn write_row(output: &mut impl Write, row: Row) -> io::Result<()> {
+    let Row { asked, exon, names: [first, second] } = row;
+    write!(output, "{asked:<15} ")?;
+    if let Some(exon) = exon {
+        write!(output, "{exon:<15} ")?;
+    }
     if first == second {
-        writeln!(output, "{asked:<15} {first}")
+        writeln!(output, "{first}")
     } else {
-        writeln!(output, "{asked:<15} {first:<15} {second}")
+        writeln!(output, "{first:<15} {second}")
     }
 }
 
@@ -187,7 +229,7 @@ mod tests {
                 continue;
             }
             match read(line) {
-                Ok(asked) => write_row(&mut output, names(transcript, &asked, bounds, None)).unwrap(),
+                Ok(asked) => write_row(&mut output, row(transcript, &asked, bounds, None)).unwrap(),
                 Err(why) => complaints += &format!("line {}: `{line}`: {why}\n", index + 1),
             }
         }
@@ -276,12 +318,55 @@ mod tests {
     fn each_kind_has_the_other_two_beside_it() {
         let (done, output, complaints) = map(Bounds::Strict, "g 23\n\n# a remark\n n\t10+3 \r\nc 7+3\ng.11_12\ng 30");
         assert!(done && complaints.is_empty());
-        let rows: Vec<Vec<&str>> = output.lines().map(|line| line.split_whitespace().collect()).collect();
-        assert_eq!(rows[0], ["g.23", "n.10+3", "c.7+3"]);
-        assert_eq!(rows[1], ["n.10+3", "g.23", "c.7+3"]);
-        assert_eq!(rows[2], ["c.7+3", "g.23", "n.10+3"]);
-        assert_eq!(rows[3], ["g.11_12", "n.1_2", "c.-3_-2"]);
-        assert_eq!(rows[4], ["g.30", "n.(14_15)", "c.(11_12)"]);
+        let rows: Vec<_> = output.lines().collect();
+        assert_eq!(rows[0], "g.23            intron 1        n.10+3          c.7+3");
+        assert_eq!(rows[1], "n.10+3          intron 1        g.23            c.7+3");
+        assert_eq!(rows[2], "c.7+3           intron 1        g.23            n.10+3");
+        assert_eq!(rows[3], "g.11_12         exon 1          n.1_2           c.-3_-2");
+        assert_eq!(rows[4], "g.30            exon 2          n.(14_15)       c.(11_12)");
+    }
+
+    /// The column of a line.
+    fn column(transcript: &Transcript, bounds: Bounds, line: &str) -> String {
+        let (_, output, _) = map_of(transcript, bounds, line.as_bytes());
+        output[16..31].trim_end().to_string()
+    }
+
+    #[test]
+    fn the_exon_stands_beside_each_kind() {
+        for (line, plus, minus) in [
+            ("g 20", "exon 1", "exon 2"),
+            ("g 21", "intron 1", "intron 1"),
+            ("g 25", "intron 1", "intron 1"),
+            ("g 26", "exon 2", "exon 1"),
+            ("g 11_33", "exons 1_2", "exons 1_2"),
+            ("g 33_11", "exons 2_1", "exons 2_1"),
+            ("g 20_24", "exon 1_intron 1", "intron 1_exon 2"),
+            ("n 1_16", "exons 1_2", "exons 1_2"),
+            ("n 16_1", "exons 2_1", "exons 2_1"),
+            ("c -3_*1", "exons 1_2", "exons 1_2"),
+            // An offset that leads past an end is said by its exon.
+            ("n 1-3", "exon 1", "exon 1"),
+            ("n 16+3", "exon 2", "exon 2"),
+        ] {
+            assert_eq!(column(&transcript(1), Bounds::Strict, line), plus, "{line}");
+            assert_eq!(column(&transcript(-1), Bounds::Strict, line), minus, "{line}, strand -1");
+        }
+        // Each end has its own offset, also where the g. answer has them in the other order.
+        let b = transcript(-1);
+        assert_eq!(column(&b, Bounds::Strict, "n 6+1_7"), "intron 1_exon 2");
+        assert_eq!(column(&b, Bounds::Strict, "n 6_7-1"), "exon 1_intron 1");
+        assert_eq!(column(&b, Bounds::Strict, "c 3+1_4-1"), "intron 1");
+        assert_eq!(column(&b, Bounds::Lenient, "g 34"), "exon 1");
+        assert_eq!(column(&b, Bounds::Lenient, "g 10"), "exon 2");
+    }
+
+    #[test]
+    fn a_transcript_without_a_cds_has_exons_too() {
+        let exons = [Exon { alt_start_i: 10, alt_end_i: 20, tx_start_i: 0, tx_end_i: 10, ord: 0, cigar: b"10M" }];
+        let input = Input { strand: 1, cds_start: None, cds_end: None, exons: &exons };
+        let (_, output, _) = map_of(&Transcript::build(&input).unwrap(), Bounds::Strict, "g 11\n".as_bytes());
+        assert_eq!(output, "g.11            exon 1          n.1             refused 13: c. asked, no CDS\n");
     }
 
     #[test]
@@ -292,7 +377,7 @@ mod tests {
         assert_eq!(lines[0], "g.10            refused 14: strict: place outside the from-table");
         assert_eq!(lines[1], "g.?_12          refused 19: g. start or end missing");
         let (_, output, _) = map(Bounds::Lenient, "g 10\n");
-        assert_eq!(output.split_whitespace().collect::<Vec<_>>(), ["g.10", "n.-1", "c.-4"]);
+        assert_eq!(output, "g.10            exon 1          n.-1            c.-4\n");
     }
 
     #[test]

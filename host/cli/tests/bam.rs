@@ -171,21 +171,24 @@ enum Column {
     Intron,
 }
 
-/// The columns of an alignment, by its text: read and genome are counted from 1, the read as it stands in the file.
-fn columns(position: i32, cigar: &str) -> Vec<Column> {
-    let (mut read, mut genome, mut columns) = (1, position, Vec::new());
+/// The columns of an alignment, by its text, each with the number of introns before it: read and genome are counted from 1, the read
+/// as it stands in the file.
+fn columns(position: i32, cigar: &str) -> Vec<(Column, u32)> {
+    let (mut read, mut genome, mut introns, mut columns) = (1, position, 0, Vec::new());
     for (count, operation) in parts(cigar) {
         for _ in 0..count {
-            columns.push(match operation {
+            let column = match operation {
                 "M" | "=" | "X" => Column::Both(read, genome),
                 "I" => Column::Read(read),
                 "D" => Column::Genome(genome),
                 "N" => Column::Intron,
                 _ => panic!("{operation} in {cigar}"),
-            });
+            };
+            columns.push((column, introns));
             read += i32::from(matches!(operation, "M" | "=" | "X" | "I"));
             genome += i32::from(matches!(operation, "M" | "=" | "X" | "D" | "N"));
         }
+        introns += u32::from(operation == "N");
     }
     columns
 }
@@ -197,18 +200,24 @@ fn n(base: i32) -> NInterval {
 /// Holds a transcript to an alignment's text.
 fn judge(transcript: &Transcript, strand: i32, position: i32, cigar: &str) {
     let columns = columns(position, cigar);
-    let bases = columns.iter().filter(|column| matches!(column, Column::Both(..) | Column::Read(_))).count() as i32;
+    let introns = parts(cigar).filter(|&(_, operation)| operation == "N").count() as u32;
+    assert_eq!(transcript.record_count() as u32, introns + 1);
+    let of_read = |column: &Column| matches!(column, Column::Both(..) | Column::Read(_));
+    let bases = columns.iter().filter(|(column, _)| of_read(column)).count() as i32;
     assert_eq!((transcript.strand(), transcript.transcript_length() as i32), (strand, bases));
     // A read on strand -1 stands in the file from its end.
     let turned = |read: i32| if strand == 1 { read } else { bases + 1 - read };
-    for column in columns {
+    for (column, before) in columns {
         match column {
             Column::Both(read, genome) => {
+                let exon = if strand == 1 { before + 1 } else { introns + 1 - before };
                 let to_g = transcript.n_to_g(n(turned(read)), Bounds::Strict).unwrap();
                 let Mapped::Certain(g) = to_g else { panic!("{to_g} of {cigar}") };
-                assert_eq!((g.start, g.end), (genome, genome), "{cigar} at {position}, strand {strand}");
+                assert_eq!((g.start.exon, g.end.exon), (exon, exon), "{cigar} at {position}, strand {strand}");
+                assert_eq!((g.start.base, g.end.base), (genome, genome), "{cigar} at {position}, strand {strand}");
                 let to_n = transcript.g_to_n(GInterval::at(genome), Bounds::Strict).unwrap();
                 assert_eq!(to_n.to_string(), format!("n.{}", turned(read)), "{cigar} at {position}, strand {strand}");
+                assert_eq!(to_n.interval().start.exon, Some(exon), "{cigar} at {position}, strand {strand}");
             }
             Column::Read(read) => assert!(!transcript.n_to_g(n(turned(read)), Bounds::Strict).unwrap().is_certain()),
             Column::Genome(genome) => {

@@ -35,8 +35,22 @@ fn from_records_to_the_table_of_places() {
     let mapped = run(&["map", card.to_str().unwrap()], &fs::read_to_string(demo("places.txt")).unwrap());
     assert!(mapped.status.success());
     let output = String::from_utf8(mapped.stdout).unwrap();
-    let names: Vec<_> = output.lines().map(|line| line.split_whitespace().nth(2).unwrap()).collect();
-    assert_eq!(names, ["c.-3", "c.-1", "c.1", "c.7+1", "c.7+3", "c.8-2", "c.*3", "14:", "14:", "14:"]);
+    let lines: Vec<_> = output.lines().collect();
+    assert_eq!(
+        lines,
+        [
+            "g.11            exon 1          n.1             c.-3",
+            "g.13            exon 1          n.3             c.-1",
+            "g.14            exon 1          n.4             c.1",
+            "g.21            intron 1        n.10+1          c.7+1",
+            "g.23            intron 1        n.10+3          c.7+3",
+            "g.24            intron 1        n.11-2          c.8-2",
+            "g.33            exon 2          n.18            c.*3",
+            "g.34            refused 14: strict: place outside the from-table",
+            "g.35            refused 14: strict: place outside the from-table",
+            "g.10            refused 14: strict: place outside the from-table",
+        ]
+    );
 }
 
 #[test]

@@ -6,6 +6,7 @@
 
 pub mod departures;
 pub mod differences;
+mod exons;
 mod judge;
 pub mod original;
 mod port;

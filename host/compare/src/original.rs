@@ -210,20 +210,25 @@ pub fn c_interval(question: &Question) -> CdsInterval {
     CdsInterval { start: position(question.start), end: position(question.end) }
 }
 
-/// An interval of the crate in the form of an answer.
+/// An interval of the crate in the form of an answer, without exon numbers: the crate knows none.
 trait Interval {
     fn ends(&self) -> [Position; 2];
 }
 
 impl Interval for GenomeInterval {
     fn ends(&self) -> [Position; 2] {
-        [self.start, self.end].map(|end| Position { base: end.expect("an answer has both ends"), offset: 0, star: 0 })
+        [self.start, self.end]
+            .map(|end| Position { base: end.expect("an answer has both ends"), ..Position::default() })
     }
 }
 
 impl Interval for TxInterval {
     fn ends(&self) -> [Position; 2] {
-        [&self.start, &self.end].map(|end| Position { base: end.base, offset: end.offset.unwrap_or(0), star: 0 })
+        [&self.start, &self.end].map(|end| Position {
+            base: end.base,
+            offset: end.offset.unwrap_or(0),
+            ..Position::default()
+        })
     }
 }
 
@@ -233,6 +238,7 @@ impl Interval for CdsInterval {
             base: end.base,
             offset: end.offset.unwrap_or(0),
             star: u32::from(end.cds_from == CdsFrom::End),
+            ..Position::default()
         })
     }
 }

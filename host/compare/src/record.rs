@@ -4,21 +4,23 @@
 use std::collections::BTreeMap;
 
 use pulindraxi::{
-    boundary::{Asked, Cds, Head, Laid},
+    asked::{CInterval, GInterval, NInterval},
+    boundary::{Asked, AskedG, Cds, Head, Laid},
     limits::{MOST_CARD, MOST_SEGMENTS, MOST_TEXT},
-    Element, Refusal,
+    Element, NoName, Refusal,
 };
 use rand::{seq::SliceRandom, Rng, SeedableRng};
 use rand_xorshift::XorShiftRng;
 use trials::{
     draw::{self, Case, Record},
     paper::{self, Aligned, Source},
-    recorded::{self, Call, Row},
+    recorded::{self, front, Call, Row, Words},
     Kind, Lent, Question,
 };
 
 use crate::{
     differences,
+    exons::{self, Worked},
     settle::{self, Built, Expected, Origin},
 };
 
@@ -86,6 +88,20 @@ fn letter(source: &Source, question: &Question) -> u8 {
     letters[index]
 }
 
+/// A question about the interval of a name.
+fn by_name(kind: Kind, name: &str, strict: bool) -> Result<Question, String> {
+    let fault = |error: NoName| format!("{name}: {error}");
+    let (start, end) = match kind {
+        _ if kind.is_about_g() => {
+            let AskedG { start, end, .. } = name.parse::<GInterval>().map_err(fault)?.into();
+            (Asked { base: start, ..Asked::default() }, Asked { base: end, ..Asked::default() })
+        }
+        _ if kind.is_about_c() => name.parse::<CInterval>().map(|c| (c.start.into(), c.end.into())).map_err(fault)?,
+        _ => name.parse::<NInterval>().map(|n| (n.start.into(), n.end.into())).map_err(fault)?,
+    };
+    Ok(Question { kind, start, end, missing: 0, strict })
+}
+
 /// Lenient questions at the ends of 32 bits.
 fn extremes() -> Vec<Question> {
     let ends = [i32::MIN, i32::MIN + 1, i32::MAX];
@@ -141,7 +157,7 @@ impl Recorder {
         *count <= most
     }
 
-    fn push(&mut self, row: Row, answer: [i32; 8], origin: Origin) {
+    fn push(&mut self, row: Row, answer: Words, origin: Origin) {
         self.rows.push(Row { answer, origin: origin as u8, ..row });
     }
 
@@ -230,9 +246,7 @@ impl Recorder {
 
     /// A worked transcript, and the questions to it that are answered by name.
     fn places(&mut self, index: usize, case: &Case) -> Result<(), String> {
-        let mut built = settle::build(case)?.1.ok_or("a worked transcript is not built")?;
-        let row = Row { payload: case.card(), ..Row::new(Call::BuildCard) };
-        self.push_built(row, &Ok(built.source.clone()), Origin::Answered);
+        let mut built = self.push_card(case)?;
         for ((_, kind, numbers, name), strict) in places().into_iter().filter(|(place, _)| place.0 == index) {
             let [start, end] = numbers.map(|base| Asked { base, ..Asked::default() });
             let question = Question { kind, start, end, missing: 0, strict: strict && kind != Kind::InBounds };
@@ -241,6 +255,49 @@ impl Recorder {
                 return Err(format!("{question:?}: {answer}, not {name}"));
             }
             self.push_question(&question, Some(&mut built))?;
+        }
+        Ok(())
+    }
+
+    /// A row of building from a card, of a transcript that builds in the crate too.
+    fn push_card(&mut self, case: &Case) -> Result<Built, String> {
+        let built = settle::build(case)?.1.ok_or("a worked transcript is not built")?;
+        let row = Row { payload: case.card(), ..Row::new(Call::BuildCard) };
+        self.push_built(row, &Ok(built.source.clone()), Origin::Answered);
+        Ok(built)
+    }
+
+    /// A question whose answer has this name and these exons.
+    fn push_numbered(
+        &mut self,
+        &(kind, asked, name, exons): &exons::Place,
+        strict: bool,
+        built: Option<&mut Built>,
+    ) -> Result<(), String> {
+        let question = by_name(kind, asked, strict)?;
+        let answer = question.expect(self.lent.source().as_ref());
+        let said = (differences::named(kind, answer), [answer.start.exon, answer.end.exon]);
+        if said != (name.into(), exons) {
+            return Err(format!("{question:?}: {said:?}, not {name} {exons:?}"));
+        }
+        self.push_question(&question, built)
+    }
+
+    /// A transcript whose exon numbers are worked by hand, and its memory with other numbers.
+    fn exons(&mut self, worked: &Worked) -> Result<(), String> {
+        let case = worked.case();
+        let mut built = self.push_card(&case)?;
+        for (places, strict) in [(worked.strict, true), (worked.lenient, false)] {
+            for place in places {
+                self.push_numbered(place, strict, Some(&mut built))?;
+            }
+        }
+        for (written, place) in worked.wounds {
+            self.push_card(&case)?;
+            for &[table, index, value] in *written {
+                self.damage([table, index, value, 0, 0, 0]);
+            }
+            self.push_numbered(place, true, None)?;
         }
         Ok(())
     }
@@ -263,8 +320,7 @@ impl Recorder {
             return Ok(());
         }
         let numbers = self.wound(source);
-        recorded::damage(&mut self.lent, numbers);
-        self.rows.push(Row { numbers, ..Row::new(Call::Damage) });
+        self.damage(numbers);
         for kind in Kind::ALL {
             let question = draw::question(&mut self.rng, source);
             let question = Question { kind, missing: 0, ..question };
@@ -276,16 +332,23 @@ impl Recorder {
         Ok(())
     }
 
+    /// A row of damage; the memory follows it.
+    fn damage(&mut self, numbers: [i32; 6]) {
+        recorded::damage(&mut self.lent, numbers);
+        self.rows.push(Row { numbers, ..Row::new(Call::Damage) });
+    }
+
     /// A table, a place in it and another value.
     fn wound(&mut self, source: &Source) -> [i32; 6] {
         let rng = &mut self.rng;
         let within = rng.gen_range(0..=source.head().segment_count);
-        let table = rng.gen_range(0..4);
+        let table = rng.gen_range(0..5);
         let index = if table == 0 { rng.gen_range(0..Head::COUNT as i32) } else { within };
         let old = self.lent.get(recorded::place([table, index, 0, 0, 0, 0]));
         let value = match table {
             0 => *[old.wrapping_add(1), -1, 2, draw::number(rng)].choose(rng).expect("not empty"),
             3 => i32::from(*b"=DIMNXS\0".choose(rng).expect("not empty")),
+            4 => old.wrapping_add(*[-1, 1, 2].choose(rng).expect("not empty")),
             _ if rng.gen() => old.wrapping_add(1),
             _ => draw::number(rng),
         };
@@ -345,7 +408,7 @@ impl Recorder {
             return Ok(());
         }
         let elements = expected.as_deref().unwrap_or(&[]);
-        let answer = [number(&expected) as i32, elements.len() as i32, 0, 0, 0, 0, 0, 0];
+        let answer = front([number(&expected) as i32, elements.len() as i32]);
         let numbers = [text.len() as i32, 0, 0, 0, 0, 0];
         let payload = [text, &five_bytes(elements)].concat();
         self.push(Row { numbers, payload, ..Row::new(Call::ReadCigar) }, answer, origin);
@@ -358,7 +421,7 @@ impl Recorder {
             return Ok(());
         }
         let written = expected.as_deref().unwrap_or(&[]);
-        let answer = [number(&expected) as i32, written.len() as i32, 0, 0, 0, 0, 0, 0];
+        let answer = front([number(&expected) as i32, written.len() as i32]);
         let numbers = [number_given as i32, elements.len() as i32, room as i32, 0, 0, 0];
         let payload = [&five_bytes(elements), written].concat();
         self.push(Row { numbers, payload, ..Row::new(Call::WriteCigar) }, answer, origin);
@@ -372,7 +435,7 @@ impl Recorder {
         }
         let elements: Vec<_> =
             expected.iter().flatten().map(|&(count, letter)| Element::new(count as i32, letter)).collect();
-        let answer = [number(&expected) as i32, elements.len() as i32, 0, 0, 0, 0, 0, 0];
+        let answer = front([number(&expected) as i32, elements.len() as i32]);
         let numbers = [words.len() as i32, counts_room as i32, letters_room as i32, 0, 0, 0];
         let payload = [four_bytes(words), five_bytes(&elements)].concat();
         self.push(Row { numbers, payload, ..Row::new(Call::ReadBam) }, answer, Origin::Added);
@@ -385,7 +448,7 @@ impl Recorder {
             return;
         }
         let written = expected.as_deref().unwrap_or(&[]);
-        let answer = [number(&expected) as i32, written.len() as i32, 0, 0, 0, 0, 0, 0];
+        let answer = front([number(&expected) as i32, written.len() as i32]);
         let numbers = [number_given as i32, elements.len() as i32, room as i32, 0, 0, 0];
         let payload = [five_bytes(elements), four_bytes(written)].concat();
         self.push(Row { numbers, payload, ..Row::new(Call::WriteBam) }, answer, Origin::Added);
@@ -398,7 +461,7 @@ impl Recorder {
         }
         let length = expected.as_ref().map_or(0, Vec::len) as i32;
         let row = row_of(Call::WriteCard, from, room);
-        self.push(row, [number(&expected) as i32, length, 0, 0, 0, 0, 0, 0], Origin::Added);
+        self.push(row, front([number(&expected) as i32, length]), Origin::Added);
     }
 
     fn trim(&mut self, reference: &[u8], alternative: &[u8]) -> Result<(), String> {
@@ -409,17 +472,17 @@ impl Recorder {
             let (expected, origin) = settled?;
             let length = expected.map_or(0, |length| length as i32);
             let row = Row { numbers, payload: payload.clone(), ..Row::new(call) };
-            self.push(row, [0, length, 0, 0, 0, 0, 0, 0], origin);
+            self.push(row, front([0, length]), origin);
         }
         let part = paper::changed(reference, alternative);
-        let answer = [0, part.alternative as i32, part.from as i32, part.to as i32, 0, 0, 0, 0];
+        let answer = front([0, part.alternative as i32, part.from as i32, part.to as i32]);
         self.push(Row { numbers, payload, ..Row::new(Call::Changed) }, answer, Origin::Added);
         Ok(())
     }
 }
 
 /// A transcript of records: genome bounds, tx bounds, `ord`, CIGAR.
-fn case(strand: i32, cds: Option<[i32; 2]>, records: &[([i32; 5], &str)]) -> Case {
+pub(crate) fn case(strand: i32, cds: Option<[i32; 2]>, records: &[([i32; 5], &str)]) -> Case {
     let record = |(numbers, cigar): &([i32; 5], &str)| Record { numbers: *numbers, cigar: cigar.as_bytes().to_vec() };
     Case {
         strand,
@@ -589,6 +652,9 @@ fn draw_all(recorder: &mut Recorder) -> Result<(), String> {
     for (index, case) in worked().iter().enumerate() {
         recorder.places(index, case)?;
     }
+    for worked in &exons::WORKED {
+        recorder.exons(worked)?;
+    }
     // P14 and P15.
     let elements = settle::read_cigar(b"M0X3=")?.0.unwrap_or_default();
     recorder.read_cigar(b"M0X3=")?;
@@ -707,7 +773,7 @@ pub fn run() -> Result<Vec<u8>, String> {
         }
     }
     let mut file = Vec::new();
-    let head = Row { numbers: [1, recorder.rows.len() as i32, 0, 0, 0, 0], ..Row::new(Call::Head) };
+    let head = Row { numbers: [recorded::VERSION, recorder.rows.len() as i32, 0, 0, 0, 0], ..Row::new(Call::Head) };
     head.write(&mut file);
     for row in &recorder.rows {
         row.write(&mut file);

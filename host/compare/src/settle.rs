@@ -2,7 +2,7 @@
 
 use hgvs::mapper::alignment::Mapper;
 use pulindraxi::{
-    boundary::{Answer, Cds},
+    boundary::{Answer, Cds, Position},
     limits::MOST_SEGMENTS,
     Element, Refusal,
 };
@@ -120,8 +120,12 @@ fn cds(mapper: &Mapper) -> Option<(i64, i64)> {
     mapper.cds_start_i.zip(mapper.cds_end_i).map(|(start, end)| (i64::from(start), i64::from(end)))
 }
 
-/// The crate's tables in document 01's form.
-fn aligned(mapper: &Mapper) -> Aligned {
+/// The crate's tables in document 01's form. The crate knows no exon numbers: these are the documents', where they build it.
+fn aligned(mapper: &Mapper, paper: &Result<Source, Refusal>) -> Aligned {
+    let (of, records) = match paper {
+        Ok(Source::Records(aligned)) => (aligned.of.clone(), aligned.records),
+        _ => (Vec::new(), 0),
+    };
     let starts = |starts: &[i32]| starts.iter().map(|&start| i64::from(start)).collect();
     let cigar = &mapper.cigar_mapper;
     Aligned {
@@ -130,6 +134,8 @@ fn aligned(mapper: &Mapper) -> Aligned {
         genome: starts(&cigar.ref_pos),
         transcript: starts(&cigar.tgt_pos),
         letters: cigar.cigar_op.iter().map(|&op| char::from(op) as u8).collect(),
+        of,
+        records,
         cds: cds(mapper),
     }
 }
@@ -168,7 +174,7 @@ pub fn build(case: &Case) -> Building {
     let paper = paper::build(case.laid(&bytes)).map(Source::Records);
     let due = due_to(case, &paper);
     let outcome = original::build(case);
-    let outcome = outcome.map(|built| built.map(|mapper| (Source::Records(aligned(&mapper)), mapper)));
+    let outcome = outcome.map(|built| built.map(|mapper| (Source::Records(aligned(&mapper, &paper)), mapper)));
     settle_built(outcome, paper, due)
 }
 
@@ -181,13 +187,20 @@ pub fn build_length(length: i32, cds_start: Option<i32>, cds_end: Option<i32>) -
     settle_built(Some(outcome), paper, due)
 }
 
+/// An answer of the crate, which knows no exon numbers, with those of another answer.
+pub fn numbered(answer: Answer, other: Answer) -> Answer {
+    let end = |end: Position, other: Position| Position { exon: other.exon, ..end };
+    Answer { start: end(answer.start, other.start), end: end(answer.end, other.end), ..answer }
+}
+
 /// What to expect of a question.
 pub fn ask(built: &mut Built, question: &Question) -> Result<Expected<Answer>, String> {
     let answer = question.expect(Some(&built.source));
     let paper = Refusal::check(answer.number).map(|()| answer);
     let departs = departures::departs(&built.source, question);
     let due = if departs { Due::Requested } else { due(paper == Err(Refusal::NoGenome)) };
-    settle(Some(original::ask(&mut built.mapper, question)), paper, due)
+    let outcome = original::ask(&mut built.mapper, question).map(|said| numbered(said, answer));
+    settle(Some(outcome), paper, due)
 }
 
 /// What to expect of reading CIGAR text: the elements.

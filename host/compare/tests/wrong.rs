@@ -9,7 +9,11 @@ use pulindraxi::{
     limits::MOST_SEGMENTS,
     Element, Refusal,
 };
-use trials::{draw::Case, paper::Source, Kind, Question};
+use trials::{
+    draw::Case,
+    paper::{Aligned, Of, Source},
+    Kind, Question,
+};
 
 type Said<T> = Result<T, Refusal>;
 /// The text that is written for elements, made from the right one.
@@ -92,6 +96,14 @@ impl Port for Wrong {
     fn trim_suffix(&self, reference: &[u8], alternative: &[u8]) -> usize {
         (self.trim)(self.entries.trim_suffix(reference, alternative))
     }
+}
+
+/// An answer with other exon numbers, made from its own.
+fn numbered(answer: Answer, number: fn([u32; 2]) -> [u32; 2]) -> Answer {
+    let [start, end] = number([answer.start.exon, answer.end.exon]);
+    let start = Position { exon: start, ..answer.start };
+    let end = Position { exon: end, ..answer.end };
+    Answer { start, end, ..answer }
 }
 
 /// The entries of a port that differ.
@@ -184,6 +196,47 @@ fn a_mapper_that_always_says_n_1() {
 }
 
 #[test]
+fn a_mapper_that_numbers_exons_otherwise() {
+    let numbering = |ask| differing(Wrong { ask, ..Wrong::default() });
+    let about_g = ["txc_c_to_g", "txc_g_to_c", "txc_g_to_n", "txc_n_to_g"];
+    // None, the numbers of the other end, the start's for both, and from 0 on.
+    assert_eq!(numbering(|_, answer| Ok(numbered(answer, |_| [0, 0]))), about_g);
+    assert_eq!(numbering(|_, answer| Ok(numbered(answer, |[start, end]| [end, start]))), about_g);
+    assert_eq!(numbering(|_, answer| Ok(numbered(answer, |[start, _]| [start; 2]))), about_g);
+    assert_eq!(numbering(|_, answer| Ok(numbered(answer, |exons| exons.map(|exon| exon.saturating_sub(1))))), about_g);
+    // One where there is none, and none in c. answers.
+    assert_eq!(
+        numbering(|_, answer| Ok(numbered(answer, |exons| exons.map(|exon| exon.max(1))))),
+        ["txc_c_to_n", "txc_in_bounds", "txc_is_coding", "txc_n_to_c"]
+    );
+    let not_in_c = |kind, answer| Ok(if kind == Kind::GToC { numbered(answer, |_| [0, 0]) } else { answer });
+    assert_eq!(numbering(not_in_c), ["txc_g_to_c"]);
+}
+
+#[test]
+fn a_builder_that_numbers_exons_otherwise() {
+    let building = |build| differing(Wrong { build, ..Wrong::default() });
+    let miscounts = |source| match source {
+        Source::Records(aligned) => Ok(Source::Records(Aligned { records: aligned.records + 1, ..aligned })),
+        source => Ok(source),
+    };
+    assert_eq!(building(miscounts), ["txc_build"]);
+    // A gap that belongs to the record before it.
+    let fills_gaps = |source| match source {
+        Source::Records(mut aligned) => {
+            for of in &mut aligned.of {
+                if let Of::Gap(record) = *of {
+                    *of = Of::Record(record);
+                }
+            }
+            Ok(Source::Records(aligned))
+        }
+        source => Ok(source),
+    };
+    assert_eq!(building(fills_gaps), ["txc_build"]);
+}
+
+#[test]
 fn a_walk_that_skips_a_slot_or_refuses_the_list() {
     let listing = |list| differing(Wrong { list, ..Wrong::default() });
     let skips = |mut answers: Vec<Said<Answer>>| {
@@ -194,6 +247,11 @@ fn a_walk_that_skips_a_slot_or_refuses_the_list() {
     };
     assert_eq!(listing(skips), ["txc_worklist"]);
     assert_eq!(listing(|answers| vec![Err(Refusal::Falling); answers.len()]), ["txc_worklist"]);
+    // Without exon numbers.
+    let unnumbered = |answers: Vec<Said<Answer>>| {
+        answers.into_iter().map(|said| said.map(|answer| numbered(answer, |_| [0, 0]))).collect()
+    };
+    assert_eq!(listing(unnumbered), ["txc_worklist"]);
 }
 
 #[test]

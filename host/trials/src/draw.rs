@@ -355,13 +355,58 @@ pub fn worded<R: Rng>(rng: &mut R) -> (Vec<Element>, usize) {
     (elements, room(rng, number))
 }
 
-/// Changes one number or letter of lent memory, or a start on both sides.
+/// Moves the exon numbers on one side of a segment by one, up or down, so that a step behind it comes, goes or doubles: mostly an N. Where
+/// the record count moves along, and the numbers begin and end as they must, an N is now a gap, or a gap an N inside a record.
+fn restep<R: Rng>(rng: &mut R, lent: &mut Lent, count: usize) {
+    let skipped: Vec<_> = (0..count).filter(|&index| lent.letters[index] == b'N').collect();
+    let index = match skipped.choose(rng) {
+        Some(&index) if rng.gen_ratio(9, 10) => index,
+        _ => rng.gen_range(0..=count),
+    };
+    let by: i16 = if rng.gen() { 1 } else { -1 };
+    // Numbers fall on strand -1: there those from the segment to the left move, and the last stays 1.
+    let on_the_right = if rng.gen_ratio(9, 10) { lent.head.strand == 1 } else { rng.gen() };
+    let moved = if on_the_right { index + 1..count } else { 0..index + 1 };
+    for number in lent.exons.get_mut(moved).unwrap_or_default() {
+        *number = number.wrapping_add_signed(by);
+    }
+    if rng.gen_ratio(3, 4) {
+        lent.head.record_count = lent.head.record_count.wrapping_add(by.into());
+    }
+}
+
+/// Changes the exon numbers or the record count: near misses for the most part.
+fn renumber<R: Rng>(rng: &mut R, lent: &mut Lent, index: usize, count: usize) {
+    let by: i16 = if rng.gen() { 1 } else { -1 };
+    match rng.gen_range(0..10) {
+        0..=3 => restep(rng, lent, count),
+        4 => lent.exons[index] = lent.exons[index].wrapping_add_signed(by),
+        5 => lent.head.record_count = lent.head.record_count.wrapping_add(by.into()),
+        6 => lent.head.record_count = *[0, 1, -1, 511, 512, 513, 65_536].choose(rng).expect("not empty"),
+        7 => {
+            // All of them, with the record count or without it.
+            for number in &mut lent.exons[..count] {
+                *number = number.wrapping_add_signed(by);
+            }
+            if rng.gen() {
+                lent.head.record_count = lent.head.record_count.wrapping_add(by.into());
+            }
+        }
+        8 => {
+            // As on the other strand.
+            lent.exons[..count].reverse();
+        }
+        _ => lent.exons[index] = number(rng) as u16,
+    }
+}
+
+/// Changes one number or letter of lent memory, or a start on both sides, or the exon numbers.
 pub fn damage<R: Rng>(rng: &mut R, lent: &mut Lent) {
     let last = lent.letters.len() - 1;
     let count = usize::try_from(lent.head.segment_count).unwrap_or(0).min(last);
     // Mostly among the places in use.
     let index = if rng.gen_ratio(9, 10) { rng.gen_range(0..=count) } else { rng.gen_range(0..=last) };
-    let place = match rng.gen_range(0..6) {
+    let place = match rng.gen_range(0..9) {
         0 | 1 => Place::Head(rng.gen_range(0..Head::COUNT)),
         2 => Place::Genome(index),
         3 => Place::Transcript(index),
@@ -369,6 +414,7 @@ pub fn damage<R: Rng>(rng: &mut R, lent: &mut Lent) {
             lent.letters[index] = *b"=DIMNXS\0m\xff".choose(rng).expect("not empty");
             return;
         }
+        5..=7 => return renumber(rng, lent, index, count),
         _ => {
             // Both sides at once can keep a matched segment whole.
             let by = rng.gen_range(0..3);

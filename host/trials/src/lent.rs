@@ -1,13 +1,13 @@
 //! The memory that is lent to the entries, each table apart, so that a step over an end is seen by a memory checker.
 
 use pulindraxi::{
-    boundary::{self, Filling, Head, Laid, Letters, Reading, Starts},
+    boundary::{self, Exons, Filling, Head, Laid, Letters, Reading, Starts},
     limits::{MOST_SEGMENTS, MOST_STARTS},
 };
 
 use crate::paper::{self, Source};
 
-/// A head and three tables.
+/// A head and four tables.
 #[derive(Clone, Debug, PartialEq, Eq)]
 pub struct Lent {
     /// The head.
@@ -18,6 +18,8 @@ pub struct Lent {
     pub transcript: Box<Starts>,
     /// The letters.
     pub letters: Box<Letters>,
+    /// The exon numbers.
+    pub exons: Box<Exons>,
 }
 
 /// A table of some entries, unused places 0.
@@ -38,6 +40,7 @@ impl Lent {
             genome: Box::new([number; MOST_STARTS]),
             transcript: Box::new([number; MOST_STARTS]),
             letters: Box::new([with; MOST_SEGMENTS]),
+            exons: Box::new([number as u16; MOST_SEGMENTS]),
         }
     }
 
@@ -48,6 +51,7 @@ impl Lent {
             self.genome = table(aligned.genome.iter().map(|&start| start as u32));
             self.transcript = table(aligned.transcript.iter().map(|&start| start as u32));
             self.letters = table(aligned.letters.iter().copied());
+            self.exons = table(aligned.exons());
         }
         self
     }
@@ -59,15 +63,15 @@ impl Lent {
 
     /// The memory for a question.
     pub fn reading(&self) -> Reading<'_> {
-        let Lent { head, genome, transcript, letters } = self;
-        Reading { head, genome, transcript, letters }
+        let Lent { head, genome, transcript, letters, exons } = self;
+        Reading { head, genome, transcript, letters, exons }
     }
 
     /// The memory for a building.
     #[inline]
     fn filling(&mut self) -> Filling<'_> {
-        let Lent { head, genome, transcript, letters } = self;
-        Filling { head, genome, transcript, letters }
+        let Lent { head, genome, transcript, letters, exons } = self;
+        Filling { head, genome, transcript, letters, exons }
     }
 
     /// Builds from records through the boundary.
@@ -94,6 +98,8 @@ pub enum Place {
     Transcript(usize),
     /// Of the letters.
     Letter(usize),
+    /// Of the exon numbers.
+    Exon(usize),
 }
 
 impl Lent {
@@ -104,6 +110,7 @@ impl Lent {
             Place::Genome(index) => self.genome[index] as i32,
             Place::Transcript(index) => self.transcript[index] as i32,
             Place::Letter(index) => self.letters[index].into(),
+            Place::Exon(index) => self.exons[index].into(),
         }
     }
 
@@ -118,6 +125,7 @@ impl Lent {
             Place::Genome(index) => self.genome[index] = number as u32,
             Place::Transcript(index) => self.transcript[index] = number as u32,
             Place::Letter(index) => self.letters[index] = number as u8,
+            Place::Exon(index) => self.exons[index] = number as u16,
         }
     }
 }

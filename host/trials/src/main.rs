@@ -6,7 +6,7 @@ use std::collections::BTreeMap;
 use clap::Parser;
 use pulindraxi::{
     boundary::{self, Answer, Cds, Laid, Length, Position, Slot, Steps},
-    limits::MOST_SEGMENTS,
+    limits::{MOST_RECORDS, MOST_SEGMENTS},
     Element, Refusal,
 };
 use rand::{seq::SliceRandom, Rng, SeedableRng};
@@ -113,7 +113,12 @@ impl Trial {
         if let Some(last) = cigar.last_mut() {
             *last = b'D';
         }
-        let mut case = draw::alike(if rng.gen() { 1 } else { -1 }, count, &cigar);
+        let strand = if rng.gen() { 1 } else { -1 };
+        let mut case = match rng.gen_range(0..3) {
+            // As many records as can be, with an N inside each that damage can make a gap.
+            0 => draw::alike(strand, MOST_RECORDS, b"NM"),
+            _ => draw::alike(strand, count, &cigar),
+        };
         if let Some(last) = case.records.last_mut().filter(|_| rng.gen_ratio(1, 4)) {
             last.numbers[1] = last.numbers[1].saturating_add(1);
         }
@@ -126,6 +131,7 @@ impl Trial {
         let from = case.laid(&bytes);
         let number = self.lent.build(from);
         self.judge_built("txc_build", number, paper::build(from).map(Source::Records));
+        self.ask_damaged();
     }
 
     fn build_card(&mut self) {
@@ -165,7 +171,7 @@ impl Trial {
 
     /// A list of slots between two others, each painted. Where it is refused, none changes.
     fn judge_worklist(&mut self, positions: &[i32], source: Option<&Source>) {
-        let painted = Position { base: -7, offset: 7, star: 7 };
+        let painted = Position { base: -7, offset: 7, star: 7, exon: 7 };
         let answer = Answer { number: 77, mark: 7, start: painted, end: painted };
         let slot = |position| Slot { position, answer };
         let mut slots: Vec<_> = [&[7], positions, &[-7]].concat().into_iter().map(slot).collect();

@@ -27,6 +27,15 @@ pub fn is_letter(letter: u8) -> bool {
     b"=DIMNX".contains(&letter)
 }
 
+/// What a segment comes from. Records are counted from 0 in genomic order.
+#[derive(Clone, Copy, Debug, PartialEq, Eq)]
+pub enum Of {
+    /// An element of this record.
+    Record(usize),
+    /// The gap between this record and the next.
+    Gap(usize),
+}
+
 /// A transcript built from records.
 #[derive(Clone, Debug, PartialEq, Eq)]
 pub struct Aligned {
@@ -40,6 +49,10 @@ pub struct Aligned {
     pub transcript: Vec<i64>,
     /// The segments' letters.
     pub letters: Vec<u8>,
+    /// What the segments come from.
+    pub of: Vec<Of>,
+    /// How many records there are, empty ones among them.
+    pub records: usize,
     /// The CDS.
     pub cds: Option<(i64, i64)>,
 }
@@ -283,11 +296,12 @@ pub fn span(elements: &[Counted]) -> i64 {
     elements.iter().filter(|(_, letter)| along_genome(*letter)).map(|(count, _)| count).sum()
 }
 
-/// The elements of all records in genomic order: per record 3 for the CIGAR's size, 3 for the gap, its elements, 32.
-fn elements(strand: i32, exons: &[Exon<'_>]) -> Result<Vec<Counted>, Refusal> {
-    let mut all: Vec<Counted> = Vec::new();
+/// The elements of all records in genomic order, each with what it comes from: per record 3 for the CIGAR's size, 3 for the gap, its
+/// elements, 32.
+fn elements(strand: i32, exons: &[Exon<'_>]) -> Result<Vec<(Counted, Of)>, Refusal> {
+    let mut all = Vec::new();
     let mut before: Option<&Exon<'_>> = None;
-    for exon in exons {
+    for (index, exon) in exons.iter().enumerate() {
         if exon.cigar.len() > MOST_TEXT {
             return Err(Refusal::TooMuch);
         }
@@ -295,7 +309,8 @@ fn elements(strand: i32, exons: &[Exon<'_>]) -> Result<Vec<Counted>, Refusal> {
             if all.len() == MOST_SEGMENTS {
                 return Err(Refusal::TooMuch);
             }
-            all.push((i64::from(exon.alt_start_i) - i64::from(before.alt_end_i), b'N'));
+            let gap = i64::from(exon.alt_start_i) - i64::from(before.alt_end_i);
+            all.push(((gap, b'N'), Of::Gap(index - 1)));
         }
         let mut own = read_cigar(exon.cigar, MOST_SEGMENTS - all.len())?;
         if span(&own) != i64::from(exon.alt_end_i) - i64::from(exon.alt_start_i) {
@@ -304,7 +319,7 @@ fn elements(strand: i32, exons: &[Exon<'_>]) -> Result<Vec<Counted>, Refusal> {
         if strand == -1 {
             own.reverse();
         }
-        all.append(&mut own);
+        all.extend(own.into_iter().map(|element| (element, Of::Record(index))));
         before = Some(exon);
     }
     Ok(all)
@@ -360,7 +375,7 @@ pub fn build(from: Laid<'_>) -> Result<Aligned, Refusal> {
         judge_record(from.strand, index.checked_sub(1).map(|before| &exons[before]), exon)?;
     }
     judge_half(from.cds)?;
-    let elements = elements(from.strand, &exons)?;
+    let (elements, of): (Vec<_>, Vec<_>) = elements(from.strand, &exons)?.into_iter().unzip();
     if elements.is_empty() {
         return Err(Refusal::NoSegment);
     }
@@ -370,7 +385,7 @@ pub fn build(from: Laid<'_>) -> Result<Aligned, Refusal> {
     }
     let cds = judge_cds(from.cds, last(&transcript))?;
     let letters = elements.iter().map(|&(_, letter)| letter).collect();
-    Ok(Aligned { strand: from.strand, first, genome, transcript, letters, cds })
+    Ok(Aligned { strand: from.strand, first, genome, transcript, letters, of, records: exons.len(), cds })
 }
 
 /// A length-only transcript: 4, 9, 11, 12.
@@ -400,6 +415,7 @@ impl Source {
                 strand: aligned.strand,
                 first_start: aligned.first as i32,
                 segment_count: aligned.letters.len() as i32,
+                record_count: aligned.records as i32,
                 ..own
             },
             Source::Length(length, _) => Head { kind: Head::LENGTH_ONLY, length: *length as i32, ..own },
@@ -426,23 +442,36 @@ impl Source {
 // ---- Check 23
 
 /// What lent memory stands for, where it holds together.
-pub fn source(of: Reading<'_>) -> Option<Source> {
-    let Head { kind, strand, first_start, segment_count, cds_bits, cds_start, cds_end, length } = *of.head;
+pub fn source(lent: Reading<'_>) -> Option<Source> {
+    let Head { kind, strand, first_start, segment_count, cds_bits, cds_start, cds_end, length, record_count } =
+        *lent.head;
     let bits = u32::try_from(cds_bits).ok().filter(|&bits| bits == 0 || bits == Cds::START | Cds::END)?;
     let cds = Cds { bits, start: cds_start, end: cds_end };
     match kind {
         Head::RECORDS => {
             let count = usize::try_from(segment_count).ok().filter(|count| (1..=MOST_SEGMENTS).contains(count))?;
             let whole = |starts: &Starts| starts[..=count].iter().map(|&s| i64::from(s)).collect::<Vec<_>>();
-            let (genome, transcript, letters) = (whole(of.genome), whole(of.transcript), of.letters[..count].to_vec());
+            let (genome, transcript, letters) =
+                (whole(lent.genome), whole(lent.transcript), lent.letters[..count].to_vec());
             let first = i64::from(first_start);
+            let records = usize::try_from(record_count).ok().filter(|count| (1..=MOST_RECORDS).contains(count))?;
+            let of = runs(strand, records, &letters, &lent.exons[..count])?;
             let together = (strand == 1 || strand == -1)
                 && first >= 0
                 && segments_hold(&genome, &transcript, &letters)
                 && first + last(&genome) <= i64::from(MOST_BASES)
                 && last(&transcript) <= i64::from(MOST_BASES);
             let cds = judge_cds(cds, last(&transcript)).ok()?;
-            together.then_some(Source::Records(Aligned { strand, first, genome, transcript, letters, cds }))
+            together.then_some(Source::Records(Aligned {
+                strand,
+                first,
+                genome,
+                transcript,
+                letters,
+                of,
+                records,
+                cds,
+            }))
         }
         Head::LENGTH_ONLY => build_length(length, cds).ok(),
         _ => None,
@@ -464,29 +493,64 @@ fn segments_hold(genome: &[i64], transcript: &[i64], letters: &[u8]) -> bool {
         })
 }
 
+/// The number of a record: exons are counted from 1 in transcript order.
+fn exon_number(strand: i32, records: usize, record: usize) -> usize {
+    match strand {
+        1 => record + 1,
+        _ => records - record,
+    }
+}
+
+/// What segments with these exon numbers come from. From the genomic left the numbers run from 1 to the record count, on strand -1
+/// back to 1, stepping by one across each gap and nowhere else: a gap is an N after which the number steps. It holds its left record's
+/// number; after the last segment stands the last record's.
+fn runs(strand: i32, records: usize, letters: &[u8], exons: &[u16]) -> Option<Vec<Of>> {
+    let number = |record: usize| exon_number(strand, records, record);
+    let mut record = 0;
+    let mut of = Vec::new();
+    for (index, &letter) in letters.iter().enumerate() {
+        let next = exons.get(index + 1).map_or(number(records - 1), |&next| next.into());
+        let steps = next != usize::from(exons[index]);
+        if usize::from(exons[index]) != number(record) || steps && letter != b'N' {
+            return None;
+        }
+        of.push(if steps { Of::Gap(record) } else { Of::Record(record) });
+        record += usize::from(steps);
+        if record == records {
+            return None;
+        }
+    }
+    (record + 1 == records).then_some(of)
+}
+
 // ---- Finding and mapping a place
 
 struct Spot {
     place: i64,
     offset: i64,
     sure: bool,
+    /// The segment that was chosen.
+    segment: usize,
+    /// Whether the place counts from the chosen segment's right.
+    right: bool,
 }
 
 /// Maps a place by the first segment whose end is above it, or else the last.
 fn map_place(from: &[i64], to: &[i64], letters: &[u8], p: i64, is_start: bool, forward: bool) -> Spot {
     let index = (0..letters.len()).find(|&i| from[i + 1] > p).unwrap_or(letters.len() - 1);
     let (f, t, h) = (from[index], to[index], from[index + 1]);
+    let spot = |place, offset, sure| Spot { place, offset, sure, segment: index, right: false };
     match letters[index] {
-        b'I' | b'D' => Spot { place: if is_start { t - 1 } else { t }, offset: 0, sure: false },
+        b'I' | b'D' => spot(if is_start { t - 1 } else { t }, 0, false),
         b'N' => {
             let (left, right) = (p - f + 1, h - p);
             if left < right || (left == right && forward) {
-                Spot { place: t - 1, offset: left, sure: true }
+                spot(t - 1, left, true)
             } else {
-                Spot { place: t, offset: -right, sure: true }
+                Spot { right: true, ..spot(t, -right, true) }
             }
         }
-        _ => Spot { place: t + (p - f), offset: 0, sure: true },
+        _ => spot(t + (p - f), 0, true),
     }
 }
 
@@ -514,23 +578,28 @@ fn place_of_n(n: i64) -> i64 {
     }
 }
 
+/// The exon of a position that is mapped without the genome.
+const NO_EXON: usize = 0;
+
 /// A position in whole numbers.
 #[derive(Clone, Copy, Debug)]
 struct Whole {
     base: i64,
     offset: i64,
     star: bool,
+    exon: usize,
 }
 
 impl Whole {
-    fn plain(base: i64, offset: i64) -> Whole {
-        Whole { base, offset, star: false }
+    fn plain(base: i64, offset: i64, exon: usize) -> Whole {
+        Whole { base, offset, star: false, exon }
     }
 
     /// 17, or the position.
     fn fit(self) -> Result<Position, Refusal> {
         let fit = |number: i64| i32::try_from(number).map_err(|_| Refusal::TooWide);
-        Ok(Position { base: fit(self.base)?, offset: fit(self.offset)?, star: u32::from(self.star) })
+        let (base, offset) = (fit(self.base)?, fit(self.offset)?);
+        Ok(Position { base, offset, star: u32::from(self.star), exon: self.exon as u32 })
     }
 }
 
@@ -560,6 +629,34 @@ impl Aligned {
         let place = |base: i32| i64::from(base) - 1 - self.first;
         Ok((place(g.start), place(g.end)))
     }
+
+    fn exon(&self, record: usize) -> usize {
+        exon_number(self.strand, self.records, record)
+    }
+
+    /// The segments' exon numbers: a gap holds its left record's.
+    pub fn exons(&self) -> impl Iterator<Item = u16> + '_ {
+        self.of.iter().map(|&(Of::Record(record) | Of::Gap(record))| self.exon(record) as u16)
+    }
+
+    /// The exon of a spot that was mapped from the genome: the record that its segment belongs to, and in a gap the record on the side
+    /// that the N rule took.
+    fn exon_from_genome(&self, spot: &Spot) -> usize {
+        match self.of[spot.segment] {
+            Of::Record(record) => self.exon(record),
+            Of::Gap(left) if spot.right => self.exon(left + 1),
+            Of::Gap(left) => self.exon(left),
+        }
+    }
+
+    /// The exon of a spot that was mapped from the transcript: the record that its segment belongs to, and for a gap the record before it
+    /// in transcript order.
+    fn exon_from_transcript(&self, spot: &Spot) -> usize {
+        match self.of[spot.segment] {
+            Of::Record(record) => self.exon(record),
+            Of::Gap(left) => self.exon(left).min(self.exon(left + 1)),
+        }
+    }
 }
 
 impl Source {
@@ -580,8 +677,11 @@ impl Source {
         let (a, b) = (map(start, true), map(end, false));
         let mark = mark(&a, &b);
         let n = |spot: &Spot| match t.strand {
-            1 => Whole::plain(n_of_place(spot.place), spot.offset),
-            _ => Whole::plain(n_of_place(last(&t.transcript) - 1 - spot.place), -spot.offset),
+            1 => Whole::plain(n_of_place(spot.place), spot.offset, t.exon_from_genome(spot)),
+            _ => {
+                let place = last(&t.transcript) - 1 - spot.place;
+                Whole::plain(n_of_place(place), -spot.offset, t.exon_from_genome(spot))
+            }
         };
         let (a, b) = if t.strand == 1 { (n(&a), n(&b)) } else { (n(&b), n(&a)) };
         Ok(answer(mark, a.fit()?, b.fit()?))
@@ -603,7 +703,10 @@ impl Source {
         inside(strict, &t.transcript, b)?;
         let map = |p, is_start| map_place(&t.transcript, &t.genome, &t.letters, p, is_start, true);
         let (a, b) = (map(a, true), map(b, false));
-        let g = |spot: &Spot, offset: i64| Whole::plain(spot.place + t.first + 1 + offset, 0).fit();
+        let g = |spot: &Spot, offset: i64| {
+            let base = spot.place + t.first + 1 + offset;
+            Whole::plain(base, 0, t.exon_from_transcript(spot)).fit()
+        };
         Ok(answer(mark(&a, &b), g(&a, a_offset)?, g(&b, b_offset)?))
     }
 
@@ -621,7 +724,7 @@ impl Source {
                 _ if b <= e => (b - s, false),
                 _ => (b - e, true),
             };
-            Whole { base, offset: i64::from(n.offset), star }.fit()
+            Whole { base, offset: i64::from(n.offset), star, exon: NO_EXON }.fit()
         };
         Ok(answer(Answer::UNMARKED, c(start)?, c(end)?))
     }
@@ -636,16 +739,17 @@ impl Source {
             if strict && (n <= 0 || n > self.length()) {
                 return Err(Refusal::COutside);
             }
-            Whole::plain(n, i64::from(c.offset)).fit()
+            Whole::plain(n, i64::from(c.offset), NO_EXON).fit()
         };
         Ok(answer(Answer::UNMARKED, n(start)?, n(end)?))
     }
 
-    /// g. to c.: the first mapping wholly, then the second.
+    /// g. to c.: the first mapping wholly, then the second. The ends keep the exons that the first found.
     pub fn g_to_c(&self, g: AskedG, strict: bool) -> Result<Answer, Refusal> {
         let n = self.g_to_n(g, strict)?;
         let c = self.n_to_c(n.start.into(), n.end.into(), strict)?;
-        Ok(Answer { mark: n.mark, ..c })
+        let end = |c: Position, n: Position| Position { exon: n.exon, ..c };
+        Ok(answer(n.mark, end(c.start, n.start), end(c.end, n.end)))
     }
 
     /// c. to g.: the first mapping wholly, then the second.
@@ -790,6 +894,93 @@ mod tests {
         let hollow = built(1, Cds::new(None, None), &[([0, 4], "2M0I3D2M")]).unwrap();
         assert_eq!(hollow.worklist(&[2]).unwrap().1, 0);
         assert_eq!(hollow.worklist(&[3]).unwrap().1, 3);
+    }
+
+    /// The exons of an answer's ends.
+    fn exons(answer: Result<Answer, Refusal>) -> [u32; 2] {
+        answer.map_or([0, 0], |answer| [answer.start.exon, answer.end.exon])
+    }
+
+    #[test]
+    fn exons_are_counted_in_transcript_order() {
+        // An N of four inside the first record, a gap of five on each side of an empty record.
+        let records = [([10, 20], "3M4N3M"), ([25, 25], ""), ([30, 36], "6M")];
+        let g = |source: &Source, base| exons(source.g_to_n(AskedG { start: base, end: base, missing: 0 }, true))[0];
+        let plus = built(1, Cds::new(None, None), &records).unwrap();
+        let minus = built(-1, Cds::new(None, None), &records).unwrap();
+        let of = |source: &Source| (11..=36).map(|base| g(source, base)).collect::<Vec<_>>();
+        let [one, two, three] = [1, 2, 3];
+        let gaps = [one, one, one, two, two, two, two, two, three, three];
+        assert_eq!(of(&plus), [&[one; 10][..], &gaps, &[three; 6]].concat());
+        // The middle of a gap goes upstream: to the right.
+        let gaps = [three, three, two, two, two, two, two, one, one, one];
+        assert_eq!(of(&minus), [&[three; 10][..], &gaps, &[one; 6]].concat());
+        let Source::Records(plus) = plus else { panic!() };
+        let Source::Records(minus) = minus else { panic!() };
+        assert_eq!(plus.exons().collect::<Vec<_>>(), [1, 1, 1, 1, 2, 3]);
+        assert_eq!(minus.exons().collect::<Vec<_>>(), [3, 3, 3, 3, 2, 1]);
+    }
+
+    #[test]
+    fn exons_go_with_their_ends() {
+        let records = [([10, 20], "10M"), ([25, 33], "8M")];
+        let at = |base| Asked { base, ..Asked::default() };
+        let g = AskedG { start: 11, end: 33, missing: 0 };
+        for (strand, on_genome) in [(1, [1, 2]), (-1, [2, 1])] {
+            let source = built(strand, Cds::new(Some(3), Some(15)), &records).unwrap();
+            assert_eq!(exons(source.g_to_n(g, true)), [1, 2]);
+            assert_eq!(exons(source.g_to_c(g, true)), [1, 2]);
+            assert_eq!(exons(source.n_to_g(at(1), at(18), true)), on_genome);
+            assert_eq!(exons(source.c_to_g(at(-3), at(12), true)), on_genome);
+            assert_eq!(exons(source.n_to_c(at(1), at(18), true)), [0, 0]);
+            assert_eq!(exons(source.c_to_n(at(-3), at(12), true)), [0, 0]);
+        }
+    }
+
+    #[test]
+    fn a_gap_from_the_transcript_counts_as_the_record_before_it() {
+        let records = [([5, 5], ""), ([10, 14], "4M"), ([20, 20], "")];
+        let lenient = |source: &Source, base| {
+            let at = Asked { base, ..Asked::default() };
+            exons(source.n_to_g(at, at, false))[0]
+        };
+        for strand in [1, -1] {
+            let source = built(strand, Cds::new(None, None), &records).unwrap();
+            assert_eq!([-1, 1, 4, 5].map(|n| lenient(&source, n)), [1, 2, 2, 2], "strand {strand}");
+        }
+    }
+
+    #[test]
+    fn exon_numbers_run_from_the_left() {
+        let run = |strand, records, letters: &str, exons: &[u16]| {
+            runs(strand, records, letters.as_bytes(), exons)
+                .map(|of| of.iter().map(|of| if matches!(of, Of::Gap(_)) { '|' } else { '.' }).collect::<String>())
+        };
+        let said = |text: &str| Some(text.to_string());
+        assert_eq!(run(1, 3, "MNMNNM", &[1, 1, 1, 1, 2, 3]), said("...||."));
+        assert_eq!(run(-1, 3, "MNMNNM", &[3, 3, 3, 3, 2, 1]), said("...||."));
+        assert_eq!(run(1, 4, "MNMNNM", &[1, 1, 2, 2, 3, 4]), said(".|.||."));
+        assert_eq!(run(1, 1, "MNM", &[1, 1, 1]), said("..."));
+        assert_eq!(run(1, 3, "NMN", &[1, 2, 2]), said("|.|"));
+        assert_eq!(run(-1, 3, "NMN", &[3, 2, 2]), said("|.|"));
+        assert_eq!(run(1, 3, "NN", &[1, 2]), said("||"));
+        for (strand, records, exons) in [
+            (1, 2, [0, 0, 1]),
+            (1, 2, [2, 2, 3]),
+            (1, 2, [1, 1, 1]),
+            (1, 2, [1, 2, 2]),
+            (1, 3, [1, 1, 2]),
+            (1, 3, [1, 1, 3]),
+            (1, 1, [1, 1, 2]),
+            (1, 2, [2, 2, 1]),
+            (-1, 2, [1, 1, 2]),
+            (-1, 2, [2, 2, 2]),
+            (-1, 2, [2, 1, 1]),
+            (-1, 3, [2, 2, 1]),
+            (-1, 2, [2, 2, 0]),
+        ] {
+            assert_eq!(run(strand, records, "MNM", &exons), None, "{strand} {records} {exons:?}");
+        }
     }
 
     #[test]

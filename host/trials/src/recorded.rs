@@ -1,4 +1,4 @@
-//! Recorded answers: a file of 64-byte blocks that holds calls of the boundary and what to expect of them.
+//! Recorded answers: a file of 72-byte blocks that holds calls of the boundary and what to expect of them.
 //!
 //! `host/compare/README.md` describes the layout, for readers in other languages too.
 
@@ -9,8 +9,20 @@ use pulindraxi::{
 
 use crate::{paper, Kind, Lent, Place, Question};
 
-/// The size of a block.
-pub const BLOCK: usize = 64;
+/// The layout's version.
+pub const VERSION: i32 = 2;
+/// The size of a block: eight bytes, six numbers, and what to expect.
+pub const BLOCK: usize = 8 + 4 * (6 + ANSWER);
+/// How many numbers an answer has.
+const ANSWER: usize = 10;
+
+/// What a row expects: the refusal's number first.
+pub type Words = [i32; ANSWER];
+
+/// The first numbers of an answer, with 0 behind them.
+pub fn front<const N: usize>(numbers: [i32; N]) -> Words {
+    std::array::from_fn(|index| numbers.get(index).copied().unwrap_or(0))
+}
 
 /// What a row calls. The number is the row's first byte.
 #[derive(Clone, Copy, Debug, PartialEq, Eq, PartialOrd, Ord)]
@@ -111,8 +123,8 @@ pub struct Row {
     pub origin: u8,
     /// The call's numbers.
     pub numbers: [i32; 6],
-    /// What to expect: the refusal's number first.
-    pub answer: [i32; 8],
+    /// What to expect.
+    pub answer: Words,
     /// The call's bytes.
     pub payload: Vec<u8>,
 }
@@ -121,16 +133,17 @@ fn word(bytes: &[u8], at: usize) -> i32 {
     i32::from_le_bytes(bytes[at..at + 4].try_into().expect("four bytes"))
 }
 
-/// An answer as eight words.
-pub fn words(answer: Answer) -> [i32; 8] {
-    let (a, b) = (answer.start, answer.end);
-    [answer.number as i32, answer.mark as i32, a.base, a.offset, a.star as i32, b.base, b.offset, b.star as i32]
+/// An answer in positions as a row has it.
+pub fn words(answer: Answer) -> Words {
+    let Answer { number, mark, start: a, end: b } = answer;
+    let [a, b] = [a, b].map(|end| [end.base, end.offset, end.star as i32, end.exon as i32]);
+    [number as i32, mark as i32, a[0], a[1], a[2], a[3], b[0], b[1], b[2], b[3]]
 }
 
 impl Row {
     /// A row without numbers, bytes and expectation.
     pub fn new(call: Call) -> Row {
-        Row { call, flags: 0, origin: 0, numbers: [0; 6], answer: [0; 8], payload: Vec::new() }
+        Row { call, flags: 0, origin: 0, numbers: [0; 6], answer: front([]), payload: Vec::new() }
     }
 
     /// The row of a question, without its expectation.
@@ -199,20 +212,20 @@ fn bam_words(bytes: &[u8]) -> Vec<u32> {
 }
 
 /// What building's row expects of the memory: strand, first start, segment count, both lengths.
-pub fn built(number: u32, lent: &Lent) -> [i32; 8] {
+pub fn built(number: u32, lent: &Lent) -> Words {
     let Head { kind, strand, first_start, segment_count, length, .. } = *lent.head;
     if number != 0 {
-        return [number as i32, 0, 0, 0, 0, 0, 0, 0];
+        return front([number as i32]);
     }
     if kind != Head::RECORDS {
-        return [0, 0, 0, 0, 0, length, 0, 0];
+        return front([0, 0, 0, 0, 0, length]);
     }
     let [genome, transcript] = [&lent.genome, &lent.transcript].map(|starts| starts[segment_count as usize] as i32);
-    [0, strand, first_start, segment_count, genome, transcript, 0, 0]
+    front([0, strand, first_start, segment_count, genome, transcript])
 }
 
-fn counted(length: Length) -> [i32; 8] {
-    [length.number as i32, length.length as i32, 0, 0, 0, 0, 0, 0]
+fn counted(length: Length) -> Words {
+    front([length.number as i32, length.length as i32])
 }
 
 /// The place of lent memory that a row of damage names: table and index.
@@ -222,7 +235,8 @@ pub fn place([table, index, ..]: [i32; 6]) -> Place {
         0 => Place::Head(index),
         1 => Place::Genome(index),
         2 => Place::Transcript(index),
-        _ => Place::Letter(index),
+        3 => Place::Letter(index),
+        _ => Place::Exon(index),
     }
 }
 
@@ -231,7 +245,7 @@ pub fn damage(lent: &mut Lent, numbers: [i32; 6]) {
     lent.put(place(numbers), numbers[2]);
 }
 
-fn read_cigar(row: &Row) -> Result<[i32; 8], String> {
+fn read_cigar(row: &Row) -> Result<Words, String> {
     let (text, expected) = row.payload.split_at(row.numbers[0] as usize);
     let mut counts = Box::new([0; MOST_SEGMENTS]);
     let mut letters = Box::new([0; MOST_SEGMENTS]);
@@ -258,7 +272,7 @@ fn tables(given: &[u8]) -> (Box<Counts>, Box<Letters>) {
     (counts, letters)
 }
 
-fn write_cigar(row: &Row) -> Result<[i32; 8], String> {
+fn write_cigar(row: &Row) -> Result<Words, String> {
     let [number, lent, room, ..] = row.numbers.map(|number| number as usize);
     let (given, expected) = row.payload.split_at(5 * lent);
     let (counts, letters) = tables(given);
@@ -271,7 +285,7 @@ fn write_cigar(row: &Row) -> Result<[i32; 8], String> {
     }
 }
 
-fn read_bam(row: &Row) -> Result<[i32; 8], String> {
+fn read_bam(row: &Row) -> Result<Words, String> {
     let [number, counts_room, letters_room, ..] = row.numbers.map(|number| number as usize);
     let (given, expected) = row.payload.split_at(4 * number);
     let (mut counts, mut letters) = (vec![0; counts_room], vec![0; letters_room]);
@@ -284,7 +298,7 @@ fn read_bam(row: &Row) -> Result<[i32; 8], String> {
     }
 }
 
-fn write_bam(row: &Row) -> Result<[i32; 8], String> {
+fn write_bam(row: &Row) -> Result<Words, String> {
     let [number, lent, room, ..] = row.numbers.map(|number| number as usize);
     let (given, expected) = row.payload.split_at(5 * lent);
     let (counts, letters) = tables(given);
@@ -297,7 +311,7 @@ fn write_bam(row: &Row) -> Result<[i32; 8], String> {
     }
 }
 
-fn write_card(row: &Row) -> Result<[i32; 8], String> {
+fn write_card(row: &Row) -> Result<Words, String> {
     let mut buffer = vec![0; row.numbers[4] as usize];
     let written = boundary::write_card(row.laid(), &mut buffer);
     let expected = if row.answer[0] == 0 { paper::card(row.laid()) } else { Vec::new() };
@@ -309,7 +323,7 @@ fn write_card(row: &Row) -> Result<[i32; 8], String> {
 }
 
 /// Calls the boundary as a row says, and gives what it answered.
-fn call(row: &Row, lent: &mut Lent) -> Result<[i32; 8], String> {
+fn call(row: &Row, lent: &mut Lent) -> Result<Words, String> {
     if let Some(kind) = row.call.kind() {
         return Ok(words(row.question(kind).ask(lent)));
     }
@@ -317,7 +331,7 @@ fn call(row: &Row, lent: &mut Lent) -> Result<[i32; 8], String> {
         Call::TrimPrefix | Call::TrimSuffix | Call::Changed => row.numbers[0] as usize,
         _ => 0,
     });
-    let trimmed = |length: usize| Ok([0, length as i32, 0, 0, 0, 0, 0, 0]);
+    let trimmed = |length: usize| Ok(front([0, length as i32]));
     match row.call {
         Call::BuildCard => Ok(built(lent.build_card(&row.payload), lent)),
         Call::Build => Ok(built(lent.build(row.laid()), lent)),
@@ -329,7 +343,7 @@ fn call(row: &Row, lent: &mut Lent) -> Result<[i32; 8], String> {
         }
         Call::Damage => {
             damage(lent, row.numbers);
-            Ok([0; 8])
+            Ok(front([]))
         }
         Call::ReadCigar => read_cigar(row),
         Call::WriteCigar => write_cigar(row),
@@ -340,7 +354,7 @@ fn call(row: &Row, lent: &mut Lent) -> Result<[i32; 8], String> {
         Call::TrimSuffix => trimmed(boundary::trim_suffix(reference, alternative)),
         Call::Changed => {
             let Part { alternative, from, to } = boundary::changed(reference, alternative);
-            Ok([0, alternative as i32, from as i32, to as i32, 0, 0, 0, 0])
+            Ok(front([0, alternative as i32, from as i32, to as i32]))
         }
         _ => Err("a row in the wrong place".into()),
     }
@@ -349,8 +363,8 @@ fn call(row: &Row, lent: &mut Lent) -> Result<[i32; 8], String> {
 /// The rows of a file.
 fn rows(file: &[u8]) -> Result<Vec<Row>, String> {
     let (head, mut rest) = Row::read(file).ok_or("no rows")?;
-    if head.call != Call::Head || head.numbers[0] != 1 {
-        return Err("no layout of version 1".into());
+    if head.call != Call::Head || head.numbers[0] != VERSION {
+        return Err(format!("no layout of version {VERSION}"));
     }
     let mut rows = Vec::new();
     while !rest.is_empty() {
@@ -382,12 +396,12 @@ pub fn replay(file: &[u8]) -> Result<usize, String> {
 }
 
 /// Puts positions with their recorded answers to one worklist. A list that is refused as a whole has that number in each answer.
-fn list(recorded: &mut [(i32, [i32; 8])], lent: &Lent) -> Result<(), String> {
+fn list(recorded: &mut [(i32, Words)], lent: &Lent) -> Result<(), String> {
     recorded.sort();
     let mut slots: Vec<_> = recorded.iter().map(|&(position, _)| Slot::new(position)).collect();
     let Steps { number, .. } = boundary::worklist(lent.reading(), &mut slots);
     for (slot, &(position, answer)) in slots.iter().zip(&*recorded) {
-        let got = if number == 0 { words(slot.answer) } else { [number as i32, 0, 0, 0, 0, 0, 0, 0] };
+        let got = if number == 0 { words(slot.answer) } else { front([number as i32]) };
         if (slot.position, got) != (position, answer) {
             return Err(format!("g.{position} in a worklist: {got:?}, recorded {answer:?}"));
         }

@@ -8,7 +8,7 @@ use lib.Seq.{take-all}
 use Rattle.refusals.specs.Outcome.{Outcome, refused}
 use Rattle.judging.specs.Judging.{Made, judge}
 use Rattle.segments.specs.Tables.{tables}
-use Rattle.building.specs.Afterwards.{builtAnswer, tablesAfter}
+use Rattle.building.specs.Afterwards.{builtAnswer, tablesAfter, exonsAfter}
 use Rattle.card.specs.Layout.{recordsAt}
 use Rattle.card.specs.Card.{readCard}
 use Rattle.card.specs.Writing.{judgeRead, judgeCard}
@@ -47,11 +47,16 @@ part-build-start c = long c
 
 returns : tie.Need-returns
 returns c =
-    let k = c .before .before .before .before .before in
+    let k = c .before .before .before .before .before .before in
     let a = k .before .before .before .before .before .args in
     let was = tables (a .genome .now) (a .transcript .now) (a .letters .now) in
-    let b = c .build .ensures in
-    (b .0 ∙ ap builtAnswer (handed k), b .1 ∙ ap (λ (j : Outcome Made). tablesAfter j was) (handed k))
+    let b = c .build .ensures in (
+      b .0 ∙ ap builtAnswer (handed k),
+      (
+        b .1 .0 ∙ ap (λ (j : Outcome Made). tablesAfter j was) (handed k),
+        b .1 .1 ∙ ap (λ (j : Outcome Made). exonsAfter j (a .exons .now)) (handed k),
+      ),
+    )
 
 returns-2 : tie.Need-returns-2
 returns-2 c =
@@ -59,7 +64,7 @@ returns-2 c =
     let k = c .before .k .given in
     let was = tables (a .genome .now) (a .transcript .now) (a .letters .now) in
     let e : judgeCard (a .card .now) ≡ refused (k .0 .0) = ap (judgeRead (a .card .now)) (sym (c .before .before .before .read-card .ensures) ∙ k .1) in
-    (sym (ap builtAnswer e), sym (ap (λ (j : Outcome Made). tablesAfter j was) e))
+    (sym (ap builtAnswer e), (sym (ap (λ (j : Outcome Made). tablesAfter j was) e), sym (ap (λ (j : Outcome Made). exonsAfter j (a .exons .now)) e)))
 
 pub build-card-spec : {M : Type 1} → statement M
 build-card-spec =

@@ -1,10 +1,10 @@
--- `filling::clear_starts` meets its contract: the table with the zeros that are left stays the one promised: a turn stores one zero (`zeros-more`), and at the end none is left (`zeros-none`). Assumes nothing.
+-- `filling::clear_starts` meets its contract: the table with the zeros that are left stays the one promised: a turn stores one zero (`run-more`), and at the end none is left (`run-none`). Assumes nothing.
 use Prim.Native.Nat.{_-_, _≤_}
 use mathlib.Core.Path.{_≡_, refl, sym, _∙_}
 use native.Mathlib.Omega.{arith}
 use lib.ListN.{length, replicate, length-set}
 use lib.Seq.{sets}
-use Rattle.filling.proofs.Runs.{zeros-more, zeros-none}
+use Rattle.filling.proofs.Runs.{run-more, run-none}
 use borrow.Author.Needs.{needs}
 use Rattle.filling.proofs.clear_starts.Statement.{statement}
 use Rattle.filling.proofs.clear_starts.Tie as tie
@@ -35,13 +35,13 @@ loop-less c = search needs
 loop-again : tie.Need-loop-again Inv-loop μ-loop
 loop-again c =
     let l = c .before .loop in
-    (omega arith, length-set (l .table) (l .i) 0 ∙ l .inv .1, l .inv .2 ∙ zeros-more (l .table) (l .i) _ (omega arith))
+    (omega arith, length-set (l .table) (l .i) 0 ∙ l .inv .1, l .inv .2 ∙ run-more (l .table) (l .i) _ 0 (omega arith))
 
 same-length : tie.Need-same-length Inv-loop μ-loop
 same-length c = c .before .loop .inv .1
 
 returns : tie.Need-returns Inv-loop μ-loop
-returns c = let l = c .before .loop in sym (l .inv .2 ∙ zeros-none (l .table) (l .i) _ (omega arith))
+returns c = let l = c .before .loop in sym (l .inv .2 ∙ run-none (l .table) (l .i) _ 0 (omega arith))
 
 pub clear-starts-spec : {M : Type 1} → statement M
 clear-starts-spec =

@@ -19,7 +19,8 @@ returns c =
     let h = c .before .before .args .head in
     let count : SFits w32 (h .count) = record { sfits = c .before .struct-told .given .1 .1 .1 .0 .1 } in
     let is = simp (read count) at (c .natural .ensures) in
-    (is, omega (arith, is, head-means h (c .before .before .pre) .count .below))
+    let right = head-means h (c .before .before .pre) .count in
+    (is, omega (arith, is, right .above), omega (arith, is, right .below))
 
 pub segment-count-spec : {M : Type 1} → statement M
 segment-count-spec = tie.close (tie.spec natural-requires (λ c. search needs) returns)

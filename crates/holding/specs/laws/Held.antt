@@ -8,7 +8,7 @@ use lib.Dec.{leb}
 use lib.IntN.{ℤ, pos, negsuc, natAbs}
 use lib.Signed.{leZ}
 use borrow.Author.Tests.{leb-true, le-leb}
-use Rattle.refusals.specs.Numbers.{mostSegments, mostBases, notTogether}
+use Rattle.refusals.specs.Numbers.{mostRecords, mostSegments, mostBases, notTogether}
 use Rattle.refusals.specs.Outcome.{Outcome, refused}
 use Rattle.whole.specs.Whole.{eqZ}
 use Rattle.whole.specs.laws.Whole.{order, by-test, both, both-of}
@@ -17,7 +17,7 @@ use Rattle.segments.specs.laws.Meaning.{holds-means, holds-where}
 use Rattle.segments.specs.laws.Reading.{last-genome, last-transcript}
 use Rattle.transcript.specs.Transcript.{Source, genomeLength, transcriptLength}
 use Rattle.transcript.specs.Transcript.Source.{aligned, lengthOnly}
-use Rattle.holding.specs.Holding.{Lent, segmentsOf, genomeEnd, transcriptEnd, totalsHold, ofRecords, ofLength, isForward, isBackward, bothGiven, headHolds, cdsHolds, recordsHold, lengthHolds, holds, headCds, transcriptOf, sourceOf, checked}
+use Rattle.holding.specs.Holding.{Lent, segmentsOf, genomeEnd, transcriptEnd, totalsHold, ofRecords, ofLength, isForward, isBackward, bothGiven, headHolds, exonsHold, cdsHolds, recordsHold, lengthHolds, holds, headCds, transcriptOf, sourceOf, checked}
 use Rattle.transcript.specs.declared.Head.{Head}
 
 -- ---- the tests of a head's numbers
@@ -108,16 +108,20 @@ module _ (h : Head) (len : ℕ) where
 pub record HeadRight (h : Head) : Type 0 where
   pub strand : (isForward h ≡ true) ⊎ (isBackward h ≡ true)
   pub count : Between 1 mostSegments (h .count)
+  pub records : Between 1 mostRecords (h .records)
   pub first-natural : h .first ≡ pos (natAbs (h .first))
 
 pub head-means : (h : Head) → headHolds h ≡ true → HeadRight h
 head-means h e =
-    let (front, first) = both ((isForward h || isBackward h) && (leZ (pos 1) (h .count) && leZ (h .count) (pos mostSegments))) (leZ (pos 0) (h .first)) e in
+    let (start, first) = both ((isForward h || isBackward h) && (leZ (pos 1) (h .count) && leZ (h .count) (pos mostSegments)) && (leZ (pos 1) (h .records) && leZ (h .records) (pos mostRecords))) (leZ (pos 0) (h .first)) e in
+    let (front, records) = both ((isForward h || isBackward h) && (leZ (pos 1) (h .count) && leZ (h .count) (pos mostSegments))) (leZ (pos 1) (h .records) && leZ (h .records) (pos mostRecords)) start in
     let (strand, count) = both (isForward h || isBackward h) (leZ (pos 1) (h .count) && leZ (h .count) (pos mostSegments)) front in
     let (low, high) = both (leZ (pos 1) (h .count)) (leZ (h .count) (pos mostSegments)) count in
+    let (one, most) = both (leZ (pos 1) (h .records)) (leZ (h .records) (pos mostRecords)) records in
     record {
       strand = either (isForward h) (isBackward h) strand;
       count = between 1 mostSegments (h .count) low high;
+      records = between 1 mostRecords (h .records) one most;
       first-natural = natural-is (h .first) first;
     }
 
@@ -125,20 +129,23 @@ pub head-where : (h : Head) → HeadRight h → headHolds h ≡ true
 head-where h r =
     both-of
     (both-of
+    (both-of
     (either-of (isForward h) (isBackward h) (r .strand))
     (both-of (between-low 1 mostSegments (h .count) (r .count)) (between-high 1 mostSegments (h .count) (r .count))))
+    (both-of (between-low 1 mostRecords (h .records) (r .records)) (between-high 1 mostRecords (h .records) (r .records))))
     (natural-says (h .first) (r .first-natural))
 
 pub record Together (x : Lent) : Type 0 where
   pub head : HeadRight (x .head)
   pub segments : Holds (x .tables) (segmentsOf x)
+  pub exons : exonsHold x ≡ true
   pub genome-within : natAbs (x .head .first) + genomeEnd x ≤ mostBases
   pub transcript-within : transcriptEnd x ≤ mostBases
   pub cds : CdsRight (x .head) (transcriptEnd x)
 
 module _ (x : Lent) where
   abbrev held-tables : Bool
-  held-tables = segmentsHold (x .tables) (segmentsOf x)
+  held-tables = segmentsHold (x .tables) (segmentsOf x) && exonsHold x
 
   abbrev held-totals : Bool
   held-totals = totalsHold (natAbs (x .head .first)) (genomeEnd x) (transcriptEnd x)
@@ -149,10 +156,12 @@ module _ (x : Lent) where
       let (tables, cds) = both (headHolds (x .head) && held-tables && held-totals) (cdsHolds (x .head) (transcriptEnd x)) e in
       let (segments, ends) = both (headHolds (x .head) && held-tables) held-totals tables in
       let (head, held) = both (headHolds (x .head)) held-tables segments in
+      let (elements, numbers) = both (segmentsHold (x .tables) (segmentsOf x)) (exonsHold x) held in
       let (genome, transcript) = both (leb (natAbs (x .head .first) + genomeEnd x) mostBases) (leb (transcriptEnd x) mostBases) ends in
       record {
         head = head-means (x .head) head;
-        segments = holds-means (x .tables) (segmentsOf x) held;
+        segments = holds-means (x .tables) (segmentsOf x) elements;
+        exons = numbers;
         genome-within = leb-true (natAbs (x .head .first) + genomeEnd x) mostBases genome;
         transcript-within = leb-true (transcriptEnd x) mostBases transcript;
         cds = cds-means (x .head) (transcriptEnd x) cds;
@@ -163,7 +172,7 @@ module _ (x : Lent) where
   records-where w =
       both-of
       (both-of
-      (both-of (head-where (x .head) (w .head)) (holds-where (x .tables) (segmentsOf x) (w .segments)))
+      (both-of (head-where (x .head) (w .head)) (both-of (holds-where (x .tables) (segmentsOf x) (w .segments)) (w .exons)))
       (both-of (le-leb (natAbs (x .head .first) + genomeEnd x) mostBases (w .genome-within)) (le-leb (transcriptEnd x) mostBases (w .transcript-within))))
       (cds-where (x .head) (transcriptEnd x) (w .cds))
 

@@ -1,6 +1,6 @@
 -- What is known of an input that building accepts.
 --     accepted-means, records-mean, measured-means    the judgment taken apart: no test refused, and what was made of the input
---     sane, judged-sane                               what is known of what records make: few segments, six letters, none of 9, 10 and 12, records in order
+--     sane, judged-sane                               what is known of what records make: few segments, six letters, none of 9, 10 and 12, records in order and few
 --     accepted-spanning                               each record's CIGAR spans exactly its genome bounds
 --     measured-inside                                 what is known of what a length makes
 -- Assumes nothing.
@@ -11,7 +11,7 @@ use mathlib.Core.List.{List, [], _∷_}
 use mathlib.Core.Path.{_≡_, refl, sym, ap, _∙_}
 use lib.Dec.{eqb, ltb, leb}
 use lib.IntN.{ℤ, pos, negsuc, natAbs, _+ℤ_}
-use lib.ListN.{length, length-append, length-reverse}
+use lib.ListN.{length, length-append}
 use lib.Signed.{ltZ}
 use borrow.Author.Tests.{eqb-true, eqb-false, ltb-true, ltb-false, leb-true, leb-false}
 use Rattle.refusals.specs.Numbers.{mostRecords, mostSegments, mostText, mostBases}
@@ -34,6 +34,8 @@ use Rattle.transcript.specs.Building.{Exon, partsOf, elementsAfter, elementsOf,
 use Rattle.judging.specs.Input.{Input, inputOf}
 use Rattle.reading.specs.Reading.{genomeEndOf as genomeEnd, exonOf, Exons, isSpanned, spanned, followedBy, readFirst, readNext, exonsAfter, exonsOf}
 use Rattle.reading.specs.laws.Spans.{beforeAll, ahead, followed, spanned-is}
+use Rattle.reading.specs.laws.Counted.{all-count}
+use Rattle.reading.specs.laws.Tallied.{parts-length}
 use Rattle.judging.specs.Judging.{Made, Measured, halfFault, rangeFault, cdsFault, cdsOf, lastFault, judgeExons, judgeOn, judgeInput, judge, lengthFault, judgeLength, elementsMade}
 use Rattle.transcript.specs.Heads.{bothBits, startOf, endOf, numberOf, bitsOf, startIn, endIn, strandOf}
 use Rattle.transcript.specs.declared.Bound.{Bound}
@@ -232,11 +234,6 @@ unfolding partsOf
 parts-lettered true x h = h
 parts-lettered false x h = lettered-reverse (x .parts) h
 
-parts-length : (forward : Bool) (x : Exon) → length (partsOf forward x) ≡ length (x .parts)
-unfolding partsOf
-parts-length true x = refl
-parts-length false x = length-reverse (x .parts)
-
 -- a reading's elements have room, and six letters
 pub record Fine (room : ℕ) (es : List Element) : Type 0 where
   pub fits : length es ≤ room
@@ -360,6 +357,7 @@ pub record Sane (m : Made) : Type 0 where
   pub genome-small : firstStart (m .exon-list) + total genome (elementsMade m) ≤ mostBases
   pub inside : CdsInside (m .coding) (total transcript (elementsMade m))
   pub in-order : InOrder 0 (m .exon-list)
+  pub few-records : length (m .exon-list) ≤ mostRecords
 
 pub sane : (i : Input) (m : Made) → On i m → Sane m
 sane i m o =
@@ -374,6 +372,7 @@ sane i m o =
       genome-small = last .genome-small;
       inside = rw (o .coding-is) (cds-pass (i .start) (i .end) (total transcript es) (o .both-or-none) (last .cds-fits) .inside);
       in-order = all-in-order (m .forward) (i .records) (m .exon-list) (o .sound) (o .were-read);
+      few-records = omega (arith, o .few, all-count (i .records) (m .exon-list) (o .were-read));
     }
 
 pub judged-sane : (n : Numbers) (bytes : List ℕ) (m : Made) → judge n bytes ≡ answered m → Sane m

@@ -35,7 +35,7 @@ use Rattle.lines.proofs.list_card.Statement.{statement}
 use Rattle.lines.proofs.list_card.Tie as tie
 
 abbrev entry : tie.After-build-card → tie.Start
-entry c = c .before .before .before .before .before .before
+entry c = c .before .before .before .before .before .before .before
 
 -- what building has made
 module _ (c : tie.After-head) where
@@ -72,7 +72,7 @@ module _ (c : tie.After-head) where
   tables-are : tables (call .build-card .last .1 .0) (call .build-card .last .1 .1 .0) (call .build-card .last .1 .1 .1 .0) ≡ tablesOf (elementsMade thing)
   tables-are =
       let a = entry call .args in
-      call .build-card .ensures .1 ∙ ap (λ (j : Outcome Made). tablesAfter j (tables (a .genome .now) (a .transcript .now) (a .letters .now))) (makes-head .judged)
+      call .build-card .ensures .1 .0 ∙ ap (λ (j : Outcome Made). tablesAfter j (tables (a .genome .now) (a .transcript .now) (a .letters .now))) (makes-head .judged)
 
 cast-is-plus : tie.Need-cast-is-plus
 cast-is-plus c = let h = c .before .before .before in rw (read (strand-small h)) (fits-wider (strand-small h))

@@ -10,7 +10,7 @@ use Rattle.listing.proofs.main.Tie as tie
 slice-aggregate-write-all : tie.Need-slice-aggregate-write-all
 slice-aggregate-write-all c =
     let l = c .before .before .list-card in
-    sym (length-take-le (l .result) (l .last .1 .1 .1 .1 .0) (omega arith))
+    sym (length-take-le (l .result) (l .last .1 .1 .1 .1 .1 .0) (omega arith))
 
 pub main-spec : {M : Type 1} → statement M
 main-spec =

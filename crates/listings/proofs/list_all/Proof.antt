@@ -11,13 +11,14 @@ use Rattle.listings.proofs.list_all.Statement.{statement}
 use Rattle.listings.proofs.list_all.Tie as tie
 
 abbrev Inv-loop : tie.InvT-loop
-Inv-loop cards genome₀ transcript₀ letters₀ text₀ at₀ genome transcript letters text at = (length text ≡ length text₀) × Left cards at (tables genome transcript letters) text (tables genome₀ transcript₀ letters₀) text₀
+Inv-loop cards genome₀ transcript₀ letters₀ exons₀ text₀ at₀ genome transcript letters exons text at =
+    (length text ≡ length text₀) × Left cards at (tables genome transcript letters) exons text (tables genome₀ transcript₀ letters₀) exons₀ text₀
 
 abbrev μ-loop : tie.MeasureT-loop
-μ-loop cards genome₀ transcript₀ letters₀ text₀ at₀ genome transcript letters text at = length cards - at
+μ-loop cards genome₀ transcript₀ letters₀ exons₀ text₀ at₀ genome transcript letters exons text at = length cards - at
 
 loop-holds : tie.Need-loop-holds Inv-loop μ-loop
-loop-holds c = let a = c .before .before .args in (search needs, begun (a .cards .now) (tables (a .genome .now) (a .transcript .now) (a .letters .now)) (a .text .now))
+loop-holds c = let a = c .before .before .args in (search needs, begun (a .cards .now) (tables (a .genome .now) (a .transcript .now) (a .letters .now)) (a .exons .now) (a .text .now))
 
 returns : tie.Need-returns Inv-loop μ-loop
 returns c = let l = c .before .before .before .loop in past-end (l .inv .1) (c .before .u32-at .result) (c .before .u32-at .ensures) (c .before .before .loop-test .taken) (c .if1 .taken)
@@ -25,17 +26,17 @@ returns c = let l = c .before .before .before .loop in past-end (l .inv .1) (c .
 slice-aggregate-write-all : tie.Need-slice-aggregate-write-all Inv-loop μ-loop
 slice-aggregate-write-all c =
     let l = c .before .before .before .list-card in
-    sym (length-take-le (l .result) (l .last .1 .1 .1 .1 .0) (omega arith))
+    sym (length-take-le (l .result) (l .last .1 .1 .1 .1 .1 .0) (omega arith))
 
 loop-again : tie.Need-loop-again Inv-loop μ-loop
 loop-again c =
-    let l = c .before .before .before .before .before .before .before .before .before .before .before .before .before .loop in
-    let cards = c .before .before .before .before .before .before .before .before .before .before .before .before .before .before .before .before .args .cards .now in
-    let s = c .before .before .before .before .before .before .before .before .before .before .before .u32-at in
+    let l = c .before .before .before .before .before .before .before .before .before .before .before .before .before .before .loop in
+    let cards = c .before .before .before .before .before .before .before .before .before .before .before .before .before .before .before .before .before .args .cards .now in
+    let s = c .before .before .before .before .before .before .before .before .before .before .before .before .u32-at in
     let e = c .before .before .before .before .list-card .ensures in
     let size : l .at + 4 + s .result - (l .at + 4) ≡ s .result = omega arith in (
       search needs,
-      one-more (l .inv .1) (s .result) (s .ensures) (c .before .before .before .before .before .before .before .before .before .before .before .before .loop-test .taken) (c .before .before .before .before .before .before .before .before .before .before .if1 .left) _ (ap (λ (n : ℕ). take n (drop (l .at + 4) cards)) size) (e .1 .1 .1) (e .1 .1 .0),
+      one-more (l .inv .1) (s .result) (s .ensures) (c .before .before .before .before .before .before .before .before .before .before .before .before .before .loop-test .taken) (c .before .before .before .before .before .before .before .before .before .before .before .if1 .left) _ (ap (λ (n : ℕ). take n (drop (l .at + 4) cards)) size) (e .1 .1 .1 .0) (e .1 .1 .1 .1) (e .1 .1 .0),
     )
 
 returns-2 : tie.Need-returns-2 Inv-loop μ-loop

@@ -1,6 +1,7 @@
 -- What is known of what is lent, and what each question then is: 23 was settled once, so what is left is the mappings over how the transcript lies, or over its length. Assumes nothing.
 use Prim.Native.Nat.{ℕ}
 use native.Mathlib.Omega.{arith}
+use mathlib.Core.List.{List}
 use mathlib.Core.Path.{_≡_, refl, sym, ap, _∙_}
 use mathlib.Core.Bool.{Bool, true, false}
 use lib.IntN.{natAbs}
@@ -9,6 +10,7 @@ use Rattle.refusals.specs.Numbers.{notTogether}
 use Rattle.refusals.specs.Outcome.{Outcome, answered, refused, andThen, through}
 use Rattle.whole.specs.laws.Whole.{by-test}
 use Rattle.segments.specs.Tables.{Tables, read}
+use Rattle.segments.specs.Exons.{readNumbers}
 use Rattle.transcript.specs.Transcript.{Transcript, Source, Cds, genomeLength, transcriptLength}
 use Rattle.transcript.specs.Transcript.Source.{aligned, lengthOnly}
 use Rattle.transcript.specs.declared.Head.{Head}
@@ -40,16 +42,16 @@ natural-bounds x e =
     (λ r. let w = length-right x e r in bounds-of (x .head) _ (λ b. cds-bounds (x .head) _ (w .cds) b (w .length .below)))
 
 -- the transcript that lies so and has this CDS
-abbrev lying : Alignment → Coding → Tables → Transcript
-lying a c t = record { forward = a .forward; first = a .first; elements = read t (a .count); coding = paperCoding c }
+abbrev lying : Alignment → Coding → Tables → List ℕ → Transcript
+lying a c t exons = record { forward = a .forward; first = a .first; elements = read t (a .count); numbers = readNumbers exons (a .count); records = a .records; coding = paperCoding c }
 
 -- what is lent was built from records
 pub record Lies (x : Lent) (a : Alignment) (c : Coding) : Type 0 where
   pub held : holds x ≡ true
-  pub source : sourceOf x ≡ aligned (lying a c (x .tables))
+  pub source : sourceOf x ≡ aligned (lying a c (x .tables) (x .exons))
   pub sound : Aligns a (x .tables)
-  pub length : transcriptLength (lying a c (x .tables)) ≡ getD (x .tables .transcript) (a .count) 0
-  pub span : genomeLength (lying a c (x .tables)) ≡ getD (x .tables .genome) (a .count) 0
+  pub length : transcriptLength (lying a c (x .tables) (x .exons)) ≡ getD (x .tables .transcript) (a .count) 0
+  pub span : genomeLength (lying a c (x .tables) (x .exons)) ≡ getD (x .tables .genome) (a .count) 0
 
 -- what is lent is known by its length
 pub record Measures (x : Lent) (n : ℕ) (c : Coding) : Type 0 where
@@ -62,7 +64,7 @@ module _ (x : Lent) where
       let w = together x e r in
       record {
         held = e;
-        source = source-of-records x r ∙ ap (λ (c : Cds). aligned (record { forward = alignmentOf (x .head) .forward; first = natAbs (x .head .first); elements = read (x .tables) (alignmentOf (x .head) .count); coding = c })) (sym (coding-is (x .head)));
+        source = source-of-records x r ∙ ap (λ (c : Cds). aligned (record { forward = alignmentOf (x .head) .forward; first = natAbs (x .head .first); elements = read (x .tables) (alignmentOf (x .head) .count); numbers = readNumbers (x .exons) (alignmentOf (x .head) .count); records = alignmentOf (x .head) .records; coding = c })) (sym (coding-is (x .head)));
         sound = record { count-from = some x w; count-to = few x w; segments = held-segments x w };
         length = transcript-length x w;
         span = genome-length x w;
@@ -118,15 +120,15 @@ module _ (x : Lent) (a : Alignment) (c : Coding) (k : knownOf x ≡ known.Aligne
   abbrev long : ℕ
   long = getD (x .tables .transcript) (a .count) 0
 
-  ask-lying : {A : Type 0} (ask : Source → Outcome A) → checked x ask ≡ ask (aligned (lying a c (x .tables)))
+  ask-lying : {A : Type 0} (ask : Source → Outcome A) → checked x ask ≡ ask (aligned (lying a c (x .tables) (x .exons)))
   ask-lying ask = checked-held x ask (fact .held) ∙ ap ask (fact .source)
 
   -- between g. and n. the CDS is not looked at
-  pub lying-g-to-n : (strict : Bool) (q : Interval GAsked) → checked x (askGToN strict q) ≡ andThen (given q) (gToN strict (alignedBy a (x .tables)))
+  pub lying-g-to-n : (strict : Bool) (q : Interval GAsked) → checked x (askGToN strict q) ≡ andThen (given q) (gToN strict (alignedBy a (x .tables) (x .exons)))
   unfolding askGToN gToN wholeN nOfSpot
   lying-g-to-n strict q = ask-lying (askGToN strict q)
 
-  pub lying-n-to-g : (strict : Bool) (q : Interval NAsked) → checked x (askNToG strict q) ≡ nToG strict (alignedBy a (x .tables)) q
+  pub lying-n-to-g : (strict : Bool) (q : Interval NAsked) → checked x (askNToG strict q) ≡ nToG strict (alignedBy a (x .tables) (x .exons)) q
   unfolding askNToG nToG gOfEnds gOfSpot
   lying-n-to-g strict q = ask-lying (askNToG strict q)
 
@@ -139,18 +141,18 @@ module _ (x : Lent) (a : Alignment) (c : Coding) (k : knownOf x ≡ known.Aligne
   lying-c-to-n strict q = ask-lying (askCToN strict q) ∙ ap (λ (n : ℕ). cToN strict n (paperCoding c) q) (fact .length)
 
   pub lying-g-to-c : (strict : Bool) (q : Interval GAsked)
-      → checked x (askGToC strict q) ≡ chain asksN (andThen (given q) (gToN strict (alignedBy a (x .tables)))) (nToC strict long (paperCoding c))
+      → checked x (askGToC strict q) ≡ chain asksN (andThen (given q) (gToN strict (alignedBy a (x .tables) (x .exons)))) (nToC strict long (paperCoding c))
   unfolding askGToC askGToN askNToC gToN wholeN nOfSpot
   lying-g-to-c strict q =
       ask-lying (askGToC strict q)
-      ∙ ap (λ (n : ℕ). chain asksN (andThen (given q) (gToN strict (alignedBy a (x .tables)))) (nToC strict n (paperCoding c))) (fact .length)
+      ∙ ap (λ (n : ℕ). chain asksN (andThen (given q) (gToN strict (alignedBy a (x .tables) (x .exons)))) (nToC strict n (paperCoding c))) (fact .length)
 
   pub lying-c-to-g : (strict : Bool) (q : Interval CAsked)
-      → checked x (askCToG strict q) ≡ chain asksN (cToN strict long (paperCoding c) q) (nToG strict (alignedBy a (x .tables)))
+      → checked x (askCToG strict q) ≡ chain asksN (cToN strict long (paperCoding c) q) (nToG strict (alignedBy a (x .tables) (x .exons)))
   unfolding askCToG askCToN askNToG nToG gOfEnds gOfSpot
   lying-c-to-g strict q =
       ask-lying (askCToG strict q)
-      ∙ ap (λ (n : ℕ). chain asksN (cToN strict n (paperCoding c) q) (nToG strict (alignedBy a (x .tables)))) (fact .length)
+      ∙ ap (λ (n : ℕ). chain asksN (cToN strict n (paperCoding c) q) (nToG strict (alignedBy a (x .tables) (x .exons)))) (fact .length)
 
   pub lying-coding : checked x askCoding ≡ answered (codes (paperCoding c))
   unfolding askCoding

@@ -1,7 +1,7 @@
 -- The mark of a chain's answer: it is uncertain exactly where either end fell in an I or a D segment. Between n. and c. no mark is borne, so it is that of the other step. Assumes nothing.
 use Prim.Native.Nat.{ℕ}
 use mathlib.Core.Bool.{Bool, false, _||_}
-use mathlib.Core.Path.{_≡_, ap, _∙_}
+use mathlib.Core.Path.{_≡_}
 use lib.IntN.{ℤ, pos}
 use Rattle.refusals.specs.Outcome.{answered}
 use Rattle.refusals.specs.laws.Outcomes.{clash}
@@ -9,12 +9,12 @@ use Rattle.numbering.specs.Numbers.{nOfC}
 use Rattle.transcript.specs.Transcript.{Transcript, Cds, transcriptLength}
 use Rattle.transcript.specs.Transcript.Cds.{noCds, cds}
 use Rattle.positions.specs.Positions.{Interval, each, CAsked, GPosition, NPosition, CPosition, asksN}
-use Rattle.positions.specs.Answers.{Mark, Marked, inARow}
+use Rattle.positions.specs.Answers.{Marked}
 use Rattle.positions.specs.laws.Ends.{row-plain, chain-mark}
 use Rattle.coding.specs.Coding.{nToC, cToN}
 use Rattle.coding.specs.laws.Answered.{c-to-n-crossed, c-to-n-plain, n-to-c-plain}
 use Rattle.places.specs.Mapping.{gToN, nToG}
-use Rattle.places.specs.laws.Marks.{markIf, gFell, nFell, g-to-n-marked, n-to-g-marked}
+use Rattle.places.specs.laws.Marks.{MarkedIf, gFell, nFell, g-to-n-marked, n-to-g-marked}
 use Rattle.mapper.specs.Chains.{gToC, cToG}
 
 -- the place of the n. number that a c. number stands for fell so
@@ -26,9 +26,9 @@ module _ (strict : Bool) (t : Transcript) where
   abbrev len : ℕ
   len = transcriptLength t
 
-  pub g-to-c-marked : (i : Interval ℤ) (a : Marked CPosition) → gToC strict t i ≡ answered a → a .mark ≡ markIf (gFell t (i .from) || gFell t (i .to))
+  pub g-to-c-marked : (i : Interval ℤ) (a : Marked CPosition) → gToC strict t i ≡ answered a → MarkedIf (gFell t (i .from) || gFell t (i .to)) (a .mark)
   unfolding gToC
-  g-to-c-marked i = chain-mark asksN (gToN strict t i) (nToC strict len (t .coding)) _ (λ n c f s. ap (inARow (n .mark)) (n-to-c-plain strict len (t .coding) _ c s) ∙ row-plain (n .mark) ∙ g-to-n-marked strict t i n f)
+  g-to-c-marked i = chain-mark asksN (gToN strict t i) (nToC strict len (t .coding)) _ (λ n c f s. rw (n-to-c-plain strict len (t .coding) _ c s, row-plain (n .mark)) (g-to-n-marked strict t i n f))
 
   -- an n. interval that c. to n. answered fell where the c. interval did
   fell-alike : (c : Cds) (i : Interval CAsked) (n : Marked NPosition) → cToN strict len c i ≡ answered n → (nFell t (n .interval .from .base) || nFell t (n .interval .to .base)) ≡ (cFell t c (i .from) || cFell t c (i .to))
@@ -38,6 +38,6 @@ module _ (strict : Bool) (t : Transcript) where
       let (from, to) = c-to-n-crossed strict len s e i n h in
       rw (← from .is, ← to .is)
 
-  pub c-to-g-marked : (i : Interval CAsked) (a : Marked GPosition) → cToG strict t i ≡ answered a → a .mark ≡ markIf (cFell t (t .coding) (i .from) || cFell t (t .coding) (i .to))
+  pub c-to-g-marked : (i : Interval CAsked) (a : Marked GPosition) → cToG strict t i ≡ answered a → MarkedIf (cFell t (t .coding) (i .from) || cFell t (t .coding) (i .to)) (a .mark)
   unfolding cToG
-  c-to-g-marked i = chain-mark asksN (cToN strict len (t .coding) i) (nToG strict t) _ (λ n g f s. ap (λ (m : Mark). inARow m (g .mark)) (c-to-n-plain strict len (t .coding) i n f) ∙ n-to-g-marked strict t (each asksN (n .interval)) g s ∙ ap markIf (fell-alike (t .coding) i n f))
+  c-to-g-marked i = chain-mark asksN (cToN strict len (t .coding) i) (nToG strict t) _ (λ n g f s. rw (c-to-n-plain strict len (t .coding) i n f, ← fell-alike (t .coding) i n f) (n-to-g-marked strict t (each asksN (n .interval)) g s))

@@ -9,6 +9,7 @@ use Rattle.numbering.specs.Numbers.{nOfPlace, placeOfN, plainC, cOfN, nOfC, ski
 use Rattle.cigar.specs.Elements.{letterI, letterM, letterN, isLetter, kindOf, genome, transcript, total}
 use Rattle.segments.specs.Tables.{stepRight, allBelow, segmentsHold, elementsFrom, entriesFrom}
 use Rattle.segments.specs.Places.{firstBelow, indexOf, nearer, spotIn, mapByTables, mapPlace}
+use Rattle.segments.specs.Exons.{goesOn, numbersHold, numbersFrom, exonFound, exonChosen}
 use Rattle.holding.specs.Holding.{Lent, lent, cdsHolds, recordsHold, lengthHolds, holds, sourceOf, checked}
 use Rattle.positions.specs.Positions.{Interval, GAsked, at, missing, NAsked, CAsked}
 use Rattle.coding.specs.Coding.{beyond, cPosition, cOfInterval, nToC, nPosition, cToN}
@@ -18,11 +19,11 @@ use Rattle.mapper.specs.laws.Refusing.{gToNRefusals, nToGRefusals, nToCR
 
 -- ---- what is lent
 
--- transcript A: 10M 5N 8M with the first start 10 and the CDS 3..15, of this kind and with these CDS bits
+-- transcript A: 10M, a gap of 5 and 8M with the first start 10 and the CDS 3..15, of this kind and with these CDS bits
 abbrev lentA : ℤ → ℤ → Lent
 lentA kind bits =
-    lent (record { kind = kind; strand = pos 1; first = pos 10; count = pos 3; bits = bits; start = pos 3; end = pos 15; length = pos 18 })
-    (0 ∷ 10 ∷ 15 ∷ 23 ∷ []) (0 ∷ 10 ∷ 10 ∷ 18 ∷ []) (letterM ∷ letterN ∷ letterM ∷ [])
+    lent (record { kind = kind; strand = pos 1; first = pos 10; count = pos 3; bits = bits; start = pos 3; end = pos 15; length = pos 18; records = pos 2 })
+    (0 ∷ 10 ∷ 15 ∷ 23 ∷ []) (0 ∷ 10 ∷ 10 ∷ 18 ∷ []) (letterM ∷ letterN ∷ letterM ∷ []) (1 ∷ 1 ∷ 2 ∷ [])
 
 abbrev coding : Lent
 coding = lentA (pos 0) (pos 3)
@@ -36,8 +37,8 @@ ofLength = lentA (pos 1) (pos 3)
 -- 4M 2I, whose last genome base lies behind the transcript's last, all of it CDS
 abbrev longer : Lent
 longer =
-    lent (record { kind = pos 0; strand = pos 1; first = pos 0; count = pos 2; bits = pos 3; start = pos 0; end = pos 4; length = pos 4 })
-    (0 ∷ 4 ∷ 6 ∷ []) (0 ∷ 4 ∷ 4 ∷ []) (letterM ∷ letterI ∷ [])
+    lent (record { kind = pos 0; strand = pos 1; first = pos 0; count = pos 2; bits = pos 3; start = pos 0; end = pos 4; length = pos 4; records = pos 1 })
+    (0 ∷ 4 ∷ 6 ∷ []) (0 ∷ 4 ∷ 4 ∷ []) (letterM ∷ letterI ∷ []) (1 ∷ 1 ∷ [])
 
 -- of no kind, which does not hold together
 abbrev broken : Lent
@@ -68,7 +69,7 @@ most = pos 2147483647
 
 -- what an answer is computed by, named once: to unfold this is to unfold all of it
 computing : Unit {0}
-unfolding checked holds sourceOf recordsHold lengthHolds cdsHolds segmentsHold allBelow stepRight isLetter kindOf elementsFrom entriesFrom genome transcript total firstBelow indexOf nearer spotIn mapByTables mapPlace nOfPlace placeOfN cOfN nOfC skipZero fits fitOf beyond cPosition cOfInterval nToC nPosition cToN inside turned nOfSpot wholeN gToN gOfSpot gOfEnds nToG askGToN askNToG askNToC askCToN askGToC askCToG askCoding askInBounds
+unfolding checked holds sourceOf recordsHold lengthHolds cdsHolds segmentsHold goesOn numbersHold numbersFrom exonFound exonChosen allBelow stepRight isLetter kindOf elementsFrom entriesFrom genome transcript total firstBelow indexOf nearer spotIn mapByTables mapPlace nOfPlace placeOfN cOfN nOfC skipZero fits fitOf beyond cPosition cOfInterval nToC nPosition cToN inside turned nOfSpot wholeN gToN gOfSpot gOfEnds nToG askGToN askNToG askNToC askCToN askGToC askCToG askCoding askInBounds
 computing = tt
 
 -- g.34, behind the last base, is outside; a number far below the genome; no genome; no end; no kind

@@ -1,4 +1,5 @@
 -- `places::g_of_ends` meets its contract: where both numbers are one, `g_of_one` answers for them. Otherwise `place_of_n` gives the turned places, so that the test made is 14's; by it the answer is `gJoined` of the two spots (`g-answered`) or 14 (`g-refused`). Assumes nothing.
+use mathlib.Core.List.{[]}
 use mathlib.Core.Path.{_≡_, sym, _∙_}
 use lib.ListN.{getD}
 use mir.Syntax.{w32}
@@ -6,7 +7,7 @@ use Rattle.whole.specs.laws.Whole.{told}
 use Rattle.numbering.specs.Numbers.{placeOfN}
 use Rattle.places.specs.Mapping.{turned}
 use Rattle.positions.specs.Paper.{paperNAsked}
-use Rattle.places.proofs.Spans.{g-answered, g-refused, t-inside}
+use Rattle.places.proofs.Spans.{g-answered, g-refused, t-inside, on-genome, same-number}
 use Rattle.segments.specs.Tables.{tables}
 use Rattle.segments.specs.laws.Sizes.{wider}
 use borrow.Author.Needs.{needs}
@@ -32,7 +33,7 @@ to-is c =
 test-is : (c : tie.After-are-inside) →
     let s = c .before .before .before .before .before .before .before in
     let a = s .args in
-    t-inside (a .at) (tables (a .genome .now) (a .transcript .now) (a .letters .now)) (s .pre) (a .strict) (paperNAsked (a .a)) (paperNAsked (a .b)) ≡ c .are-inside .result
+    t-inside (a .at) (tables (a .genome .now) (a .transcript .now) (a .letters .now)) (a .exons .now) (s .pre) (a .strict) (paperNAsked (a .a)) (paperNAsked (a .b)) ≡ c .are-inside .result
 test-is c =
     let q = c .before in
     let p = q .before in
@@ -53,9 +54,17 @@ returns c =
     rw (← one)
     (simp (first, told w32 (a .a .offset) (o .struct-told3 .given .1 .0 .1), told w32 (a .b .offset) (u .struct-told4 .given .1 .0 .1)) at (c .g-of-one .ensures))
 
+chosen-exons-requires : tie.Need-chosen-exons-requires
+chosen-exons-requires c κs =
+    let x = c .before in
+    let s = x .before .before .before .before .before .before .before .before .before in
+    let below = on-genome (s .args .at) _ [] (s .pre) in
+    (same-number (x .transcript-to-genome .ensures .0) (below _ _), same-number (c .transcript-to-genome2 .ensures .0) (below _ _), s .pre .count-to)
+
 returns-2 : tie.Need-returns-2
 returns-2 c =
-    let y = c .before .before .before in
+    let e = c .before .before .before in
+    let y = e .before in
     let x = y .before in
     let t = x .before in
     let q = t .before .before in
@@ -66,14 +75,14 @@ returns-2 c =
     let to = rw (to-is q) at (y .transcript-to-genome2 .ensures .0) in
     let o = told w32 (a .a .offset) (c .before .before .struct-told5 .given .1 .0 .1) in
     let u = told w32 (a .b .offset) (c .before .struct-told6 .given .1 .0 .1) in
-    rw (g-answered (a .at) _ (s .pre) (a .strict) (paperNAsked (a .a)) (paperNAsked (a .b)) (test-is (t .before) ∙ t .if2 .taken))
-    (simp (from, to, o, u) at (c .g-answer .ensures))
+    rw (g-answered (a .at) _ _ (s .pre) (a .strict) (paperNAsked (a .a)) (paperNAsked (a .b)) (test-is (t .before) ∙ t .if2 .taken))
+    (simp (e .chosen-exons .ensures, from, to, o, u) at (c .g-answer .ensures))
 
 returns-3 : tie.Need-returns-3
 returns-3 c =
     let s = c .before .before .before .before .before .before .before .before in
     let a = s .args in
-    sym (g-refused (a .at) _ (s .pre) (a .strict) (paperNAsked (a .a)) (paperNAsked (a .b)) (test-is (c .before) ∙ c .if2 .left))
+    sym (g-refused (a .at) _ _ (s .pre) (a .strict) (paperNAsked (a .a)) (paperNAsked (a .b)) (test-is (c .before) ∙ c .if2 .left))
 
 pub g-of-ends-spec : {M : Type 1} → statement M
 g-of-ends-spec =
@@ -87,6 +96,7 @@ g-of-ends-spec =
     (λ c κs. search needs)
     (λ c κs. search needs)
     (λ c κs. search needs)
-    (λ c κs. (wider (c .before .before .before .transcript-to-genome .ensures .1), wider (c .before .before .transcript-to-genome2 .ensures .1)))
+    chosen-exons-requires
+    (λ c κs. let y = c .before .before .before in (wider (y .before .transcript-to-genome .ensures .1), wider (y .transcript-to-genome2 .ensures .1)))
     returns-2
     returns-3)

@@ -1,11 +1,12 @@
 -- `places::g_of_one` meets its contract: `place_of_n` gives the turned place, so that the test made is 14's; by it the answer is that of the one spot (`one-back`) or 14 (`one-back-refused`). Assumes nothing.
+use mathlib.Core.List.{[]}
 use mathlib.Core.Path.{_≡_, sym, _∙_}
 use lib.ListN.{getD}
 use Rattle.whole.specs.laws.Whole.{read}
 use Rattle.numbering.specs.Numbers.{placeOfN}
 use Rattle.segments.specs.laws.Sizes.{wider}
 use Rattle.places.specs.Mapping.{inside, turned}
-use Rattle.places.proofs.Spans.{one-back, one-back-refused}
+use Rattle.places.proofs.Spans.{one-back, one-back-refused, on-genome, same-number}
 use borrow.Author.Needs.{needs}
 use Rattle.places.proofs.g_of_one.Statement.{statement}
 use Rattle.places.proofs.g_of_one.Tie as tie
@@ -22,22 +23,29 @@ test-is : (c : tie.After-is-inside) →
     inside (a .strict) len (turned (a .at .forward) len (placeOfN (a .base))) ≡ c .is-inside .result
 test-is c = sym (simp (c .before .before .last .ensures, place-is (c .before)) at (c .is-inside .ensures))
 
+chosen-requires : tie.Need-chosen-requires
+chosen-requires c κs =
+    let x = c .before in
+    let s = x .before .before .before .before .before in
+    (same-number (x .transcript-to-genome .ensures .0) (on-genome (s .args .at) _ [] (s .pre) _ _), s .pre .count-to)
+
 returns : tie.Need-returns
 returns c =
-    let x = c .before .before in
+    let n = c .before .before in
+    let x = n .before .before in
     let t = x .before in
     let p = t .before .before in
     let s = p .before .before in
     let a = s .args in
     let start = rw (place-is p) at (x .transcript-to-genome .ensures .0) in
-    simp (c .before .stop-of .ensures .0, start, read (s .fits .o), read (s .fits .u)) at (c .g-answer .ensures)
-    ∙ sym (one-back (a .at) _ (s .pre) (a .strict) (a .base) (a .o) (a .u) (test-is (t .before) ∙ t .if1 .taken))
+    simp (n .chosen .ensures, n .before .behind .ensures, c .before .stop-of .ensures .0, start, read (s .fits .o), read (s .fits .u)) at (c .g-answer .ensures)
+    ∙ sym (one-back (a .at) _ _ (s .pre) (a .strict) (a .base) (a .o) (a .u) (test-is (t .before) ∙ t .if1 .taken))
 
 returns-2 : tie.Need-returns-2
 returns-2 c =
     let s = c .before .before .before .before in
     let a = s .args in
-    sym (one-back-refused (a .at) _ (s .pre) (a .strict) (a .base) (a .o) (a .u) (test-is (c .before) ∙ c .if1 .left))
+    sym (one-back-refused (a .at) _ _ (s .pre) (a .strict) (a .base) (a .o) (a .u) (test-is (c .before) ∙ c .if1 .left))
 
 pub g-of-one-spec : {M : Type 1} → statement M
 g-of-one-spec =
@@ -48,6 +56,8 @@ g-of-one-spec =
     (λ c κs. search needs)
     (λ c κs. search needs)
     (λ c κs. search needs)
-    (λ c κs. (wider (c .before .transcript-to-genome .ensures .1), c .stop-of .ensures .1))
+    chosen-requires
+    (λ c κs. search needs)
+    (λ c κs. (wider (c .before .before .before .transcript-to-genome .ensures .1), c .stop-of .ensures .1))
     returns
     returns-2)

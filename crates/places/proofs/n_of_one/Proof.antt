@@ -1,6 +1,8 @@
 -- `places::n_of_one` meets its contract: a sure spot's end stands twice, as `one-joined` says; another's end is what `stop_of` gives. Assumes nothing.
+use Prim.Native.Nat.{ℕ}
 use mathlib.Core.Bool.{true}
 use mathlib.Core.Path.{sym, _∙_}
+use Rattle.positions.specs.Positions.{Interval}
 use Rattle.positions.specs.Paper.{paperNEnd}
 use Rattle.positions.specs.laws.Ends.{ends-after}
 use Rattle.segments.specs.Paper.{spotSaid}
@@ -14,9 +16,10 @@ returns : tie.Need-returns
 returns c =
     let e = c .before .before in
     let a = e .before .before .args in
+    let both : Interval ℕ = record { from = a .number; to = a .number } in
     let end = paperNEnd (e .n-of-spot .result) in
-    let joined = simp (c .before .n-both .ensures) at (c .n-marked .ensures) ∙ ends-after true end end in
-    simp (e .n-of-spot .ensures) at joined ∙ sym (one-joined (a .forward) (a .len) (spotSaid (a .start)) (e .before .if1 .taken))
+    let joined = simp (c .before .n-both .ensures) at (c .n-marked .ensures) ∙ ends-after true both end end in
+    simp (e .n-of-spot .ensures) at joined ∙ sym (one-joined (a .forward) (a .len) both (spotSaid (a .start)) (e .before .if1 .taken))
 
 returns-2 : tie.Need-returns-2
 returns-2 c = simp (c .before .stop-of .ensures .0) at (c .n-answer .ensures)

@@ -5,7 +5,9 @@ use native.Mathlib.Omega.{arith}
 use lib.ListN.{getD}
 use mir.Syntax.{w64}
 use Rattle.whole.specs.laws.Whole.{read, told}
-use Rattle.places.proofs.Spans.{one-answered, one-refused, spot-at}
+use Rattle.places.proofs.Spans.{one-answered, one-refused, spot-at, same-number}
+use Rattle.segments.specs.Places.{segmentAt}
+use Rattle.segments.specs.laws.Finding.{spot-number}
 use Rattle.places.specs.Mapping.{inside, placeOfG}
 use borrow.Author.Needs.{needs}
 use Rattle.places.proofs.one_to_n_at.Statement.{statement}
@@ -26,24 +28,31 @@ map-at-requires c κs =
     let s = p .before in
     (omega (arith, s .pre .1 .on, s .pre .0 .count-to), rw (told w64 (p .place-of-g .result .0) (c .struct-told .given .0 .1)) (p .place-of-g .ensures .1))
 
+found-requires : tie.Need-found-requires
+found-requires c κs =
+    let x = c .before in
+    let s = x .before .before .before .before .before .before in
+    (same-number (x .map-at .ensures .0) (rw (spot-number (segmentAt _ _ _ (s .args .number)) _ _ _) (s .pre .1 .on)), s .pre .0 .count-to)
+
 returns : tie.Need-returns
 returns c =
-    let x = c .before .before in
+    let f = c .before .before in
+    let x = f .before .before in
     let t = x .before in
     let i = t .before .before in
     let p = i .before .before in
     let s = p .before in
     let a = s .args in
     let within = test-is i ∙ t .before .if1 .taken in
-    let start = rw (told w64 (p .place-of-g .result .0) (t .struct-told .given .0 .1), place-is p) at (x .map-at .ensures .0) ∙ spot-at (a .at) _ (s .pre .0) true (a .g) (a .number) (s .pre .1 .here within) in
-    simp (start, c .before .last2 .ensures) at (c .n-of-one .ensures)
-    ∙ sym (one-answered (a .at) _ (s .pre .0) true (a .g) within)
+    let start = rw (told w64 (p .place-of-g .result .0) (t .struct-told .given .0 .1), place-is p) at (x .map-at .ensures .0) ∙ spot-at (a .at) _ (a .exons .now) (s .pre .0) true (a .g) (a .number) (s .pre .1 .here within) in
+    simp (f .found .ensures, f .before .behind .ensures, start, c .before .last2 .ensures) at (c .n-of-one .ensures)
+    ∙ sym (one-answered (a .at) _ _ (s .pre .0) true (a .g) within)
 
 returns-2 : tie.Need-returns-2
 returns-2 c =
     let s = c .before .before .before .before in
     let a = s .args in
-    sym (one-refused (a .at) _ (s .pre .0) true (a .g) (test-is (c .before) ∙ c .if1 .left))
+    sym (one-refused (a .at) _ _ (s .pre .0) true (a .g) (test-is (c .before) ∙ c .if1 .left))
 
 pub one-to-n-at-spec : {M : Type 1} → statement M
 one-to-n-at-spec =
@@ -54,6 +63,8 @@ one-to-n-at-spec =
     (λ c κs. search needs)
     map-at-requires
     (λ c κs. search needs)
-    (λ c κs. search needs)
+    found-requires
+    (λ c κs. c .before .before .before .before .before .before .before .before .pre .0 .count-to)
+    (λ c κs. c .before .before .before .map-at .ensures .1)
     returns
     returns-2)

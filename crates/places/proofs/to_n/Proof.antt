@@ -1,7 +1,8 @@
 -- `places::to_n` meets its contract: where both numbers are one, `one_to_n` answers for them. Otherwise `place_of_g` gives the places, so that the test made is 14's; by it the answer is `nJoined` of the two spots (`n-answered`) or 14 (`n-refused`). Assumes nothing.
+use mathlib.Core.List.{[]}
 use mathlib.Core.Path.{_≡_, sym, _∙_}
 use Rattle.whole.specs.laws.Whole.{read}
-use Rattle.places.proofs.Spans.{n-answered, n-refused, g-inside}
+use Rattle.places.proofs.Spans.{n-answered, n-refused, g-inside, on-transcript, same-number}
 use Rattle.places.specs.Mapping.{placeOfG}
 use Rattle.segments.specs.Tables.{tables}
 use Rattle.segments.specs.laws.Sizes.{wider}
@@ -19,7 +20,7 @@ to-is c = rw (read (c .before .before .before .fits .to)) at (c .place-of-g2 .en
 test-is : (c : tie.After-are-inside) →
     let s = c .before .before .before .before .before in
     let a = s .args in
-    g-inside (a .at) (tables (a .genome .now) (a .transcript .now) (a .letters .now)) (s .pre) (a .strict) (a .from) (a .to) ≡ c .are-inside .result
+    g-inside (a .at) (tables (a .genome .now) (a .transcript .now) (a .letters .now)) (a .exons .now) (s .pre) (a .strict) (a .from) (a .to) ≡ c .are-inside .result
 test-is c =
     let q = c .before .before in
     sym (simp (c .before .last .ensures, to-is q, from-is (q .before)) at (c .are-inside .ensures))
@@ -35,9 +36,17 @@ returns c =
     let one : a .from ≡ a .to = cc in
     rw (← one) (simp from at (c .one-to-n .ensures))
 
+found-exons-requires : tie.Need-found-exons-requires
+found-exons-requires c κs =
+    let x = c .before in
+    let s = x .before .before .before .before .before .before .before in
+    let below = on-transcript (s .args .at) _ [] (s .pre) in
+    (same-number (x .genome-to-transcript .ensures .0) (below _ _ _), same-number (c .genome-to-transcript2 .ensures .0) (below _ _ _), s .pre .count-to)
+
 returns-2 : tie.Need-returns-2
 returns-2 c =
-    let y = c .before .before in
+    let f = c .before .before in
+    let y = f .before in
     let x = y .before in
     let t = x .before in
     let q = t .before .before .before in
@@ -45,14 +54,14 @@ returns-2 c =
     let a = s .args in
     let from = rw (from-is (q .before)) at (x .genome-to-transcript .ensures .0) in
     let to = rw (to-is q) at (y .genome-to-transcript2 .ensures .0) in
-    rw (n-answered (a .at) _ (s .pre) (a .strict) (a .from) (a .to) (test-is (t .before) ∙ t .if2 .taken))
-    (simp (from, to, c .before .last2 .ensures) at (c .n-answer .ensures))
+    rw (n-answered (a .at) _ _ (s .pre) (a .strict) (a .from) (a .to) (test-is (t .before) ∙ t .if2 .taken))
+    (simp (from, to, f .found-exons .ensures, c .before .last2 .ensures) at (c .n-answer .ensures))
 
 returns-3 : tie.Need-returns-3
 returns-3 c =
     let s = c .before .before .before .before .before .before in
     let a = s .args in
-    sym (n-refused (a .at) _ (s .pre) (a .strict) (a .from) (a .to) (test-is (c .before) ∙ c .if2 .left))
+    sym (n-refused (a .at) _ _ (s .pre) (a .strict) (a .from) (a .to) (test-is (c .before) ∙ c .if2 .left))
 
 pub to-n-spec : {M : Type 1} → statement M
 to-n-spec =
@@ -66,7 +75,8 @@ to-n-spec =
     (λ c κs. search needs)
     (λ c κs. search needs)
     (λ c κs. search needs)
-    (λ c κs. search needs)
-    (λ c κs. (wider (c .before .before .genome-to-transcript .ensures .1), wider (c .before .genome-to-transcript2 .ensures .1)))
+    found-exons-requires
+    (λ c κs. c .before .before .before .before .before .before .before .before .before .pre .count-to)
+    (λ c κs. let y = c .before .before in (wider (y .before .genome-to-transcript .ensures .1), wider (y .genome-to-transcript2 .ensures .1)))
     returns-2
     returns-3)

@@ -1,5 +1,6 @@
 -- An answer and its parts: 17 of an interval is 17 of its ends, the first one's first; an interval that is answered has both its ends answered; and its mark. Assumes nothing.
-use mathlib.Core.Path.{_≡_, refl, sym, ap, _∙_}
+use Prim.Native.Nat.{ℕ}
+use mathlib.Core.Path.{_≡_, refl, sym, ap, _∙_, subst}
 use mathlib.Core.Bool.{Bool, true, false, _&&_}
 use Rattle.refusals.specs.Numbers.{tooWide}
 use Rattle.refusals.specs.Outcome.{Outcome, answered, refused, through}
@@ -21,11 +22,11 @@ module _ {P : Type 0} where
       go false t = refl
 
   -- an interval that bears no mark, after a step that bears one
-  pub ends-after : (sure : Bool) (a b : Outcome P) → through (after (markOf sure)) (ends unmarked a b) ≡ ends (markOf sure) a b
-  ends-after true (answered a) (answered b) = refl
-  ends-after false (answered a) (answered b) = refl
-  ends-after sure (answered a) (refused k) = refl
-  ends-after sure (refused k) b = refl
+  pub ends-after : (sure : Bool) (exons : Interval ℕ) (a b : Outcome P) → through (after (markOf sure exons)) (ends unmarked a b) ≡ ends (markOf sure exons) a b
+  ends-after true exons (answered a) (answered b) = refl
+  ends-after false exons (answered a) (answered b) = refl
+  ends-after sure exons (answered a) (refused k) = refl
+  ends-after sure exons (refused k) b = refl
 
   -- an interval that is answered has this mark, and both its ends are answered
   pub ends-answered : (m : Mark) (a b : Outcome P) (i : Marked P) → ends m a b ≡ answered i → (m ≡ i .mark) × (a ≡ answered (i .interval .from)) × (b ≡ answered (i .interval .to))
@@ -46,17 +47,17 @@ module _ {P : Type 0} where
 
 -- a step that bears no mark leaves that of the step before it
 pub row-plain : (m : Mark) → inARow m unmarked ≡ m
-row-plain certain = refl
-row-plain uncertain = refl
+row-plain (certain exons) = refl
+row-plain (uncertain exons) = refl
 row-plain unmarked = refl
 
--- a chain that answers bears the mark of its two steps in a row
-pub chain-mark : {P Q R : Type 0} (asks : P → Q) (first : Answer P) (second : Interval Q → Answer R) (m : Mark)
-    → ((a : Marked P) (b : Marked R) → first ≡ answered a → second (each asks (a .interval)) ≡ answered b → inARow (a .mark) (b .mark) ≡ m)
-    → (c : Marked R) → chain asks first second ≡ answered c → c .mark ≡ m
-chain-mark {R = R} asks (answered a) second m h c e = go (second (each asks (a .interval))) refl e
+-- a chain that answers bears the mark of its two steps in a row: what holds of that holds of its own
+pub chain-mark : {P Q R : Type 0} (asks : P → Q) (first : Answer P) (second : Interval Q → Answer R) (holds : Mark → Type 0)
+    → ((a : Marked P) (b : Marked R) → first ≡ answered a → second (each asks (a .interval)) ≡ answered b → holds (inARow (a .mark) (b .mark)))
+    → (c : Marked R) → chain asks first second ≡ answered c → holds (c .mark)
+chain-mark {R = R} asks (answered a) second holds h c e = go (second (each asks (a .interval))) refl e
   where
-    go : (o : Answer R) → second (each asks (a .interval)) ≡ o → through (after (a .mark)) o ≡ answered c → c .mark ≡ m
-    go (answered b) s e = sym (ap (λ (x : Marked R). x .mark) (same e)) ∙ h a b refl s
+    go : (o : Answer R) → second (each asks (a .interval)) ≡ o → through (after (a .mark)) o ≡ answered c → holds (c .mark)
+    go (answered b) s e = subst holds (ap (λ (x : Marked R). x .mark) (same e)) (h a b refl s)
     go (refused k) s e = absurd (clash e)
-chain-mark asks (refused k) second m h c e = absurd (clash e)
+chain-mark asks (refused k) second holds h c e = absurd (clash e)

@@ -22,7 +22,7 @@ use Rattle.reading.specs.laws.Spans.{beforeAll, ahead, followed}
 
 -- ---- the strand changes the order of a record's elements alone
 
-parts-length : (forward : Bool) (x : Exon) → length (partsOf forward x) ≡ length (x .parts)
+pub parts-length : (forward : Bool) (x : Exon) → length (partsOf forward x) ≡ length (x .parts)
 unfolding partsOf
 parts-length true x = refl
 parts-length false x = length-reverse (x .parts)

@@ -86,7 +86,7 @@ module _ (xs ys zs : List Element) where
 
 -- a spot that is a segments and b bases further along
 abbrev pub slid : ℕ → ℕ → Spot → Spot
-slid a b s = record { place = pos b +ℤ s .place; offset = s .offset; sure = s .sure; number = a + s .number }
+slid a b s = record { place = pos b +ℤ s .place; offset = s .offset; sure = s .sure; number = a + s .number; edge = s .edge }
 
 -- a difference stays when both numbers grow
 same-gap : (a f k : ℕ) → pos (a + k) -ℤ pos (a + f) ≡ pos k -ℤ pos f

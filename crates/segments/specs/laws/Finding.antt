@@ -13,8 +13,9 @@ use borrow.Author.Tests.{ltb-true, ltb-false}
 use Rattle.whole.specs.laws.Whole.{order, sum, dif, by-test}
 use Rattle.cigar.specs.Elements.{Element, Side, Kind, total}
 use Rattle.cigar.specs.Elements.Kind.{matches, inserts, deletes, skips}
+use Rattle.cigar.specs.Read.{lettersOf}
 use Rattle.segments.specs.Tables.{entriesOf}
-use Rattle.segments.specs.Places.{firstBelow, endsAbove, indexOf, Segment, unsurely, leftNearer, nearer, spotIn, spotOf, stopOf, mapByTables, mapPlace}
+use Rattle.segments.specs.Places.{firstBelow, endsAbove, indexOf, Segment, segmentAt, End, unsurely, leftNearer, nearer, spotIn, spotOf, stopOf, mapByTables, mapPlace}
 use Rattle.segments.specs.Places.End.{start, stop}
 use Rattle.segments.specs.laws.Made.{entry-first, entry-total}
 
@@ -149,3 +150,24 @@ stop-follows s p forward = go (s .does)
 pub stop-of-place : (from to : Side) (es : List Element) (p : ℤ) (forward : Bool) → mapPlace from to es p stop forward ≡ stopOf (mapPlace from to es p start forward)
 unfolding mapPlace mapByTables
 stop-of-place from to es p forward = stop-follows _ p forward
+
+-- ---- a spot's segment
+
+edge-number : (i : ℕ) (forward : Bool) (t : ℕ) (left right : ℤ) → nearer i forward t left right .number ≡ i
+unfolding nearer
+edge-number i forward t left right = by-test (leftNearer forward left right) (λ e. rw e) (λ e. rw e)
+
+-- it is the segment that the place is mapped by
+pub spot-number : (s : Segment) (p : ℤ) (e : End) (forward : Bool) → spotOf s p e forward .number ≡ s .number
+unfolding spotIn
+spot-number s p e forward = go (s .does)
+  where
+    go : (k : Kind) → spotIn (s .number) k (s .begins) (s .ends) (s .other) p e forward .number ≡ s .number
+    go matches = refl
+    go inserts = refl
+    go deletes = refl
+    go skips = edge-number (s .number) forward (s .other) _ _
+
+pub number-below : (from to : Side) (es : List Element) (p : ℤ) (e : End) (forward : Bool) → 0 < length es → mapPlace from to es p e forward .number < length es
+unfolding mapPlace mapByTables
+number-below from to es p e forward some = rw (spot-number (segmentAt (entriesOf from es) (entriesOf to es) (lettersOf es) (indexOf (entriesOf from es) (length es) p)) p e forward) (index-says (entriesOf from es) (length es) p some .below)

@@ -6,6 +6,7 @@ use mathlib.Core.Path.{sym, ap₂, _∙_}
 use borrow.Author.Needs.{needs}
 use borrow.Author.Tests.{le-leb, lt-leb}
 use Rattle.together.proofs.All.{stretched, later-passes, later-fails}
+use Rattle.together.proofs.Deciding.{plains-common}
 use Rattle.together.proofs.all_common.Statement.{statement}
 use Rattle.together.proofs.all_common.Tie as tie
 
@@ -15,18 +16,24 @@ returns c = rw (lt-leb 8 _ (c .if1 .taken))
 returns-2 : tie.Need-returns-2
 returns-2 c = rw (le-leb 8 (c .before .before .before .before .args .count) (omega arith)) (ap₂ _&&_ (c .before .common-in .ensures) (c .common-in2 .ensures) ∙ stretched _ _ _ _ (omega arith) (omega arith))
 
--- the last block decides whether the others are looked at
 returns-3 : tie.Need-returns-3
 returns-3 c =
-    let back = sym (c .before .before .common-in3 .ensures) ∙ c .before .if3 .taken in
-    rw (le-leb 8 (c .before .before .before .before .before .args .count) (omega arith))
-    (c .common-in4 .ensures ∙ later-passes _ _ _ _ (omega arith) (omega arith) back)
+    let a = c .before .before .before .before .args in
+    rw (le-leb 8 (a .count) (omega arith))
+    (sym (plains-common (a .letters .now) (a .count) (sym (c .before .all-plain .ensures) ∙ c .if3 .taken)))
 
+-- the last block decides whether the others are looked at
 returns-4 : tie.Need-returns-4
 returns-4 c =
-    let n = c .before .before .before .before .args .count in
+    let back = sym (c .before .before .common-in3 .ensures) ∙ c .before .if4 .taken in
+    rw (le-leb 8 (c .before .before .before .before .before .before .before .args .count) (omega arith))
+    (c .common-in4 .ensures ∙ later-passes _ _ _ _ (omega arith) (omega arith) back)
+
+returns-5 : tie.Need-returns-5
+returns-5 c =
+    let n = c .before .before .before .before .before .before .args .count in
     rw (le-leb 8 n (omega arith))
-    (later-fails _ (n - n % 16) (n - 16) n (omega arith) (omega arith) (sym (c .before .common-in3 .ensures) ∙ c .if3 .left))
+    (later-fails _ (n - n % 16) (n - 16) n (omega arith) (omega arith) (sym (c .before .common-in3 .ensures) ∙ c .if4 .left))
 
 pub all-common-spec : {M : Type 1} → statement M
 all-common-spec =
@@ -37,7 +44,9 @@ all-common-spec =
     (λ c κs. search needs)
     returns-2
     (λ c κs. search needs)
+    returns-3
+    (λ c κs. search needs)
     (λ c. search needs)
     (λ c κs. search needs)
-    returns-3
-    returns-4)
+    returns-4
+    returns-5)

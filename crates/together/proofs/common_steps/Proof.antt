@@ -12,7 +12,7 @@ returns c =
     let front = c .before .before .common-steps-in .ensures in
     let back = c .before .common-steps-in2 .ensures in (
       c .both-seen .ensures .0 ∙ ap₂ _&&_ (front .0) (back .0) ∙ stretched _ _ _ _ (omega arith) (omega arith),
-      c .both-seen .ensures .1 ∙ ap₂ _&&_ (front .1) (back .1) ∙ stretched _ _ _ _ (omega arith) (omega arith),
+      λ k. c .both-seen .ensures .1 k ∙ ap₂ _&&_ (front .1 k) (back .1 k) ∙ stretched _ _ _ _ (omega arith) (omega arith),
     )
 
 returns-2 : tie.Need-returns-2
@@ -20,7 +20,7 @@ returns-2 c =
     let front = c .before .before .common-steps-in3 .ensures in
     let back = c .before .common-steps-in4 .ensures in (
       c .both-seen2 .ensures .0 ∙ ap₂ _&&_ (front .0) (back .0) ∙ stretched _ _ _ _ (omega arith) (omega arith),
-      c .both-seen2 .ensures .1 ∙ ap₂ _&&_ (front .1) (back .1) ∙ stretched _ _ _ _ (omega arith) (omega arith),
+      λ k. c .both-seen2 .ensures .1 k ∙ ap₂ _&&_ (front .1 k) (back .1 k) ∙ stretched _ _ _ _ (omega arith) (omega arith),
     )
 
 pub common-steps-spec : {M : Type 1} → statement M

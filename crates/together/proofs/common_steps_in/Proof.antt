@@ -1,33 +1,33 @@
 -- After each turn the flag and the bits are what `allBelow` says of the segments passed. Assumes nothing.
-use Prim.Native.Nat.{_≤_, _-_}
+use Prim.Native.Nat.{ℕ, _≤_, _-_}
 use mathlib.Core.Path.{_≡_, refl, _∙_}
 use borrow.Author.Needs.{needs}
 use Rattle.segments.specs.Tables.{tables, allBelow}
-use Rattle.together.specs.Steps.{commonSameAt, commonLowAt, low, from}
+use Rattle.together.specs.Steps.{commonSameAt, commonWithinAt, within, from}
 use Rattle.segments.specs.laws.Gathering.{all-done}
 use Rattle.together.proofs.All.{from-none, from-more}
+use Rattle.together.proofs.OneStep.{within-none}
 use Rattle.together.proofs.common_steps_in.Statement.{statement}
 use Rattle.together.proofs.common_steps_in.Tie as tie
 
 abbrev Inv-loop : tie.InvT-loop
-Inv-loop genome transcript letters first to seen₀ i₀ seen i = (first ≤ i) × (i ≤ to) × (seen .same ≡ allBelow (from first (commonSameAt (tables genome transcript letters))) i) × (low (seen .bits) ≡ allBelow (from first (commonLowAt (tables genome transcript letters))) i)
+Inv-loop genome transcript letters first to seen₀ i₀ seen i = (first ≤ i) × (i ≤ to) × (seen .same ≡ allBelow (from first (commonSameAt (tables genome transcript letters))) i) × ((k : ℕ) → within k (seen .bits) ≡ allBelow (from first (commonWithinAt k (tables genome transcript letters))) i)
 
 abbrev μ-loop : tie.MeasureT-loop
 μ-loop genome transcript letters first to seen₀ i₀ seen i = to - i
 
 loop-holds : tie.Need-loop-holds Inv-loop μ-loop
-unfolding low
-loop-holds c = (search needs, search needs, from-none _ _, from-none _ _)
+loop-holds c = (search needs, search needs, from-none _ _, λ k. within-none k ∙ from-none _ _)
 
 loop-again : tie.Need-loop-again Inv-loop μ-loop
 loop-again c =
     let kept = c .before .before .before .before .before .before .before .loop .inv in
-    (search needs, search needs, c .common-on .ensures .0 ∙ from-more _ _ _ (kept .0) (kept .2) refl, c .common-on .ensures .1 ∙ from-more _ _ _ (kept .0) (kept .3) refl)
+    (search needs, search needs, c .common-on .ensures .0 ∙ from-more _ _ _ (kept .0) (kept .2) refl, λ k. c .common-on .ensures .1 k ∙ from-more _ _ _ (kept .0) (kept .3 k) refl)
 
 returns : tie.Need-returns Inv-loop μ-loop
 returns c =
     let kept = c .before .loop .inv in
-    (all-done _ _ _ (kept .2) (kept .1) (c .loop-test .left), all-done _ _ _ (kept .3) (kept .1) (c .loop-test .left))
+    (all-done _ _ _ (kept .2) (kept .1) (c .loop-test .left), λ k. all-done _ _ _ (kept .3 k) (kept .1) (c .loop-test .left))
 
 pub common-steps-in-spec : {M : Type 1} → statement M
 common-steps-in-spec =

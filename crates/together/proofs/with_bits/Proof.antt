@@ -1,10 +1,10 @@
--- Two numbers are low exactly where their bits together are (`low-or`). Assumes nothing.
-use Rattle.together.proofs.OneStep.{low-or}
+-- Two numbers are within k bits exactly where their bits together are (`within-or`). Assumes nothing.
+use Rattle.together.proofs.OneStep.{within-or}
 use Rattle.together.proofs.with_bits.Statement.{statement}
 use Rattle.together.proofs.with_bits.Tie as tie
 
 returns : tie.Need-returns
-returns c = low-or _ _
+returns c k = within-or k (c .args .a) (c .args .b)
 
 pub with-bits-spec : {M : Type 1} → statement M
 with-bits-spec = tie.close (tie.spec returns)

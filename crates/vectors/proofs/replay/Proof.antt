@@ -13,10 +13,10 @@ use Rattle.vectors.proofs.replay.Statement.{statement}
 use Rattle.vectors.proofs.replay.Tie as tie
 
 abbrev Inv-loop : tie.InvT-loop
-Inv-loop file head₀ genome₀ transcript₀ letters₀ tally₀ at₀ head genome transcript letters tally at = Left file at head (tables genome transcript letters) tally
+Inv-loop file head₀ genome₀ transcript₀ letters₀ exons₀ tally₀ at₀ head genome transcript letters exons tally at = Left file at head (tables genome transcript letters) exons tally
 
 abbrev μ-loop : tie.MeasureT-loop
-μ-loop file head₀ genome₀ transcript₀ letters₀ tally₀ at₀ head genome transcript letters tally at = length file - at
+μ-loop file head₀ genome₀ transcript₀ letters₀ exons₀ tally₀ at₀ head genome transcript letters exons tally at = length file - at
 
 -- the bytes from a place on
 rest : (file : List ℕ) (at : ℕ) → take (length file - at) (drop at file) ≡ drop at file
@@ -33,14 +33,14 @@ returns c =
 
 loop-again : tie.Need-loop-again Inv-loop μ-loop
 loop-again c =
-    let file = c .before .before .before .before .before .before .before .before .before .before .before .before .before .before .before .args .file .now in
-    let l = c .before .before .before .before .before .before .before .before .before .before .before .before .before .loop in
-    let s = c .before .before .before .before .before .before .before .before .before .before .row-size in
+    let file = c .before .before .before .before .before .before .before .before .before .before .before .before .before .before .before .before .args .file .now in
+    let l = c .before .before .before .before .before .before .before .before .before .before .before .before .before .before .loop in
+    let s = c .before .before .before .before .before .before .before .before .before .before .before .row-size in
     let all = rest file (l .at) in
-    let row = c .before .before .before .before .before .before .before .first in
+    let row = c .before .before .before .before .before .before .before .before .first in
     let g = c .before .before .agrees .ensures in
-    one-more (l .inv) (s .result) (simp all at (s .ensures .0)) (c .before .before .before .before .before .before .before .before .before .if1 .left) (simp (all, length-drop) at (s .ensures .1))
-    (row .result .now) (simp all at (row .ensures)) (g .1 .0) (g .1 .1) (c .count .ensures ∙ ap (counted (l .tally) (row .result .now)) (g .0))
+    one-more (l .inv) (s .result) (simp all at (s .ensures .0)) (c .before .before .before .before .before .before .before .before .before .before .if1 .left) (simp (all, length-drop) at (s .ensures .1))
+    (row .result .now) (simp all at (row .ensures)) (g .1 .0) (g .1 .1 .0) (g .1 .1 .1) (c .count .ensures ∙ ap (counted (l .tally) (row .result .now)) (g .0))
 
 returns-2 : tie.Need-returns-2 Inv-loop μ-loop
 returns-2 c = ended (c .before .loop .inv) (c .loop-test .left)

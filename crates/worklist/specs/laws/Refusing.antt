@@ -8,6 +8,7 @@ use Rattle.refusals.specs.Outcome.{refused}
 use Rattle.refusals.specs.Refusing.{Only}
 use Rattle.cigar.specs.Elements.{letterM, isLetter, kindOf}
 use Rattle.segments.specs.Tables.{stepRight, allBelow, segmentsHold}
+use Rattle.segments.specs.Exons.{goesOn, numbersHold}
 use Rattle.transcript.specs.Transcript.{Source}
 use Rattle.transcript.specs.Transcript.Source.{aligned, lengthOnly}
 use Rattle.holding.specs.Holding.{Lent, lent, cdsHolds, recordsHold, lengthHolds, holds, sourceOf, checked}
@@ -31,7 +32,7 @@ worklist-refuses x slots = only-if worklistRefusals (holds x) notTogether _ (ask
 
 -- a transcript of one matched base, of this kind
 abbrev base : ℤ → Lent
-base kind = lent (record { kind = kind; strand = pos 1; first = pos 0; count = pos 1; bits = pos 0; start = pos 0; end = pos 0; length = pos 1 }) (0 ∷ 1 ∷ []) (0 ∷ 1 ∷ []) (letterM ∷ [])
+base kind = lent (record { kind = kind; strand = pos 1; first = pos 0; count = pos 1; bits = pos 0; start = pos 0; end = pos 0; length = pos 1; records = pos 1 }) (0 ∷ 1 ∷ []) (0 ∷ 1 ∷ []) (letterM ∷ []) (1 ∷ [])
 
 -- two slots whose positions fall
 abbrev twoThenOne : List Slot
@@ -39,5 +40,5 @@ twoThenOne = record { position = pos 2; answer = refusal 0 } ∷ record { positi
 
 -- no kind; no genome; neither, whether or not the list falls
 pub worklist-occurs : listed (base (pos 2)) twoThenOne ∷ listed (base (pos 1)) twoThenOne ∷ listed (base (pos 0)) twoThenOne ∷ [] ≡ map refused worklistRefusals
-unfolding checked holds sourceOf recordsHold lengthHolds cdsHolds segmentsHold allBelow stepRight isLetter kindOf neverFalls askSteps
+unfolding checked holds sourceOf recordsHold lengthHolds cdsHolds segmentsHold goesOn numbersHold allBelow stepRight isLetter kindOf neverFalls askSteps
 worklist-occurs = refl

@@ -202,6 +202,7 @@ fn main() -> ExitCode {
     worklists(options.rounds, Letters::Matches);
     println!("\nWith an insertion or a deletion in each exon:\n");
     worklists(options.rounds, Letters::Mixed);
+    println!("\nA slot has {} bytes.", size_of::<Slot>());
     buildings(options.rounds);
     words(options.rounds);
     ExitCode::SUCCESS

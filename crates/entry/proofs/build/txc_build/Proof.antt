@@ -9,7 +9,7 @@ use Rattle.entry.proofs.build.txc_build.Tie as tie
 
 returns : tie.Need-returns
 returns c =
-    let n = c .before .before .before .before .before .before in
+    let n = c .before .before .before .before .before .before .before in
     let a = n .before .before in
     let numbers = simp (read (a .fits .strand), read (a .fits .cds-start), read (a .fits .cds-end)) at (n .numbers-of .ensures) in
     let b = simp numbers at (c .before .before .build .ensures) in

@@ -8,7 +8,7 @@ use Rattle.entry.proofs.build.txc_build_card.Tie as tie
 
 returns : tie.Need-returns
 returns c =
-    let a = c .before .before .before .before .before .before .before in
+    let a = c .before .before .before .before .before .before .before .before in
     let b = c .before .before .build-card .ensures in
     (c .lay-built .ensures .0 ∙ ap builtNumber (b .0), (c .lay-built .ensures .1 ∙ ap (λ (x : Built). builtHead x (a .args .head .now)) (b .0), b .1))
 

@@ -4,10 +4,10 @@ use Rattle.layout.proofs.lay.lay_c.Statement.{statement}
 use Rattle.layout.proofs.lay.lay_c.Tie as tie
 
 returns : tie.Need-returns
-returns c = simp (c .before .before .before .before .a .given .1, c .answer-of .ensures, c .before .c-position2 .ensures, c .before .before .c-position .ensures)
+returns c = simp (c .before .before .a .given .1, c .lay-c-interval .ensures)
 
 returns-2 : tie.Need-returns-2
-returns-2 c = simp (c .before .before .before .before .a2 .given .1, c .answer-of2 .ensures, c .before .c-position4 .ensures, c .before .before .c-position3 .ensures)
+returns-2 c = simp (c .before .before .a2 .given .1, c .lay-c-interval2 .ensures)
 
 returns-3 : tie.Need-returns-3
 returns-3 c = simp (c .before .before .a3 .given .1, c .refusal-of .ensures)
@@ -18,11 +18,7 @@ lay-c-spec =
     (tie.spec
     (λ c. search needs)
     (λ c κs. search needs)
-    (λ c κs. search needs)
-    (λ c κs. search needs)
     (λ c. search needs)
-    (λ c κs. search needs)
-    (λ c κs. search needs)
     (λ c κs. search needs)
     (λ c. search needs)
     (λ c κs. search needs)

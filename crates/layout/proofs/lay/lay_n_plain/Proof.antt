@@ -4,20 +4,11 @@ use Rattle.layout.proofs.lay.lay_n_plain.Statement.{statement}
 use Rattle.layout.proofs.lay.lay_n_plain.Tie as tie
 
 returns : tie.Need-returns
-returns c = simp (c .before .before .before .before .a .given .1, c .answer-of .ensures, c .before .n-position2 .ensures, c .before .before .n-position .ensures)
+returns c = simp (c .before .before .a .given .1, c .lay-n-interval .ensures)
 
 returns-2 : tie.Need-returns-2
 returns-2 c = simp (c .before .before .a2 .given .1, c .refusal-of .ensures)
 
 pub lay-n-plain-spec : {M : Type 1} → statement M
 lay-n-plain-spec =
-    tie.close
-    (tie.spec
-    (λ c. search needs)
-    (λ c κs. search needs)
-    (λ c κs. search needs)
-    (λ c κs. search needs)
-    (λ c. search needs)
-    (λ c κs. search needs)
-    returns
-    returns-2)
+    tie.close (tie.spec (λ c. search needs) (λ c κs. search needs) (λ c. search needs) (λ c κs. search needs) returns returns-2)

@@ -1,4 +1,4 @@
--- `layout::take::head_of` meets its contract: each field is the one of the eight lent numbers that `headAt` names, and all eight places lie in the array. Assumes nothing.
+-- `layout::take::head_of` meets its contract: each field is the one of the nine lent numbers that `headAt` names, and all nine places lie in the array. Assumes nothing.
 use borrow.Author.Needs.{needs}
 use Rattle.layout.specs.Layout.{headAt}
 use Rattle.layout.proofs.take.head_of.Statement.{statement}
@@ -12,6 +12,7 @@ pub head-of-spec : {M : Type 1} → statement M
 head-of-spec =
     tie.close
     (tie.spec
+    (λ c. search needs)
     (λ c. search needs)
     (λ c. search needs)
     (λ c. search needs)

@@ -14,7 +14,7 @@ use borrow.Author.Needs.{needs}
 use Rattle.mapper.proofs.knowing.known_of.Statement.{statement}
 use Rattle.mapper.proofs.knowing.known_of.Tie as tie
 
-is-held : (c : tie.Then1) → let a = c .before .before .args in holds (lent (a .head) (a .genome .now) (a .transcript .now) (a .letters .now)) ≡ true
+is-held : (c : tie.Then1) → let a = c .before .before .args in holds (lent (a .head) (a .genome .now) (a .transcript .now) (a .letters .now) (a .exons .now)) ≡ true
 is-held c = sym (c .before .check .ensures) ∙ c .if1 .taken
 
 is-records : (c : tie.Then2) → ofRecords (c .before .before .before .before .before .args .head) ≡ true

@@ -7,16 +7,16 @@ use mir.Syntax.{w64}
 use Rattle.whole.specs.laws.Whole.{told}
 use Rattle.segments.specs.Tables.{allBelow}
 use Rattle.segments.specs.laws.Gathering.{all-none, all-more, all-done}
-use Rattle.vectors.specs.Rows.{isWord, expected}
+use Rattle.vectors.specs.Rows.{answerSize, isWord, expected}
 use borrow.Author.Needs.{needs}
 use Rattle.vectors.proofs.rows.expects.Statement.{statement}
 use Rattle.vectors.proofs.rows.expects.Tie as tie
 
 abbrev Inv-loop : tie.InvT-loop
-Inv-loop row words same₀ i₀ same i = (i ≤ 8) × (same ≡ allBelow (λ (k : ℕ). isWord row k (getD words k (pos 0))) i)
+Inv-loop row words same₀ i₀ same i = (i ≤ answerSize) × (same ≡ allBelow (λ (k : ℕ). isWord row k (getD words k (pos 0))) i)
 
 abbrev μ-loop : tie.MeasureT-loop
-μ-loop row words same₀ i₀ same i = 8 - i
+μ-loop row words same₀ i₀ same i = answerSize - i
 
 loop-holds : tie.Need-loop-holds Inv-loop μ-loop
 loop-holds c = (search needs, all-none _)

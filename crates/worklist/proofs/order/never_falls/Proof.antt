@@ -53,7 +53,7 @@ use Rattle.segments.specs.Tables.{allBelow}
 use Rattle.segments.specs.laws.Gathering.{all-none, all-more}
 use Rattle.worklist.specs.declared.Slot.{Slot}
 use Rattle.worklist.specs.Worklist.{positionsOf, risesAt, neverFalls}
-use Rattle.worklist.proofs.Values.{none, only}
+use Rattle.worklist.proofs.Values.{slotSize, none, only}
 use Rattle.worklist.proofs.Slot as T
 use Rattle.worklist.proofs.Slot.Laws as T′
 use Rattle.worklist.proofs.order.goes_on as goes-on
@@ -177,11 +177,11 @@ module _ {M : Type 1} (𝓤 : URA M) (H : Heap 𝓤) (A : Atoms 𝓤) (W : Given
     next-fits : k + 1 + 1 < 2 ^ 64
     next-fits = let r : n < 2 ^ 64 = n-fits in omega arith
 
-    one-fits : k * 36 < 2 ^ 64
-    one-fits = let r : n * 36 < 2 ^ 63 = room .1 in omega arith
+    one-fits : k * slotSize < 2 ^ 64
+    one-fits = let r : n * slotSize < 2 ^ 63 = room .1 in omega arith
 
-    two-fits : (k + 1) * 36 < 2 ^ 64
-    two-fits = let r : n * 36 < 2 ^ 63 = room .1 in omega arith
+    two-fits : (k + 1) * slotSize < 2 ^ 64
+    two-fits = let r : n * slotSize < 2 ^ 63 = room .1 in omega arith
 
     back : k + 1 - 1 ≡ k
     back = omega arith
@@ -232,7 +232,7 @@ module _ {M : Type 1} (𝓤 : URA M) (H : Heap 𝓤) (A : Atoms 𝓤) (W : Given
         rewrite ! 13 (λ (i : ℕ). ‵ (fat fullShare (tyInt w64) i₆ 0 (vint w64 i))) (back (k .0) l) refl $
         assigns ! (bin ! (load ! (from ! (stop !)) (look ! 13 refl)) (lit ! tt) (record { fits = one-fits (k .0) l })) (from ! (stop !)) (init ! 9 refl (tt, record { fits = one-fits (k .0) l })) $
         assigns ! (bin ! (load ! (from ! (fld ! refl (stop !))) (look-in ! 23 (sub ! 0 refl (whole !)))) (load ! (from ! (stop !)) (look ! 9 refl)) tt) (from ! (stop !)) (init ! 7 refl (tt, tt)) $
-        rewrite ! 7 (λ (i : ℕ). ‵ (fat fullShare tyPtr i₉ 0 (vptr b i))) (sym (place-is 36 o (k .0))) refl $
+        rewrite ! 7 (λ (i : ℕ). ‵ (fat fullShare tyPtr i₉ 0 (vptr b i))) (sym (place-is slotSize o (k .0))) refl $
         elem-out ! T.the-row (Is T.the-row) (shows 𝓤 H A T.the-row) (LL.vals T.the-type T′.the-laws) (LL.tells T.the-type T′.the-laws) q″ ys (k .0) none b o (l₁ (k .0) l) (λ was₁.
         -- [slots[k]; what it owns; the others; the open borrow; what the slots own; _11; …; _0; …]
         assigns ! (of-opd ! (load ! (from ! (hop ! (look ! 9 refl) (stop !))) (look-raw ! 0 refl))) (from ! (stop !)) (init ! 7 refl (LL.lawful T.the-type T′.the-laws 𝓤 H A W .typed (one (k .0) l) _ was₁ .0)) $
@@ -241,7 +241,7 @@ module _ {M : Type 1} (𝓤 : URA M) (H : Heap 𝓤) (A : Atoms 𝓤) (W : Given
         -- and the second
         assigns ! (bin ! (load ! (from ! (stop !)) (look ! 19 refl)) (lit ! tt) (record { fits = two-fits (k .0) l })) (from ! (stop !)) (store ! 13 refl (tt, record { fits = two-fits (k .0) l })) $
         assigns ! (bin ! (load ! (from ! (fld ! refl (stop !))) (look-in ! 23 (sub ! 0 refl (whole !)))) (load ! (from ! (stop !)) (look ! 13 refl)) tt) (from ! (stop !)) (init ! 3 refl (tt, tt)) $
-        rewrite ! 3 (λ (i : ℕ). ‵ (fat fullShare tyPtr j₁ 0 (vptr b i))) (sym (place-is 36 o (k .0 + 1))) refl $
+        rewrite ! 3 (λ (i : ℕ). ‵ (fat fullShare tyPtr j₁ 0 (vptr b i))) (sym (place-is slotSize o (k .0 + 1))) refl $
         elem-out ! T.the-row (Is T.the-row) (shows 𝓤 H A T.the-row) (LL.vals T.the-type T′.the-laws) (LL.tells T.the-type T′.the-laws) q″ ys (k .0 + 1) none b o l (λ was₂.
         assigns ! (of-opd ! (load ! (from ! (hop ! (look ! 5 refl) (stop !))) (look-raw ! 0 refl))) (from ! (stop !)) (store ! 7 refl (LL.lawful T.the-type T′.the-laws 𝓤 H A W .typed (two (k .0) l) _ was₂ .0)) $
         assigns ! (of-opd ! (load ! (from ! (stop !)) (look ! 7 refl))) (from ! (stop !)) (init ! 17 refl (LL.lawful T.the-type T′.the-laws 𝓤 H A W .typed (two (k .0) l) _ was₂ .0)) $

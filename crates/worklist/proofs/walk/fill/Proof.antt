@@ -56,14 +56,14 @@ use Rattle.places.specs.Aligned.{alignedBy, Aligns, InSegment}
 use Rattle.places.specs.declared.Alignment.{Alignment}
 use Rattle.places.proofs.Alignment as Al
 use Rattle.places.proofs.Alignment.Laws as Al′
-use Rattle.worklist.specs.laws.Shared.{Starts, Letters, placed, Owned, owned-twice}
+use Rattle.worklist.specs.laws.Shared.{Starts, Letters, Exons, placed, Owned, owned-twice}
 use Rattle.worklist.specs.declared.Slot.{Slot}
 use Rattle.worklist.specs.declared.Steps.{Steps}
 use Rattle.worklist.specs.Worklist.{Track, positionsOf, neverFalls, stepsAfter, stepsOf, stepsLaid}
 use Rattle.worklist.specs.Walking.{trackBy, nextIndex, Ready, answeredBy}
 use Rattle.worklist.proofs.Front.{front, front-at, front-length, front-set, front-all}
 use Rattle.worklist.specs.laws.Along.{walk-ready, walk-next, walk-here, index-on, index-begins}
-use Rattle.worklist.proofs.Values.{none, only}
+use Rattle.worklist.proofs.Values.{slotSize, none, only}
 use Rattle.worklist.proofs.Slot as T
 use Rattle.worklist.proofs.Slot.Laws as T′
 use Rattle.worklist.proofs.Steps as S
@@ -87,10 +87,10 @@ use Rattle.worklist.proofs.walk.fill.Code as code
 use Rattle.worklist.proofs.walk.fill.Code.Mir as body
 
 abbrev Arg : Type 0
-Arg = Alignment × (RefT (List ℕ) × (RefT (List ℕ) × (RefT (List ℕ) × (RefT (List Slot) × Unit {0}))))
+Arg = Alignment × (RefT (List ℕ) × (RefT (List ℕ) × (RefT (List ℕ) × (RefT (List ℕ) × (RefT (List Slot) × Unit {0})))))
 
 abbrev stayed : Stays (f.ended .signature .params) (f.ended .kept)
-stayed = (stay-none (λ _. Al.the-row) kept, (stay-none-ref (0 ∷ []) tt (plain (λ _. Starts)) kept, (stay-none-ref (0 ∷ []) tt (plain (λ _. Starts)) kept, (stay-none-ref (0 ∷ []) tt (plain (λ _. Letters)) kept, (stay-slice (1 ∷ []) tt (plain (λ _. T.the-row)), tt)))))
+stayed = (stay-none (λ _. Al.the-row) kept, (stay-none-ref (0 ∷ []) tt (plain (λ _. Starts)) kept, (stay-none-ref (0 ∷ []) tt (plain (λ _. Starts)) kept, (stay-none-ref (0 ∷ []) tt (plain (λ _. Letters)) kept, (stay-none-ref (0 ∷ []) tt (plain (λ _. Exons)) kept, (stay-slice (1 ∷ []) tt (plain (λ _. T.the-row)), tt))))))
 
 module _ {M : Type 1} (𝓤 : URA M) (H : Heap 𝓤) (A : Atoms 𝓤) (mem : Memory → SProp 𝓤) (run : Routine → Fun 𝓤) where
   -- the contracts that the proof cites
@@ -103,8 +103,8 @@ module _ {M : Type 1} (𝓤 : URA M) (H : Heap 𝓤) (A : Atoms 𝓤) (mem : Mem
   abbrev Told : Contract 𝓤
   Told = tripleOf 𝓤 H A told.signature (told.spec 𝓤 H A mem run)
 
--- κ, q, b, o, γ and ys are the slots', κ′, q′, p, p₂ and p₃ the tables', and al is how the transcript lies
-module _ {M : Type 1} (𝓤 : URA M) (H : Heap 𝓤) (A : Atoms 𝓤) (W : Given 𝓤 H A) (mem : Memory → SProp 𝓤) (run : Routine → Fun 𝓤) (κ κ′ : Lft) (q q′ : Share) (b o : ℕ) (γ : GName) (ys : List Slot) (p p₂ p₃ : RefT (List ℕ)) (al : Alignment) (room : Room T.the-row (length ys)) (is-al : Is Al.the-row al (Al′.lowered al ∷ [])) (sound : Aligns al (tables-of (now p) (now p₂) (now p₃))) (sorted : neverFalls (positionsOf ys) ≡ true) where
+-- κ, q, b, o, γ and ys are the slots', κ′, q′, p, p₂, p₃ and p₄ the tables', and al is how the transcript lies
+module _ {M : Type 1} (𝓤 : URA M) (H : Heap 𝓤) (A : Atoms 𝓤) (W : Given 𝓤 H A) (mem : Memory → SProp 𝓤) (run : Routine → Fun 𝓤) (κ κ′ : Lft) (q q′ : Share) (b o : ℕ) (γ : GName) (ys : List Slot) (p p₂ p₃ p₄ : RefT (List ℕ)) (al : Alignment) (room : Room T.the-row (length ys)) (is-al : Is Al.the-row al (Al′.lowered al ∷ [])) (sound : Aligns al (tables-of (now p) (now p₂) (now p₃))) (sorted : neverFalls (positionsOf ys) ≡ true) where
   abbrev n : ℕ
   n = length ys
 
@@ -112,7 +112,7 @@ module _ {M : Type 1} (𝓤 : URA M) (H : Heap 𝓤) (A : Atoms 𝓤) (W : Given
   track = trackBy al (now p)
 
   abbrev whole-transcript : Transcript
-  whole-transcript = alignedBy al (tables-of (now p) (now p₂) (now p₃))
+  whole-transcript = alignedBy al (tables-of (now p) (now p₂) (now p₃)) (now p₄)
 
   abbrev gs : List ℤ
   gs = positionsOf ys
@@ -128,7 +128,7 @@ module _ {M : Type 1} (𝓤 : URA M) (H : Heap 𝓤) (A : Atoms 𝓤) (W : Given
   gs-length = length-map ys (λ (s : Slot). s .position)
 
   abbrev x : List Slot → Arg
-  x l = (al, (p, (p₂, (p₃, (record { ptr = (b, o); name = γ; now = l }, tt)))))
+  x l = (al, (p, (p₂, (p₃, (p₄, (record { ptr = (b, o); name = γ; now = l }, tt))))))
 
   -- the machine values
   abbrev v : Val
@@ -143,21 +143,24 @@ module _ {M : Type 1} (𝓤 : URA M) (H : Heap 𝓤) (A : Atoms 𝓤) (W : Given
   abbrev v₃ : Val
   v₃ = placed p₃
 
+  abbrev v₄ : Val
+  v₄ = placed p₄
+
   abbrev va : Val
   va = Al′.lowered al
 
   abbrev at : Vals f.signature (κ′, (κ, tt))
-  at = (va ∷ [], (v′ ∷ [], (v₂ ∷ [], (v₃ ∷ [], (v ∷ [], tt)))))
+  at = (va ∷ [], (v′ ∷ [], (v₂ ∷ [], (v₃ ∷ [], (v₄ ∷ [], (v ∷ [], tt))))))
 
   abbrev Post : Val → SProp 𝓤
   Post = walkOf 𝓤 H A f.ended stayed (f.clauses 𝓤 H A mem run) .post (((κ′, (κ, tt)), (q′, (q, tt)), tt, x ys, at), tt)
 
   -- what the table owns
   abbrev Own : Fml
-  Own = Owned κ′ p p₂ p₃
+  Own = Owned κ′ p p₂ p₃ p₄
 
   twice : ent 𝓤 (sem 𝓤 H A Own) (sep 𝓤 (sem 𝓤 H A Own) (sem 𝓤 H A Own))
-  twice = owned-twice 𝓤 H A W κ′ p p₂ p₃
+  twice = owned-twice 𝓤 H A W κ′ p p₂ p₃ p₄
 
   -- the index after i slots
   abbrev idx : ℕ → ℕ
@@ -173,14 +176,14 @@ module _ {M : Type 1} (𝓤 : URA M) (H : Heap 𝓤) (A : Atoms 𝓤) (W : Given
       → ent 𝓤 (⋆ 𝓤 H A (‵ (S.the-row .own r (u ∷ [])) ∷ ‵ (fobs γ (codedHoleys T.the-row .code (heres T.the-row ws))) ∷ ‵ (fbor κ (Held T.the-row (length ws) b o γ)) ∷ ‵ (flft κ q) ∷ ‵ Own ∷ ‵ (flft κ′ q′) ∷ [])) (Post u)
   exits r u e =
       qed W (‵ (S.the-row .own r (u ∷ [])) ∷ ‵ (fobs γ (codedHoleys T.the-row .code (heres T.the-row ws))) ∷ ‵ (fbor κ (Held T.the-row (length ws) b o γ)) ∷ ‵ (flft κ q) ∷ ‵ Own ∷ ‵ (flft κ′ q′) ∷ []) ∵
-      suffices ! _ (ends-at 𝓤 H A f.ended stayed (f.clauses 𝓤 H A mem run) W (((κ′, (κ, tt)), (q′, (q, tt)), tt, x ys, at), tt) u r (tt, (tt, (tt, (tt, (ws, tt))))) (tt, (tt, (tt, (tt, (ws-length, tt)))))) $ says ! (e, refl) $
+      suffices ! _ (ends-at 𝓤 H A f.ended stayed (f.clauses 𝓤 H A mem run) W (((κ′, (κ, tt)), (q′, (q, tt)), tt, x ys, at), tt) u r (tt, (tt, (tt, (tt, (tt, (ws, tt)))))) (tt, (tt, (tt, (tt, (tt, (ws-length, tt))))))) $ says ! (e, refl) $
       nothing ! $ move ! (4 ∷ 0 ∷ []) $ join ! $ move ! (5 ∷ 0 ∷ []) $ join ! $ frame ! $
       -- [the result; obs; the borrow; what the table owns]
-      move ! (1 ∷ 2 ∷ []) $ fjoin ! $ pureI ! (at-slice T.the-row (x ws .1 .1 .1 .1 .0) (v ∷ [])) (tt, (tt, tt)) (ap (λ (m : ℕ). sliceVal (b, o) m ∷ []) (sym ws-length), subst (Room T.the-row) (sym ws-length) room) $ fjoin ! $
+      move ! (1 ∷ 2 ∷ []) $ fjoin ! $ pureI ! (at-slice T.the-row (x ws .1 .1 .1 .1 .1 .0) (v ∷ [])) (tt, (tt, tt)) (ap (λ (m : ℕ). sliceVal (b, o) m ∷ []) (sym ws-length), subst (Room T.the-row) (sym ws-length) room) $ fjoin ! $
       -- [the slots; the result; what the table owns]
       nothing ! $ move ! (1 ∷ 0 ∷ []) $ fjoin ! $
       -- [the slots; the result; what the tables own]
-      move ! (2 ∷ []) $ fsplit ! $ move ! (1 ∷ []) $ fsplit ! $ move ! (1 ∷ 3 ∷ []) $ fjoin ! $ move ! (1 ∷ 0 ∷ []) $ fjoin ! $ move ! (1 ∷ 0 ∷ []) $ fjoin ! $ owned ! Al.the-row (Is Al.the-row) ((LL.makes Al.the-type Al′.the-plain) 𝓤 H A) al _ is-al $ fjoin ! $ frame ! $ done !
+      move ! (2 ∷ []) $ fsplit ! $ move ! (1 ∷ []) $ fsplit ! $ move ! (1 ∷ []) $ fsplit ! $ move ! (1 ∷ 4 ∷ []) $ fjoin ! $ move ! (1 ∷ 0 ∷ []) $ fjoin ! $ move ! (1 ∷ 0 ∷ []) $ fjoin ! $ move ! (1 ∷ 0 ∷ []) $ fjoin ! $ owned ! Al.the-row (Is Al.the-row) ((LL.makes Al.the-type Al′.the-plain) 𝓤 H A) al _ is-al $ fjoin ! $ frame ! $ done !
 
   -- ---- the loop's variant
   abbrev Upto : Type 0
@@ -239,13 +242,13 @@ module _ {M : Type 1} (𝓤 : URA M) (H : Heap 𝓤) (A : Atoms 𝓤) (W : Given
 
     -- the answer
     abbrev passed₂ : Vals answer.signature (κ′, tt)
-    passed₂ = (va ∷ [], (v′ ∷ [], (v₂ ∷ [], (v₃ ∷ [], (vint w64 (idx (i + 1)) ∷ [], (T′.lowered here ∷ [], tt))))))
+    passed₂ = (va ∷ [], (v′ ∷ [], (v₂ ∷ [], (v₃ ∷ [], (v₄ ∷ [], (vint w64 (idx (i + 1)) ∷ [], (T′.lowered here ∷ [], tt)))))))
 
     abbrev to₂ : Answers 𝓤 H A mem run .Ghost
-    to₂ = (((κ′, tt), (q′, tt), tt, (al, (p, (p₂, (p₃, (idx (i + 1), (here, tt)))))), passed₂), tt)
+    to₂ = (((κ′, tt), (q′, tt), tt, (al, (p, (p₂, (p₃, (p₄, (idx (i + 1), (here, tt))))))), passed₂), tt)
 
-    asked₂ : ent 𝓤 (onEntry 𝓤 H A answer.signature (κ′, tt) (q′, tt) (al, (p, (p₂, (p₃, (idx (i + 1), (here, tt)))))) passed₂) (Answers 𝓤 H A mem run .pre to₂)
-    asked₂ = qed W ((‵ (flft κ′ q′) ⊛ ‵ ftrue) ∷ ‵ (owns (Al.the-row ∷ ShrRef (named 0) κ′ Starts ∷ ShrRef (named 0) κ′ Starts ∷ ShrRef (named 0) κ′ Letters ∷ usize ∷ T.the-row ∷ []) (al, (p, (p₂, (p₃, (idx (i + 1), (here, tt)))))) passed₂) ∷ []) ∵ says ! (sound, stands) $ frame ! $ done !
+    asked₂ : ent 𝓤 (onEntry 𝓤 H A answer.signature (κ′, tt) (q′, tt) (al, (p, (p₂, (p₃, (p₄, (idx (i + 1), (here, tt))))))) passed₂) (Answers 𝓤 H A mem run .pre to₂)
+    asked₂ = qed W ((‵ (flft κ′ q′) ⊛ ‵ ftrue) ∷ ‵ (owns (Al.the-row ∷ ShrRef (named 0) κ′ Starts ∷ ShrRef (named 0) κ′ Starts ∷ ShrRef (named 0) κ′ Letters ∷ ShrRef (named 0) κ′ Exons ∷ usize ∷ T.the-row ∷ []) (al, (p, (p₂, (p₃, (p₄, (idx (i + 1), (here, tt))))))) passed₂) ∷ []) ∵ says ! (sound, stands) $ frame ! $ done !
 
     apart₂ : Is T.the-row here (T′.lowered here ∷ []) → ent 𝓤 (sep 𝓤 (sem 𝓤 H A Own) (sem 𝓤 H A (flft κ′ q′))) (sep 𝓤 (Answers 𝓤 H A mem run .pre to₂) (sem 𝓤 H A Own))
     apart₂ is =
@@ -253,17 +256,17 @@ module _ {M : Type 1} (𝓤 : URA M) (H : Heap 𝓤) (A : Atoms 𝓤) (W : Given
         nothing ! $ owned ! T.the-row (Is T.the-row) ((LL.makes T.the-type T′.the-plain) 𝓤 H A) here _ is $ fjoin ! $
         owned ! usize (Is usize) (uint-makes 𝓤 H A W w64) (idx (i + 1)) _ (refl, idx-fits (i + 1)) $ fjoin ! $
         -- [the plain arguments; what the tables own, twice; the token]
-        move ! (1 ∷ []) $ fsplit ! $ move ! (1 ∷ []) $ fsplit ! $ move ! (1 ∷ 3 ∷ []) $ fjoin ! $ move ! (1 ∷ 0 ∷ []) $ fjoin ! $ move ! (1 ∷ 0 ∷ []) $ fjoin ! $ owned ! Al.the-row (Is Al.the-row) ((LL.makes Al.the-type Al′.the-plain) 𝓤 H A) al _ is-al $ fjoin ! $
+        move ! (1 ∷ []) $ fsplit ! $ move ! (1 ∷ []) $ fsplit ! $ move ! (1 ∷ []) $ fsplit ! $ move ! (1 ∷ 4 ∷ []) $ fjoin ! $ move ! (1 ∷ 0 ∷ []) $ fjoin ! $ move ! (1 ∷ 0 ∷ []) $ fjoin ! $ move ! (1 ∷ 0 ∷ []) $ fjoin ! $ owned ! Al.the-row (Is Al.the-row) ((LL.makes Al.the-type Al′.the-plain) 𝓤 H A) al _ is-al $ fjoin ! $
         nothing ! $ move ! (3 ∷ 0 ∷ []) $ join ! $ use2 W (raw (Answers 𝓤 H A mem run .pre to₂)) asked₂ $ frame ! $ done !
 
     abbrev found₂ : Slot
     found₂ = answeredBy whole-transcript here
 
-    said₂ : (r : Slot) → ent 𝓤 (ensured 𝓤 H A answer.ended (answer.clauses 𝓤 H A mem run) (κ′, tt) (al, (p, (p₂, (p₃, (idx (i + 1), (here, tt)))))) tt r) (fact 𝓤 (r ≡ found₂))
-    said₂ r = exE 𝓤 _ (λ us. snd∗ 𝓤 (sem 𝓤 H A (lasts answer.ended (κ′, tt) (al, (p, (p₂, (p₃, (idx (i + 1), (here, tt)))))) us)) (fact 𝓤 (r ≡ found₂)))
+    said₂ : (r : Slot) → ent 𝓤 (ensured 𝓤 H A answer.ended (answer.clauses 𝓤 H A mem run) (κ′, tt) (al, (p, (p₂, (p₃, (p₄, (idx (i + 1), (here, tt))))))) tt r) (fact 𝓤 (r ≡ found₂))
+    said₂ r = exE 𝓤 _ (λ us. snd∗ 𝓤 (sem 𝓤 H A (lasts answer.ended (κ′, tt) (al, (p, (p₂, (p₃, (p₄, (idx (i + 1), (here, tt))))))) us)) (fact 𝓤 (r ≡ found₂)))
 
-    offset-fits : i * 36 < 2 ^ 64
-    offset-fits = let r : n * 36 < 2 ^ 63 = room .1 in omega arith
+    offset-fits : i * slotSize < 2 ^ 64
+    offset-fits = let r : n * slotSize < 2 ^ 63 = room .1 in omega arith
 
     next-fits : i + 1 < 2 ^ 64
     next-fits = let r : n < 2 ^ 64 = room .0 in omega arith
@@ -292,7 +295,7 @@ module _ {M : Type 1} (𝓤 : URA M) (H : Heap 𝓤) (A : Atoms 𝓤) (W : Given
 
   -- ---- the loop
   module _ (𝓣 : Tables 𝓤 H) (known₁ : Triple 𝓤 (𝓣 .C #step) (Step 𝓤 H A mem run)) (known₂ : Triple 𝓤 (𝓣 .C #answer-slot) (Answers 𝓤 H A mem run)) (known₃ : Triple 𝓤 (𝓣 .C #told) (Told 𝓤 H A mem run))
-      (l₀ l₁ l₂ k₁ k₂ l₃ l₄ l₅ l₆ l₇ l₈ l₉ m₀ m₁ m₂ : ℕ) where
+      (l₀ l₁ l₂ k₁ k₂ k₃ l₃ l₄ l₅ l₆ l₇ l₈ l₉ m₀ m₁ m₂ : ℕ) where
     abbrev C : Calls 𝓤 H
     C = 𝓣 .C
 
@@ -306,11 +309,14 @@ module _ {M : Type 1} (𝓤 : URA M) (H : Heap 𝓤) (A : Atoms 𝓤) (W : Given
     abbrev τ″ : Ty
     τ″ = tyRef (named 0) imm (pointee (Letters .written))
 
+    abbrev τ‴ : Ty
+    τ‴ = tyRef (named 0) imm (pointee (Exons .written))
+
     abbrev τ : Ty
     τ = sliceTy (tyRef (named 1) mut (pointee (T.the-row .written)))
 
     abbrev En : Env 𝓤 H
-    En = (S′.mir, l₀) ∷ (Al′.mir, l₁) ∷ (τ′, l₂) ∷ (τ′, k₁) ∷ (τ″, k₂) ∷ (τ, l₃) ∷ (tyInt w64, l₄) ∷ (tyInt w64, l₅) ∷ (T′.mir, l₆) ∷ (T′.mir, l₇) ∷ (tyInt w64, l₈) ∷ (tyBool, l₉) ∷ (tyPtr, m₀) ∷ (T′.mir, m₁) ∷ (tyPtr, m₂) ∷ []
+    En = (S′.mir, l₀) ∷ (Al′.mir, l₁) ∷ (τ′, l₂) ∷ (τ′, k₁) ∷ (τ″, k₂) ∷ (τ‴, k₃) ∷ (τ, l₃) ∷ (tyInt w64, l₄) ∷ (tyInt w64, l₅) ∷ (T′.mir, l₆) ∷ (T′.mir, l₇) ∷ (tyInt w64, l₈) ∷ (tyBool, l₉) ∷ (tyPtr, m₀) ∷ (T′.mir, m₁) ∷ (tyPtr, m₂) ∷ []
 
     abbrev At : Upto → List (Item 𝓤)
     At i = ‵ (row T.the-row fullShare (front ys ws (i .0)) b o) ∷ ‵ (fobor κ q (Held T.the-row n b o γ)) ∷ ‵ (fobs γ (codedHoleys T.the-row .code (heres T.the-row ys))) ∷ ‵ (fauth γ (codedHoleys T.the-row .code (heres T.the-row ys)))
@@ -318,7 +324,7 @@ module _ {M : Type 1} (𝓤 : URA M) (H : Heap 𝓤) (A : Atoms 𝓤) (W : Given
         ∷ ‵ (froom tyPtr m₂ 0) ∷ ‵ (fdies tyPtr m₂) ∷ ‵ (froom T′.mir m₁ 0) ∷ ‵ (fdies T′.mir m₁) ∷ ‵ (froom tyPtr m₀ 0) ∷ ‵ (fdies tyPtr m₀) ∷ ‵ (froom tyBool l₉ 0) ∷ ‵ (fdies tyBool l₉)
         ∷ ‵ (froom (tyInt w64) l₈ 0) ∷ ‵ (fdies (tyInt w64) l₈) ∷ ‵ (froom T′.mir l₇ 0) ∷ ‵ (fdies T′.mir l₇) ∷ ‵ (froom T′.mir l₆ 0) ∷ ‵ (fdies T′.mir l₆)
         ∷ ‵ (fat fullShare (tyInt w64) l₅ 0 (vint w64 (i .0))) ∷ ‵ (fdies (tyInt w64) l₅) ∷ ‵ (fat fullShare (tyInt w64) l₄ 0 (vint w64 (idx (i .0)))) ∷ ‵ (fdies (tyInt w64) l₄) ∷ ‵ (fat fullShare τ l₃ 0 v) ∷ ‵ (fdies τ l₃)
-        ∷ ‵ (fat fullShare τ″ k₂ 0 v₃) ∷ ‵ (fdies τ″ k₂) ∷ ‵ (fat fullShare τ′ k₁ 0 v₂) ∷ ‵ (fdies τ′ k₁) ∷ ‵ (fat fullShare τ′ l₂ 0 v′) ∷ ‵ (fdies τ′ l₂) ∷ ‵ (fat fullShare Al′.mir l₁ 0 va) ∷ ‵ (fdies Al′.mir l₁) ∷ ‵ (froom S′.mir l₀ 0) ∷ ‵ (fdies S′.mir l₀) ∷ []
+        ∷ ‵ (fat fullShare τ‴ k₃ 0 v₄) ∷ ‵ (fdies τ‴ k₃) ∷ ‵ (fat fullShare τ″ k₂ 0 v₃) ∷ ‵ (fdies τ″ k₂) ∷ ‵ (fat fullShare τ′ k₁ 0 v₂) ∷ ‵ (fdies τ′ k₁) ∷ ‵ (fat fullShare τ′ l₂ 0 v′) ∷ ‵ (fdies τ′ l₂) ∷ ‵ (fat fullShare Al′.mir l₁ 0 va) ∷ ‵ (fdies Al′.mir l₁) ∷ ‵ (froom S′.mir l₀ 0) ∷ ‵ (fdies S′.mir l₀) ∷ []
 
     -- a turn's postcondition: it ends nearer to n, or the loop is left and the rest of the body runs
     abbrev Turned : Upto → Out → SProp 𝓤
@@ -335,40 +341,40 @@ module _ {M : Type 1} (𝓤 : URA M) (H : Heap 𝓤) (A : Atoms 𝓤) (W : Given
         -- the slot is read, and put back
         assigns ! (bin ! (load ! (from ! (stop !)) (look ! 20 refl)) (lit ! tt) (record { fits = offset-fits (i .0) l })) (from ! (stop !)) (store ! 14 refl (tt, record { fits = offset-fits (i .0) l })) $
         assigns ! (bin ! (load ! (from ! (fld ! refl (stop !))) (look-in ! 24 (sub ! 0 refl (whole !)))) (load ! (from ! (stop !)) (look ! 14 refl)) tt) (from ! (stop !)) (init ! 10 refl (tt, tt)) $
-        rewrite ! 10 (λ (k : ℕ). ‵ (fat fullShare tyPtr m₀ 0 (vptr b k))) (sym (place-is 36 o (i .0))) refl $
+        rewrite ! 10 (λ (k : ℕ). ‵ (fat fullShare tyPtr m₀ 0 (vptr b k))) (sym (place-is slotSize o (i .0))) refl $
         elem-out ! T.the-row (Is T.the-row) (shows 𝓤 H A T.the-row) (LL.vals T.the-type T′.the-laws) (LL.tells T.the-type T′.the-laws) fullShare (front ys ws (i .0)) (i .0) none b o (within (i .0) l) (λ was.
-        -- [slots[i]; what it owns; the others; the open borrow; obs; auth; what the table owns; its token; _12; …; _0; …]
+        -- [slots[i]; what it owns; the others; the open borrow; obs; auth; what the table owns; its token; _13; …; _0; …]
         assigns ! (of-opd ! (load ! (from ! (hop ! (look ! 12 refl) (stop !))) (look-raw ! 0 refl))) (from ! (stop !)) (init ! 10 refl (LL.lawful T.the-type T′.the-laws 𝓤 H A W .typed (here (i .0) l) _ was .0)) $
         assigns ! (of-opd ! (load ! (from ! (stop !)) (look ! 10 refl))) (from ! (stop !)) (init ! 20 refl (LL.lawful T.the-type T′.the-laws 𝓤 H A W .typed (here (i .0) l) _ was .0)) $
         elem-back ! T.the-row fullShare (front ys ws (i .0)) (i .0) none (T′.lowered (here (i .0) l) ∷ []) b o (within (i .0) l) $
         -- the index goes on
         move ! (4 ∷ 5 ∷ []) $ use2 W (raw (Step 𝓤 H A mem run .pre (to₁ (i .0) l)) ⊛ ‵ Own) (apart₁ (i .0) l was) $ split ! $
-        -- [what the call asks; what the table owns; the row; the open borrow; obs; auth; _12; …; _0; …]
+        -- [what the call asks; what the table owns; the row; the open borrow; obs; auth; _13; …; _0; …]
         calls-at ! (fmOf 𝓤 H (W .laws) 𝓣) (Step 𝓤 H A mem run) known₁ (to₁ (i .0) l)
-        (and-then ! (load ! (from ! (stop !)) (look ! 32 refl)) (and-then ! (load ! (from ! (stop !)) (look ! 30 refl)) (and-then ! (load ! (from ! (stop !)) (look ! 22 refl)) (and-then ! (load ! (from ! (stop !)) (look ! 18 refl)) (no-more !))))) (λ u.
+        (and-then ! (load ! (from ! (stop !)) (look ! 34 refl)) (and-then ! (load ! (from ! (stop !)) (look ! 32 refl)) (and-then ! (load ! (from ! (stop !)) (look ! 22 refl)) (and-then ! (load ! (from ! (stop !)) (look ! 18 refl)) (no-more !))))) (λ u.
         use1 W (later (some (λ (r : ℕ). ((‵ (flft κ′ q′) ⊛ ‵ ftrue) ⊛ ‵ (usize .own r (u ∷ []))) ⊛ raw (ensured 𝓤 H A step.ended (step.clauses 𝓤 H A mem run) (κ′, tt) (al, (p, (idx (i .0), (here (i .0) l, tt)))) tt r)))) (id⊢ 𝓤 _) $ await ! tt $ pick ! (λ r.
         split ! $ move ! (1 ∷ []) $ use1 W (raw (fact 𝓤 (r ≡ found₁ (i .0) l))) (said₁ (i .0) l r) $ heard ! (r ≡ found₁ (i .0) l) (λ e. split ! $ move ! (1 ∷ []) $
         peeks ! usize (Is usize) (shows 𝓤 H A usize) r (u ∷ []) (λ is.
-        -- [what the result owns; the token; what the table owns; the row; the open borrow; obs; auth; _12; …; _0; …]
+        -- [what the result owns; the token; what the table owns; the row; the open borrow; obs; auth; _13; …; _0; …]
         land ! (from ! (stop !)) (store ! 23 refl (uint-lawful 𝓤 H A W w64 .typed r _ is .0)) $
         rewrite ! 23 (λ (z : Val). ‵ (fat fullShare (tyInt w64) l₄ 0 z)) (ap only (is .0) ∙ ap (vint w64) (e ∙ next-is (i .0) l)) refl $
         drop ! $ split ! $ move ! (1 ∷ []) $ drop ! $
         -- the slot is answered at it
         move ! (1 ∷ 0 ∷ []) $ use2 W (raw (Answers 𝓤 H A mem run .pre (to₂ (i .0) l)) ⊛ ‵ Own) (apart₂ (i .0) l was) $ split ! $
         calls-at ! (fmOf 𝓤 H (W .laws) 𝓣) (Answers 𝓤 H A mem run) known₂ (to₂ (i .0) l)
-        (and-then ! (load ! (from ! (stop !)) (look ! 32 refl)) (and-then ! (load ! (from ! (stop !)) (look ! 30 refl)) (and-then ! (load ! (from ! (stop !)) (look ! 28 refl)) (and-then ! (load ! (from ! (stop !)) (look ! 26 refl)) (and-then ! (load ! (from ! (stop !)) (look ! 22 refl)) (and-then ! (load ! (from ! (stop !)) (look ! 18 refl)) (no-more !))))))) (λ u₂.
-        use1 W (later (some (λ (r₂ : Slot). ((‵ (flft κ′ q′) ⊛ ‵ ftrue) ⊛ ‵ (T.the-row .own r₂ (u₂ ∷ []))) ⊛ raw (ensured 𝓤 H A answer.ended (answer.clauses 𝓤 H A mem run) (κ′, tt) (al, (p, (p₂, (p₃, (idx (i .0 + 1), (here (i .0) l, tt)))))) tt r₂)))) (id⊢ 𝓤 _) $ await ! tt $ pick ! (λ r₂.
+        (and-then ! (load ! (from ! (stop !)) (look ! 34 refl)) (and-then ! (load ! (from ! (stop !)) (look ! 32 refl)) (and-then ! (load ! (from ! (stop !)) (look ! 30 refl)) (and-then ! (load ! (from ! (stop !)) (look ! 28 refl)) (and-then ! (load ! (from ! (stop !)) (look ! 26 refl)) (and-then ! (load ! (from ! (stop !)) (look ! 22 refl)) (and-then ! (load ! (from ! (stop !)) (look ! 18 refl)) (no-more !)))))))) (λ u₂.
+        use1 W (later (some (λ (r₂ : Slot). ((‵ (flft κ′ q′) ⊛ ‵ ftrue) ⊛ ‵ (T.the-row .own r₂ (u₂ ∷ []))) ⊛ raw (ensured 𝓤 H A answer.ended (answer.clauses 𝓤 H A mem run) (κ′, tt) (al, (p, (p₂, (p₃, (p₄, (idx (i .0 + 1), (here (i .0) l, tt))))))) tt r₂)))) (id⊢ 𝓤 _) $ await ! tt $ pick ! (λ r₂.
         split ! $ move ! (1 ∷ []) $ use1 W (raw (fact 𝓤 (r₂ ≡ found₂ (i .0) l))) (said₂ (i .0) l r₂) $ heard ! (r₂ ≡ found₂ (i .0) l) (λ e₂. split ! $ move ! (1 ∷ []) $
         peeks ! T.the-row (Is T.the-row) (shows 𝓤 H A T.the-row) r₂ (u₂ ∷ []) (λ is₂.
         land ! (from ! (stop !)) (init ! 17 refl (LL.lawful T.the-type T′.the-laws 𝓤 H A W .typed r₂ _ is₂ .0)) $
         assigns ! (bin ! (load ! (from ! (stop !)) (look ! 21 refl)) (lit ! tt) (record { fits = offset-fits (i .0) l })) (from ! (stop !)) (store ! 15 refl (tt, record { fits = offset-fits (i .0) l })) $
         assigns ! (bin ! (load ! (from ! (fld ! refl (stop !))) (look-in ! 25 (sub ! 0 refl (whole !)))) (load ! (from ! (stop !)) (look ! 15 refl)) tt) (from ! (stop !)) (init ! 7 refl (tt, tt)) $
-        rewrite ! 7 (λ (k : ℕ). ‵ (fat fullShare tyPtr m₂ 0 (vptr b k))) (sym (place-is 36 o (i .0))) refl $
+        rewrite ! 7 (λ (k : ℕ). ‵ (fat fullShare tyPtr m₂ 0 (vptr b k))) (sym (place-is slotSize o (i .0))) refl $
         move ! (3 ∷ []) $ elem-out ! T.the-row (Is T.the-row) (shows 𝓤 H A T.the-row) (LL.vals T.the-type T′.the-laws) (LL.tells T.the-type T′.the-laws) fullShare (front ys ws (i .0)) (i .0) none b o (within (i .0) l) (λ _.
-        -- [slots[i]; what it owns; the others; what the result owns; the token; what the table owns; the open borrow; obs; auth; _12; …; _0; …]
+        -- [slots[i]; what it owns; the others; what the result owns; the token; what the table owns; the open borrow; obs; auth; _13; …; _0; …]
         assigns ! (of-opd ! (load ! (from ! (stop !)) (look ! 19 refl))) (from ! (hop ! (look ! 9 refl) (stop !))) (store-raw ! 0 refl (LL.lawful T.the-type T′.the-laws 𝓤 H A W .typed r₂ _ is₂ .0)) $
         move ! (1 ∷ []) $ drop ! $ move ! (0 ∷ 2 ∷ 1 ∷ []) $ elem-put ! T.the-row fullShare (front ys ws (i .0)) (i .0) r₂ (u₂ ∷ []) b o (within (i .0) l) $
-        -- [the row; the token; what the table owns; the open borrow; obs; auth; _12; …; _0; …]
+        -- [the row; the token; what the table owns; the open borrow; obs; auth; _13; …; _0; …]
         assigns-last ! (bin ! (load ! (from ! (stop !)) (look ! 20 refl)) (lit ! tt) (record { fits = next-fits (i .0) l })) (from ! (stop !)) (store ! 20 refl (tt, record { fits = next-fits (i .0) l })) $
         forget ! 6 refl $ forget ! 8 refl $ forget ! 10 refl $ forget ! 12 refl $ forget ! 14 refl $ forget ! 16 refl $ forget ! 18 refl $
         rewrite ! 0 (λ (zs : List Slot). ‵ (row T.the-row fullShare zs b o)) (filled (i .0) l r₂ e₂) refl $
@@ -391,16 +397,16 @@ module _ {M : Type 1} (𝓤 : URA M) (H : Heap 𝓤) (A : Atoms 𝓤) (W : Given
         leaves-loop ! (load ! (from ! (stop !)) (look ! 12 refl)) $ exec ! C Λ En body.t-4 (atRet En Post) $
         rewrite ! 22 (λ (k : ℕ). ‵ (fat fullShare (tyInt w64) l₄ 0 (vint w64 (idx k)))) (all over) refl $
         rewrite ! 0 (λ (zs : List Slot). ‵ (row T.the-row fullShare zs b o)) (front-all ys ws ws-length (i .0) over) refl $ closes-slice ! tt T.the-row ys ws ws-length b o $
-        -- [obs; the borrow; the token; what the table owns; its token; _12; …; _0; …]
+        -- [obs; the borrow; the token; what the table owns; its token; _13; …; _0; …]
         nothing ! $ use1 W (raw (Told 𝓤 H A mem run .pre to₃)) apart₃ $
         calls-at ! (fmOf 𝓤 H (W .laws) 𝓣) (Told 𝓤 H A mem run) known₃ to₃ (and-then ! (load ! (from ! (stop !)) (look ! 22 refl)) (no-more !)) (λ u.
         use1 W (later (some (λ (r : Steps). (‵ ftrue ⊛ ‵ (S.the-row .own r (u ∷ []))) ⊛ raw (ensured 𝓤 H A told.ended (told.clauses 𝓤 H A mem run) tt (idx n, tt) tt r)))) (id⊢ 𝓤 _) $ await ! tt $ pick ! (λ r.
         split ! $ move ! (1 ∷ []) $ use1 W (raw (fact 𝓤 (r ≡ stepsLaid (answered (idx n))))) (said₃ r) $ heard ! (r ≡ stepsLaid (answered (idx n))) (λ e. split ! $ drop ! $
         peeks ! S.the-row (Is S.the-row) (shows 𝓤 H A S.the-row) r (u ∷ []) (λ is.
-        -- [what the result owns; obs; the borrow; the token; what the table owns; its token; _12; …; _0; …]
-        land ! (from ! (stop !)) (init ! 34 refl (LL.lawful S.the-type S′.the-laws 𝓤 H A W .typed r _ is .0)) $
-        returns ! (look ! 34 refl) $ forget ! 12 refl $ forget ! 14 refl $ forget ! 20 refl $ forget ! 22 refl $ forget ! 24 refl $ forget ! 26 refl $ forget ! 28 refl $ forget ! 30 refl $ forget ! 32 refl $ forget ! 34 refl $
-        move ! (34 ∷ 35 ∷ []) $ free1 ! $ move ! (32 ∷ 33 ∷ []) $ free1 ! $ move ! (30 ∷ 31 ∷ []) $ free1 ! $ move ! (28 ∷ 29 ∷ []) $ free1 ! $ move ! (26 ∷ 27 ∷ []) $ free1 ! $ move ! (24 ∷ 25 ∷ []) $ free1 ! $ move ! (22 ∷ 23 ∷ []) $ free1 ! $ move ! (20 ∷ 21 ∷ []) $ free1 ! $
+        -- [what the result owns; obs; the borrow; the token; what the table owns; its token; _13; …; _0; …]
+        land ! (from ! (stop !)) (init ! 36 refl (LL.lawful S.the-type S′.the-laws 𝓤 H A W .typed r _ is .0)) $
+        returns ! (look ! 36 refl) $ forget ! 12 refl $ forget ! 14 refl $ forget ! 20 refl $ forget ! 22 refl $ forget ! 24 refl $ forget ! 26 refl $ forget ! 28 refl $ forget ! 30 refl $ forget ! 32 refl $ forget ! 34 refl $ forget ! 36 refl $
+        move ! (36 ∷ 37 ∷ []) $ free1 ! $ move ! (34 ∷ 35 ∷ []) $ free1 ! $ move ! (32 ∷ 33 ∷ []) $ free1 ! $ move ! (30 ∷ 31 ∷ []) $ free1 ! $ move ! (28 ∷ 29 ∷ []) $ free1 ! $ move ! (26 ∷ 27 ∷ []) $ free1 ! $ move ! (24 ∷ 25 ∷ []) $ free1 ! $ move ! (22 ∷ 23 ∷ []) $ free1 ! $ move ! (20 ∷ 21 ∷ []) $ free1 ! $
         move ! (18 ∷ 19 ∷ []) $ free1 ! $ move ! (16 ∷ 17 ∷ []) $ free1 ! $ move ! (14 ∷ 15 ∷ []) $ free1 ! $ move ! (12 ∷ 13 ∷ []) $ free1 ! $ move ! (10 ∷ 11 ∷ []) $ free1 ! $ move ! (8 ∷ 9 ∷ []) $ free1 ! $ move ! (6 ∷ 7 ∷ []) $ free1 ! $ free0 ! $
         by ! (exits r u (e ∙ ap (λ (k : ℕ). stepsLaid (answered (idx k))) (sym gs-length)))))))
       where
@@ -415,35 +421,35 @@ module _ {M : Type 1} (𝓤 : URA M) (H : Heap 𝓤) (A : Atoms 𝓤) (W : Given
     goes = first ! $ blocks ! $ loops ! 𝓣 Nearer Nearer-wf At turns (0, zero-le)
 
   walk : (𝓣 : Tables 𝓤 H) → Triple 𝓤 (𝓣 .C #step) (Step 𝓤 H A mem run) → Triple 𝓤 (𝓣 .C #answer-slot) (Answers 𝓤 H A mem run) → Triple 𝓤 (𝓣 .C #told) (Told 𝓤 H A mem run)
-      → ent 𝓤 (onEntry 𝓤 H A f.signature (κ′, (κ, tt)) (q′, (q, tt)) (x ys) at) (WpFn 𝓤 H (𝓣 .C) (𝓣 .Λ) code.function (va ∷ v′ ∷ v₂ ∷ v₃ ∷ v ∷ []) Post)
+      → ent 𝓤 (onEntry 𝓤 H A f.signature (κ′, (κ, tt)) (q′, (q, tt)) (x ys) at) (WpFn 𝓤 H (𝓣 .C) (𝓣 .Λ) code.function (va ∷ v′ ∷ v₂ ∷ v₃ ∷ v₄ ∷ v ∷ []) Post)
   walk 𝓣 known₁ known₂ known₃ =
-      qed W ((‵ (flft κ′ q′) ⊛ (‵ (flft κ q) ⊛ ‵ ftrue)) ∷ ‵ (owns (Al.the-row ∷ ShrRef (named 0) κ′ Starts ∷ ShrRef (named 0) κ′ Starts ∷ ShrRef (named 0) κ′ Letters ∷ MutSlice (named 1) κ T.the-row ∷ []) (x ys) at) ∷ []) ∵ enter ! (𝓣 .C) (𝓣 .Λ) code.function (va ∷ v′ ∷ v₂ ∷ v₃ ∷ v ∷ []) _ $
-      alloc1 ! (λ l₀. alloc1 ! (λ l₁. alloc1 ! (λ l₂. alloc1 ! (λ k₁. alloc1 ! (λ k₂. alloc1 ! (λ l₃. alloc1 ! (λ l₄. alloc1 ! (λ l₅. alloc1 ! (λ l₆. alloc1 ! (λ l₇. alloc1 ! (λ l₈. alloc1 ! (λ l₉. alloc1 ! (λ m₀. alloc1 ! (λ m₁. alloc1 ! (λ m₂. alloc0 ! $ params1 ! $
-      pass1 ! (init ! 26 refl (LL.lawful Al.the-type Al′.the-laws 𝓤 H A W .typed al _ is-al .0)) $ pass1 ! (init ! 24 refl (tt, tt)) $ pass1 ! (init ! 22 refl (tt, tt)) $ pass1 ! (init ! 20 refl (tt, tt)) $ pass1 ! (init ! 18 refl (tt, (tt, (record { fits = room .0 }, tt)))) $ pass0 ! $
+      qed W ((‵ (flft κ′ q′) ⊛ (‵ (flft κ q) ⊛ ‵ ftrue)) ∷ ‵ (owns (Al.the-row ∷ ShrRef (named 0) κ′ Starts ∷ ShrRef (named 0) κ′ Starts ∷ ShrRef (named 0) κ′ Letters ∷ ShrRef (named 0) κ′ Exons ∷ MutSlice (named 1) κ T.the-row ∷ []) (x ys) at) ∷ []) ∵ enter ! (𝓣 .C) (𝓣 .Λ) code.function (va ∷ v′ ∷ v₂ ∷ v₃ ∷ v₄ ∷ v ∷ []) _ $
+      alloc1 ! (λ l₀. alloc1 ! (λ l₁. alloc1 ! (λ l₂. alloc1 ! (λ k₁. alloc1 ! (λ k₂. alloc1 ! (λ k₃. alloc1 ! (λ l₃. alloc1 ! (λ l₄. alloc1 ! (λ l₅. alloc1 ! (λ l₆. alloc1 ! (λ l₇. alloc1 ! (λ l₈. alloc1 ! (λ l₉. alloc1 ! (λ m₀. alloc1 ! (λ m₁. alloc1 ! (λ m₂. alloc0 ! $ params1 ! $
+      pass1 ! (init ! 28 refl (LL.lawful Al.the-type Al′.the-laws 𝓤 H A W .typed al _ is-al .0)) $ pass1 ! (init ! 26 refl (tt, tt)) $ pass1 ! (init ! 24 refl (tt, tt)) $ pass1 ! (init ! 22 refl (tt, tt)) $ pass1 ! (init ! 20 refl (tt, tt)) $ pass1 ! (init ! 18 refl (tt, (tt, (record { fits = room .0 }, tt)))) $ pass0 ! $
       assigns ! (of-opd ! (lit ! tt)) (from ! (stop !)) (init ! 16 refl (tt, record { fits = lit< tt })) $
       assigns ! (of-opd ! (lit ! tt)) (from ! (stop !)) (init ! 14 refl (tt, record { fits = lit< tt })) $
       rewrite ! 16 (λ (k : ℕ). ‵ (fat fullShare (tyInt w64) l₄ 0 (vint w64 k))) (index-begins track gs) refl $
-      move ! (31 ∷ []) $ fsplit ! $ move ! (1 ∷ []) $ fsplit ! $ move ! (1 ∷ []) $ fsplit ! $ move ! (1 ∷ []) $ fsplit ! $ move ! (1 ∷ []) $ fsplit ! $ fsplit ! $ move ! (1 ∷ []) $ fsplit ! $
-      -- [obs; the borrow; the slots' fact; true; O₃; O₂; O₁; al's; _14; …; _0; …; the tokens]
-      move ! (5 ∷ 4 ∷ []) $ fjoin ! $ move ! (5 ∷ 0 ∷ []) $ fjoin ! $
-      -- [what the tables own; obs; the borrow; the slots' fact; true; al's; _14; …; _0; …; the tokens]
-      move ! (36 ∷ []) $ split ! $ move ! (1 ∷ []) $ split ! $ move ! (4 ∷ 5 ∷ 0 ∷ []) $ opens-slice ! tt T.the-row ys b o $
-      -- [the row; the open borrow; obs; auth; true; the tables' token; what the tables own; the slots' fact; true; al's; _14; …; _0; …]
-      keep ! (0 ∷ 1 ∷ 2 ∷ 3 ∷ 6 ∷ 5 ∷ 10 ∷ 11 ∷ 12 ∷ 13 ∷ 14 ∷ 15 ∷ 16 ∷ 17 ∷ 18 ∷ 19 ∷ 20 ∷ 21 ∷ 22 ∷ 23 ∷ 24 ∷ 25 ∷ 26 ∷ 27 ∷ 28 ∷ 29 ∷ 30 ∷ 31 ∷ 32 ∷ 33 ∷ 34 ∷ 35 ∷ 36 ∷ 37 ∷ 38 ∷ 39 ∷ []) $
-      goes 𝓣 known₁ known₂ known₃ l₀ l₁ l₂ k₁ k₂ l₃ l₄ l₅ l₆ l₇ l₈ l₉ m₀ m₁ m₂)))))))))))))))
+      move ! (33 ∷ []) $ fsplit ! $ move ! (1 ∷ []) $ fsplit ! $ move ! (1 ∷ []) $ fsplit ! $ move ! (1 ∷ []) $ fsplit ! $ move ! (1 ∷ []) $ fsplit ! $ move ! (1 ∷ []) $ fsplit ! $ fsplit ! $ move ! (1 ∷ []) $ fsplit ! $
+      -- [obs; the borrow; the slots' fact; true; O₄; O₃; O₂; O₁; al's; _15; …; _0; …; the tokens]
+      move ! (5 ∷ 4 ∷ []) $ fjoin ! $ move ! (5 ∷ 0 ∷ []) $ fjoin ! $ move ! (5 ∷ 0 ∷ []) $ fjoin ! $
+      -- [what the tables own; obs; the borrow; the slots' fact; true; al's; _15; …; _0; …; the tokens]
+      move ! (38 ∷ []) $ split ! $ move ! (1 ∷ []) $ split ! $ move ! (4 ∷ 5 ∷ 0 ∷ []) $ opens-slice ! tt T.the-row ys b o $
+      -- [the row; the open borrow; obs; auth; true; the tables' token; what the tables own; the slots' fact; true; al's; _15; …; _0; …]
+      keep ! (0 ∷ 1 ∷ 2 ∷ 3 ∷ 6 ∷ 5 ∷ 10 ∷ 11 ∷ 12 ∷ 13 ∷ 14 ∷ 15 ∷ 16 ∷ 17 ∷ 18 ∷ 19 ∷ 20 ∷ 21 ∷ 22 ∷ 23 ∷ 24 ∷ 25 ∷ 26 ∷ 27 ∷ 28 ∷ 29 ∷ 30 ∷ 31 ∷ 32 ∷ 33 ∷ 34 ∷ 35 ∷ 36 ∷ 37 ∷ 38 ∷ 39 ∷ 40 ∷ 41 ∷ []) $
+      goes 𝓣 known₁ known₂ known₃ l₀ l₁ l₂ k₁ k₂ k₃ l₃ l₄ l₅ l₆ l₇ l₈ l₉ m₀ m₁ m₂))))))))))))))))
 
 module _ {M : Type 1} (𝓤 : URA M) (H : Heap 𝓤) (A : Atoms 𝓤) (W : Given 𝓤 H A) (mem : Memory → SProp 𝓤) (run : Routine → Fun 𝓤) (𝓣 : Tables 𝓤 H)
     (known₁ : Triple 𝓤 (𝓣 .C #step) (Step 𝓤 H A mem run)) (known₂ : Triple 𝓤 (𝓣 .C #answer-slot) (Answers 𝓤 H A mem run)) (known₃ : Triple 𝓤 (𝓣 .C #told) (Told 𝓤 H A mem run)) where
   fill-walks : Walks 𝓤 H A f.ended stayed (WpFn 𝓤 H (𝓣 .C) (𝓣 .Λ) code.function) (f.clauses 𝓤 H A mem run)
   fill-walks = walked 𝓤 H A f.ended stayed (f.clauses 𝓤 H A mem run) (WpFn 𝓤 H (𝓣 .C) (𝓣 .Λ) code.function)
-      (λ κs. (LL.vals Al.the-type Al′.the-laws, (ptr-vals, (ptr-vals, (ptr-vals, (slice-vals, tt)))))) (λ κs. (LL.tells Al.the-type Al′.the-laws, (shr-tells (named 0) (κs .0) Starts, (shr-tells (named 0) (κs .0) Starts, (shr-tells (named 0) (κs .0) Letters, (mut-slice-tells (named 1) (κs .1 .0) T.the-row, tt))))))
-      (λ κs qs bounds a g are. needs 𝓤 (Aligns (a .0) (tables-of (now (a .1 .0)) (now (a .1 .1 .0)) (now (a .1 .1 .1 .0))) × (neverFalls (positionsOf (now (a .1 .1 .1 .1 .0))) ≡ true)) _ (λ asks.
-      walk 𝓤 H A W mem run (κs .1 .0) (κs .0) (qs .1 .0) (qs .0) (a .1 .1 .1 .1 .0 .ptr .0) (a .1 .1 .1 .1 .0 .ptr .1) (a .1 .1 .1 .1 .0 .name) (a .1 .1 .1 .1 .0 .now) (a .1 .0) (a .1 .1 .0) (a .1 .1 .1 .0) (a .0) (are .1 .1 .1 .1 .0 .0 .1) (are .0) (asks .0) (asks .1) 𝓣 known₁ known₂ known₃))
+      (λ κs. (LL.vals Al.the-type Al′.the-laws, (ptr-vals, (ptr-vals, (ptr-vals, (ptr-vals, (slice-vals, tt))))))) (λ κs. (LL.tells Al.the-type Al′.the-laws, (shr-tells (named 0) (κs .0) Starts, (shr-tells (named 0) (κs .0) Starts, (shr-tells (named 0) (κs .0) Letters, (shr-tells (named 0) (κs .0) Exons, (mut-slice-tells (named 1) (κs .1 .0) T.the-row, tt)))))))
+      (λ κs qs bounds a g are. needs 𝓤 (Aligns (a .0) (tables-of (now (a .1 .0)) (now (a .1 .1 .0)) (now (a .1 .1 .1 .0))) × (neverFalls (positionsOf (now (a .1 .1 .1 .1 .1 .0))) ≡ true)) _ (λ asks.
+      walk 𝓤 H A W mem run (κs .1 .0) (κs .0) (qs .1 .0) (qs .0) (a .1 .1 .1 .1 .1 .0 .ptr .0) (a .1 .1 .1 .1 .1 .0 .ptr .1) (a .1 .1 .1 .1 .1 .0 .name) (a .1 .1 .1 .1 .1 .0 .now) (a .1 .0) (a .1 .1 .0) (a .1 .1 .1 .0) (a .1 .1 .1 .1 .0) (a .0) (are .1 .1 .1 .1 .1 .0 .0 .1) (are .0) (asks .0) (asks .1) 𝓣 known₁ known₂ known₃))
 
   fill-meets : Meets 𝓤 H A f.signature (WpFn 𝓤 H (𝓣 .C) (𝓣 .Λ) code.function) (f.spec 𝓤 H A mem run)
   fill-meets =
       walk-meets 𝓤 H A f.ended stayed W
-      (goes-none 𝓤 H A W 2 (λ _. Al.the-row) kept (λ κs x f. refl), (goes-none-ref 𝓤 H A W 2 (0 ∷ []) tt (plain (λ _. Starts)) kept, (goes-none-ref 𝓤 H A W 2 (0 ∷ []) tt (plain (λ _. Starts)) kept, (goes-none-ref 𝓤 H A W 2 (0 ∷ []) tt (plain (λ _. Letters)) kept, (goes-slice 𝓤 H A W 2 1 tt (plain (λ _. T.the-row)), tt)))))
+      (goes-none 𝓤 H A W 2 (λ _. Al.the-row) kept (λ κs x f. refl), (goes-none-ref 𝓤 H A W 2 (0 ∷ []) tt (plain (λ _. Starts)) kept, (goes-none-ref 𝓤 H A W 2 (0 ∷ []) tt (plain (λ _. Starts)) kept, (goes-none-ref 𝓤 H A W 2 (0 ∷ []) tt (plain (λ _. Letters)) kept, (goes-none-ref 𝓤 H A W 2 (0 ∷ []) tt (plain (λ _. Exons)) kept, (goes-slice 𝓤 H A W 2 1 tt (plain (λ _. T.the-row)), tt))))))
       (f.clauses 𝓤 H A mem run) (WpFn 𝓤 H (𝓣 .C) (𝓣 .Λ) code.function) (WpFn-mono 𝓤 H (W .laws) 𝓣 code.function) fill-walks
 
 pub fill-spec : {M : Type 1} → stated.statement M

@@ -1,0 +1,43 @@
+-- After each turn the bits are what `allBelow` says of the ends passed. Assumes nothing.
+use Prim.Native.Nat.{ℕ, _≤_, _-_}
+use mathlib.Core.Path.{_≡_, refl, _∙_}
+use borrow.Author.Needs.{needs}
+use Rattle.segments.specs.Tables.{allBelow}
+use Rattle.segments.specs.laws.Gathering.{all-none, all-more, all-done}
+use Rattle.together.specs.Steps.{within, endWithinAt}
+use Rattle.together.proofs.OneStep.{within-none}
+use Rattle.together.proofs.ends_of.Statement.{statement}
+use Rattle.together.proofs.ends_of.Tie as tie
+
+abbrev Inv-loop : tie.InvT-loop
+Inv-loop entries count bits₀ i₀ bits i = (i ≤ count) × ((k : ℕ) → within k bits ≡ allBelow (endWithinAt k entries) i)
+
+abbrev μ-loop : tie.MeasureT-loop
+μ-loop entries count bits₀ i₀ bits i = count - i
+
+loop-holds : tie.Need-loop-holds Inv-loop μ-loop
+loop-holds c = (search needs, λ k. within-none k ∙ all-none _)
+
+loop-again : tie.Need-loop-again Inv-loop μ-loop
+loop-again c =
+    let kept = c .before .before .before .loop .inv in
+    (search needs, λ k. c .with-bits .ensures k ∙ all-more _ _ (kept .1 k) refl)
+
+returns : tie.Need-returns Inv-loop μ-loop
+returns c = λ k. all-done _ _ _ (c .before .loop .inv .1 k) (c .before .loop .inv .0) (c .loop-test .left)
+
+pub ends-of-spec : {M : Type 1} → statement M
+ends-of-spec =
+    tie.close
+    (tie.spec
+    Inv-loop
+    μ-loop
+    loop-holds
+    (λ c. search needs)
+    (λ c. search needs)
+    (λ c. search needs)
+    (λ c κs. search needs)
+    (λ c. search needs)
+    (λ c. search needs)
+    loop-again
+    returns)

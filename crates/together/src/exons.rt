@@ -1,0 +1,146 @@
+// Whether the exon numbers of lent tables hold, which every question asks too. A step is taken as a difference that may wrap: where the numbers begin and end
+// as they are to and no step is above 1, none comes near to wrapping. So one pass that gathers how far steps are above what the letter lets them be
+// decides, with no early way out, and is vectorised. From which of two neighbours a step is taken is a matter of the strand: the loop is told by two numbers, 0 and 1.
+ghost use mathlib.Core.Path.{_≡_};
+ghost use mathlib.Core.Bool.{cond, _&&_};
+ghost use Prim.Native.Nat.{_+_, _-_, _≤_, _<_};
+ghost use lib.Dec.{eqb};
+ghost use Rattle.refusals.specs.Numbers.{mostSegments};
+ghost use Rattle.segments.specs.Tables.{allBelow};
+ghost use Rattle.segments.specs.Exons.{firstNumber, numbersHold};
+ghost use Rattle.together.specs.Steps.{from};
+ghost use Rattle.together.specs.Numbers.{mostAfter, stepped, steppedAt, endStepped};
+use refusals::MOST_SEGMENTS;
+
+// How far the number may step after a segment of the letter.
+fn most_after(letter: u8) -> u16
+    ensures { λ r. ⌜ r ≡ mostAfter letter ⌝ }
+{
+    if letter == b'N' { 1 } else { 0 }
+}
+
+// How far a step is above the most.
+fn above(step: u16, most: u16) -> u16
+    ensures { λ r. ⌜ r ≡ step - most ⌝ }
+{
+    if most < step { step - most } else { 0 }
+}
+
+// The bits of two numbers together.
+fn with_bits(a: u16, b: u16) -> u16
+    ensures { λ r. ⌜ eqb r 0 ≡ (eqb a 0 && eqb b 0) ⌝ }
+{
+    a | b
+}
+
+// What was found above, with one step more.
+fn step_on(wrong: u16, letter: u8, low: u16, high: u16) -> u16
+    ensures { λ r. ⌜ eqb r 0 ≡ (eqb wrong 0 && stepped letter low high) ⌝ }
+{
+    let step = std::num::wrapping_sub_u16(high, low);
+    let most = most_after(letter);
+    with_bits(wrong, above(step, most))
+}
+
+// What is above in the steps after the segments from one up to another.
+fn steps_in(
+    letters: &[u8; MOST_SEGMENTS],
+    exons: &[u16; MOST_SEGMENTS],
+    low: usize,
+    high: usize,
+    first: usize,
+    to: usize,
+) -> u16
+    requires { ⌜ (low ≤ 1) × (high ≤ 1) × (first ≤ to) × (to < mostSegments) ⌝ }
+    ensures { λ r. ⌜ eqb r 0 ≡ allBelow (from first (steppedAt (now (letters .entry)) (now (exons .entry)) low high)) to ⌝ }
+{
+    let mut wrong = 0;
+    let mut i = first;
+    while i < to {
+        wrong = step_on(wrong, letters[i], exons[i + low], exons[i + high]);
+        i += 1;
+    }
+    wrong
+}
+
+// What is above in so many steps from the first segment on. The compiler makes straight code of whole blocks, so the last block overlaps the others; from 8 to 15
+// steps two blocks of 8 do, and from 4 to 7 two of 4.
+fn steps_above(
+    letters: &[u8; MOST_SEGMENTS],
+    exons: &[u16; MOST_SEGMENTS],
+    low: usize,
+    high: usize,
+    to: usize,
+) -> u16
+    requires { ⌜ (low ≤ 1) × (high ≤ 1) × (to < mostSegments) ⌝ }
+    ensures { λ r. ⌜ eqb r 0 ≡ allBelow (steppedAt (now (letters .entry)) (now (exons .entry)) low high) to ⌝ }
+{
+    if to < 4 {
+        return steps_in(letters, exons, low, high, 0, to);
+    }
+    if to < 8 {
+        let front = steps_in(letters, exons, low, high, 0, 4);
+        let back = steps_in(letters, exons, low, high, to - 4, to);
+        return with_bits(front, back);
+    }
+    if to < 16 {
+        let front = steps_in(letters, exons, low, high, 0, 8);
+        let back = steps_in(letters, exons, low, high, to - 8, to);
+        return with_bits(front, back);
+    }
+    let front = steps_in(letters, exons, low, high, 0, to - to % 16);
+    let back = steps_in(letters, exons, low, high, to - 16, to);
+    with_bits(front, back)
+}
+
+// The neighbour from which a step is taken: the earlier one on strand 1.
+fn from_neighbour(forward: bool) -> usize
+    ensures { λ r. ⌜ (r ≡ cond forward 0 1) × (r ≤ 1) ⌝ }
+{
+    if forward { 0 } else { 1 }
+}
+
+// The neighbour to which it is taken.
+fn to_neighbour(forward: bool) -> usize
+    ensures { λ r. ⌜ (r ≡ cond forward 1 0) × (r ≤ 1) ⌝ }
+{
+    if forward { 1 } else { 0 }
+}
+
+// What the numbers are to begin with.
+fn first_number(forward: bool, records: u16) -> u16
+    ensures { λ r. ⌜ r ≡ firstNumber forward records ⌝ }
+{
+    if forward { 1 } else { records }
+}
+
+// What was found above, with the step to what stands behind the last segment.
+fn end_on(wrong: u16, letter: u8, number: u16, forward: bool, records: u16) -> u16
+    ensures { λ r. ⌜ eqb r 0 ≡ (eqb wrong 0 && endStepped forward records letter number) ⌝ }
+{
+    if forward {
+        return step_on(wrong, letter, number, records);
+    }
+    step_on(wrong, letter, 1, number)
+}
+
+// Whether the exon numbers of count segments hold.
+pub fn numbers_hold(
+    letters: &[u8; MOST_SEGMENTS],
+    exons: &[u16; MOST_SEGMENTS],
+    count: usize,
+    forward: bool,
+    records: u16,
+) -> bool
+    requires { ⌜ (1 ≤ count) × (count ≤ mostSegments) ⌝ }
+    ensures { λ r. ⌜ r ≡ numbersHold forward records (now (letters .entry)) (now (exons .entry)) count ⌝ }
+{
+    let last = count - 1;
+    let low = from_neighbour(forward);
+    let high = to_neighbour(forward);
+    let wrong = steps_above(letters, exons, low, high, last);
+    let end = end_on(wrong, letters[last], exons[last], forward, records);
+    let first = first_number(forward, records);
+    let number = exons[0];
+    (number == first) & (end == 0)
+}
