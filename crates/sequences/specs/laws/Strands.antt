@@ -9,6 +9,7 @@ use mathlib.Core.Path.{_≡_, refl, sym, ap, _∙_}
 use mathlib.Core.Bool.{Bool, true, false, cond}
 use mathlib.Core.List.{List, [], _∷_, _++_, map}
 use Prim.Native.Nat.{ℕ, zero, suc, _-_}
+use native.Mathlib.Nat.{sub-zero, zero-sub, suc-sub-suc}
 use native.Mathlib.Decide.{ℕ-discrete}
 use native.Mathlib.Omega.{arith}
 use lib.Dec.{ltb}
@@ -86,10 +87,10 @@ module _ (r a s : List ℕ) where
 -- ---- what changed
 
 drop-take : (p n : ℕ) (s : List ℕ) → drop p (take n s) ≡ take (n - p) (drop p s)
-drop-take zero n s = rw sub-zero
-drop-take (suc p) zero s = rw zero-sub
+drop-take zero n s = rw (sub-zero n)
+drop-take (suc p) zero s = rw (zero-sub (suc p))
 drop-take (suc p) (suc n) [] = sym (take-nil (suc n - suc p))
-drop-take (suc p) (suc n) (b ∷ s) = rw sub-suc (drop-take p n s)
+drop-take (suc p) (suc n) (b ∷ s) = rw (suc-sub-suc n p) (drop-take p n s)
 
 -- what is around a stretch goes at the back first, or at the front first
 back-first : (p q : ℕ) (s : List ℕ) → drop p (withoutLast s q) ≡ stretch s p (length s - q)

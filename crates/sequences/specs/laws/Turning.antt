@@ -119,7 +119,7 @@ module _ (s : List ℕ) (room : ℕ) where
   turning-back t = go (areBases s) refl (ltb room (length s)) refl
     where
       go : (x : Bool) → areBases s ≡ x → (y : Bool) → ltb room (length s) ≡ y
-        → cond (not x) (refused noBase) (cond y (refused noRoom) (answered (turned s))) ≡ answered t → turning t room ≡ answered s
+          → cond (not x) (refused noBase) (cond y (refused noRoom) (answered (turned s))) ≡ answered t → turning t room ≡ answered s
       go true ex false ey e = rw (sym (same e), turned-bases s, ex, turned-length s, ey, turned-twice s)
       go true ex true ey e = absurd (clash e)
       go false ex y ey e = absurd (clash e)
