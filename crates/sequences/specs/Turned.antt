@@ -6,7 +6,7 @@ use mathlib.Core.Bool.{Bool, true, not, _&&_, cond}
 use lib.Dec.{eqb, ltb}
 use lib.ListN.{length, drop}
 use Rattle.refusals.specs.Numbers.{noRoom, noBase}
-use Rattle.refusals.specs.Outcome.{Outcome, answered, refused}
+use Rattle.refusals.specs.Outcome.{Outcome, answered, refused, andThen}
 use Rattle.sequences.specs.Alleles.{prefixLen, suffixLen, withoutLast, stretch}
 
 -- ---- letters
@@ -73,12 +73,17 @@ changedBack r a = middleBack r a (cond (ltb (length r) (length a)) a r)
 
 -- ---- into a lent buffer
 
--- for a buffer of that many bytes: 34 where a letter is outside the list, then 20 where the allele is longer than the buffer
+-- the allele so read: 34 where a letter is outside the list, on either strand
+abbrev pub readOn : Bool → List ℕ → Outcome (List ℕ)
+readOn back allele = cond (areBases allele) (answered (onStrand back allele)) (refused noBase)
+
+-- a text for a buffer of that many bytes: 20 where it is longer
+abbrev pub fitting : ℕ → List ℕ → Outcome (List ℕ)
+fitting room text = cond (ltb room (length text)) (refused noRoom) (answered text)
+
+-- the turned allele for a buffer of that many bytes: 34, then 20
 unfoldable pub turning : List ℕ → ℕ → Outcome (List ℕ)
-turning allele room =
-    cond (not (areBases allele)) (refused noBase)
-    (cond (ltb room (length allele)) (refused noRoom)
-    (answered (turned allele)))
+turning allele room = andThen (readOn true allele) (fitting room)
 
 -- the buffer afterwards: the turned allele is at the front and the rest stays, and where it is refused all stays
 abbrev pub turnedInto : List ℕ → Outcome (List ℕ) → List ℕ

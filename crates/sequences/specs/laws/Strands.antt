@@ -14,7 +14,7 @@ use native.Mathlib.Decide.{ℕ-discrete}
 use native.Mathlib.Omega.{arith}
 use lib.Dec.{ltb}
 use lib.ListN.{length, take, drop, length-drop, take-append-drop}
-use lib.Seq.{take-at, drop-at, take-nil, drop-nil}
+use lib.Seq.{take-at, drop-at, take-nil}
 use borrow.Author.Tests.{eq-eqb, ne-eqb}
 use Rattle.sequences.specs.Alleles.{prefixLen, suffixLen, lastOf, withoutLast, stretch, bytesBefore, after, middle, changedOf}
 use Rattle.sequences.specs.Turned.{complement, turned, prefixAfter, middleBack, changedBack}

@@ -1,23 +1,24 @@
 -- What is shown of a turned allele, and of one that is turned into a lent buffer. It holds of all bytes, as a byte that is no base stays.
 --     turned-length, turned-twice, turned-bases    turning keeps the length and the judgment, and twice gives the allele back
 --     turned-append                                two parts change places
+--     bases-parts                                  the parts of an allele of bases are of bases
 --     turned-at                                    a letter of a turned allele
 --     on-strand-length                             an allele is as long on either strand
 --     turning-other, -long, -fits                  the three outcomes
 --     turning-back                                 what was written turns back to the allele
 -- Assumes nothing.
 use mathlib.Core.Path.{_≡_, refl, sym, ap, _∙_}
-use mathlib.Core.Bool.{Bool, true, false, not, cond, _&&_, and-assoc, and-comm, and-true}
+use mathlib.Core.Bool.{Bool, true, false, cond, _&&_, and-assoc, and-comm, and-true}
 use mathlib.Core.List.{List, [], _∷_, _++_, map, reverse, reverseAux, reverse-reverse, reverse-append}
 use Prim.Native.Nat.{ℕ, zero, suc, _≤_, _<_}
 use native.Mathlib.Omega.{arith}
 use lib.Dec.{ltb}
-use lib.ListN.{length, getD, length-reverse, length-map, List·getD-map}
+use lib.ListN.{length, getD, take, drop, take-append-drop, length-reverse, length-map, List·getD-map}
 use borrow.Author.Tests.{lt-ltb, le-ltb}
 use Rattle.refusals.specs.Numbers.{noRoom, noBase}
-use Rattle.refusals.specs.Outcome.{Outcome, answered, refused}
+use Rattle.refusals.specs.Outcome.{answered, refused, andThen}
 use Rattle.refusals.specs.laws.Outcomes.{clash, same}
-use Rattle.sequences.specs.Turned.{partnerIn, partner, isBase, complement, areBases, turned, onStrand, turning}
+use Rattle.sequences.specs.Turned.{partnerIn, partner, isBase, complement, areBases, turned, onStrand, fitting, turning}
 use Rattle.sequences.specs.laws.Letters.{each, complement-base, base-kept, complement-twice}
 
 -- ---- a turned allele
@@ -87,6 +88,14 @@ base-at [] i h l = absurd (omega arith)
 base-at (b ∷ s) zero h l = each (isBase b) (areBases s) h .0
 base-at (b ∷ s) (suc i) h l = base-at s i (each (isBase b) (areBases s) h .1) (omega arith)
 
+bases-append : (s t : List ℕ) → areBases (s ++ t) ≡ areBases s && areBases t
+unfolding areBases
+bases-append [] t = refl
+bases-append (b ∷ s) t = ap (λ (x : Bool). isBase b && x) (bases-append s t) ∙ sym (and-assoc (isBase b) (areBases s) (areBases t))
+
+pub bases-parts : (n : ℕ) (s : List ℕ) → areBases s ≡ true → (areBases (take n s) ≡ true) × (areBases (drop n s) ≡ true)
+bases-parts n s h = each (areBases (take n s)) (areBases (drop n s)) (sym (bases-append (take n s) (drop n s)) ∙ ap areBases (take-append-drop n s) ∙ h)
+
 -- 0, which stands for a letter past the end, is its own complement
 complement-at : (s : List ℕ) (i : ℕ) → getD (map complement s) i 0 ≡ complement (getD s i 0)
 unfolding isBase complement partner partnerIn
@@ -107,19 +116,21 @@ module _ (s : List ℕ) (room : ℕ) where
 
   pub turning-long : areBases s ≡ true → room < length s → turning s room ≡ refused noRoom
   unfolding turning
-  turning-long e h = rw (e, lt-ltb room (length s) h)
+  turning-long e h = rw (e, turned-length s, lt-ltb room (length s) h)
 
   pub turning-fits : areBases s ≡ true → length s ≤ room → turning s room ≡ answered (turned s)
   unfolding turning
-  turning-fits e h = rw (e, le-ltb room (length s) h)
+  turning-fits e h = rw (e, turned-length s, le-ltb room (length s) h)
 
   -- what was written, turned into a buffer of the same size
   pub turning-back : (t : List ℕ) → turning s room ≡ answered t → turning t room ≡ answered s
   unfolding turning
-  turning-back t = go (areBases s) refl (ltb room (length s)) refl
+  turning-back t = judged (areBases s) refl
     where
-      go : (x : Bool) → areBases s ≡ x → (y : Bool) → ltb room (length s) ≡ y
-          → cond (not x) (refused noBase) (cond y (refused noRoom) (answered (turned s))) ≡ answered t → turning t room ≡ answered s
-      go true ex false ey e = rw (sym (same e), turned-bases s, ex, turned-length s, ey, turned-twice s)
-      go true ex true ey e = absurd (clash e)
-      go false ex y ey e = absurd (clash e)
+      fitted : areBases s ≡ true → (y : Bool) → ltb room (length (turned s)) ≡ y → cond y (refused noRoom) (answered (turned s)) ≡ answered t → turning t room ≡ answered s
+      fitted ex false ey e = rw (sym (same e), turned-bases s, ex, turned-twice s, ← turned-length s, ey)
+      fitted ex true ey e = absurd (clash e)
+
+      judged : (x : Bool) → areBases s ≡ x → andThen (cond x (answered (turned s)) (refused noBase)) (fitting room) ≡ answered t → turning t room ≡ answered s
+      judged true ex e = fitted ex (ltb room (length (turned s))) refl e
+      judged false ex e = absurd (clash e)
