@@ -57,20 +57,6 @@ turned s = reverse (map complement s)
 abbrev pub onStrand : Bool → List ℕ → List ℕ
 onStrand back s = cond back (turned s) s
 
--- ---- the other order of trimming
-
--- suffix then prefix are removed, as the other strand does it that removes its prefix first: how many bytes go at the front
-abbrev pub prefixAfter : List ℕ → List ℕ → ℕ
-prefixAfter r a = prefixLen (withoutLast r (suffixLen r a)) (withoutLast a (suffixLen r a))
-
--- what remains of one of them
-abbrev pub middleBack : List ℕ → List ℕ → List ℕ → List ℕ
-middleBack r a s = stretch s (prefixAfter r a) (length s - suffixLen r a)
-
--- what remains of the longer allele, the reference's when lengths tie
-abbrev pub changedBack : List ℕ → List ℕ → List ℕ
-changedBack r a = middleBack r a (cond (ltb (length r) (length a)) a r)
-
 -- ---- into a lent buffer
 
 -- the allele so read: 34 where a letter is outside the list, on either strand
@@ -89,3 +75,17 @@ turning allele room = andThen (readOn true allele) (fitting room)
 abbrev pub turnedInto : List ℕ → Outcome (List ℕ) → List ℕ
 turnedInto buffer (answered text) = text ++ drop (length text) buffer
 turnedInto buffer (refused k) = buffer
+
+-- ---- the other order of trimming
+
+-- the suffix is removed and then the prefix, which is what goes where the alleles are turned first: how many bytes go at the front
+abbrev pub prefixAfter : List ℕ → List ℕ → ℕ
+prefixAfter r a = prefixLen (withoutLast r (suffixLen r a)) (withoutLast a (suffixLen r a))
+
+-- what remains of one of them
+abbrev pub middleBack : List ℕ → List ℕ → List ℕ → List ℕ
+middleBack r a s = stretch s (prefixAfter r a) (length s - suffixLen r a)
+
+-- what remains of the longer allele, the reference's when lengths tie
+abbrev pub changedBack : List ℕ → List ℕ → List ℕ
+changedBack r a = middleBack r a (cond (ltb (length r) (length a)) a r)

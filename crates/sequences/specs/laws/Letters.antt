@@ -4,17 +4,13 @@
 --     base-kept, complement-twice          the complement of a base is a base, and its complement is the letter again
 -- Assumes nothing.
 use mathlib.Core.Path.{_≡_, refl, sym, ap, _∙_}
-use mathlib.Core.Bool.{Bool, true, false, _&&_, true≢false, false≢true}
+use mathlib.Core.Bool.{Bool, true, false, _&&_, true≢false, and-eq-true-iff}
 use mathlib.Core.List.{List, [], _∷_}
 use Prim.Native.Nat.{ℕ}
 use native.Mathlib.Decide.{ℕ-discrete}
 use lib.Dec.{eqb}
 use borrow.Author.Tests.{eqb-true, ne-eqb, not-true}
 use Rattle.sequences.specs.Turned.{Pair, pairs, partnerIn, partner, isBase, complement}
-
-pub each : (p q : Bool) → p && q ≡ true → (p ≡ true) × (q ≡ true)
-each true q e = (refl, e)
-each false q e = absurd (false≢true e)
 
 -- a test that every letter of a table passes
 abbrev pub passes : (ℕ → Bool) → List Pair → Bool
@@ -25,8 +21,8 @@ every : (test : ℕ → Bool) (ps : List Pair) → passes test ps ≡ true → (
 unfolding partnerIn
 every test [] h b e = absurd (true≢false e)
 every test (p ∷ ps) h b e =
-    let h₁ = each (test (p .one)) (test (p .other) && passes test ps) h in
-    let h₂ = each (test (p .other)) (passes test ps) (h₁ .1) in
+    let h₁ = and-eq-true-iff (test (p .one)) (test (p .other) && passes test ps) .0 h in
+    let h₂ = and-eq-true-iff (test (p .other)) (passes test ps) .0 (h₁ .1) in
     elim (ℕ-discrete b (p .one)) [
       | yes u ↦ rw u (h₁ .0)
       | no n ↦

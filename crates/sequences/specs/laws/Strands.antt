@@ -2,6 +2,8 @@
 --     prefix-turned, suffix-turned         the common prefix before turning is as long as the common suffix after it, and the other way round
 --     first-turned, last-turned            so it is that suffix, or that prefix, turned
 --     rest-turned, front-turned            and what is left without it is turned too
+--     drop-turned, without-last-turned     as of any number of bytes
+--     before-turned, after-turned          how many bytes go at the front and then at the back, after turning
 --     middle-turned, changed-turned        prefix then suffix removed after turning are suffix then prefix removed before it
 --     either-order                         where both orders leave the same, what changed is turned
 -- Assumes nothing.

@@ -8,7 +8,7 @@
 --     turning-back                                 what was written turns back to the allele
 -- Assumes nothing.
 use mathlib.Core.Path.{_≡_, refl, sym, ap, _∙_}
-use mathlib.Core.Bool.{Bool, true, false, cond, _&&_, and-assoc, and-comm, and-true}
+use mathlib.Core.Bool.{Bool, true, false, cond, _&&_, and-assoc, and-comm, and-true, and-eq-true-iff}
 use mathlib.Core.List.{List, [], _∷_, _++_, map, reverse, reverseAux, reverse-reverse, reverse-append}
 use Prim.Native.Nat.{ℕ, zero, suc, _≤_, _<_}
 use native.Mathlib.Omega.{arith}
@@ -19,7 +19,7 @@ use Rattle.refusals.specs.Numbers.{noRoom, noBase}
 use Rattle.refusals.specs.Outcome.{answered, refused, andThen}
 use Rattle.refusals.specs.laws.Outcomes.{clash, same}
 use Rattle.sequences.specs.Turned.{partnerIn, partner, isBase, complement, areBases, turned, onStrand, fitting, turning}
-use Rattle.sequences.specs.laws.Letters.{each, complement-base, base-kept, complement-twice}
+use Rattle.sequences.specs.laws.Letters.{complement-base, base-kept, complement-twice}
 
 -- ---- a turned allele
 
@@ -85,8 +85,8 @@ turned-bases s = bases-reverse (map complement s) ∙ bases-map s
 base-at : (s : List ℕ) (i : ℕ) → areBases s ≡ true → i < length s → isBase (getD s i 0) ≡ true
 unfolding areBases
 base-at [] i h l = absurd (omega arith)
-base-at (b ∷ s) zero h l = each (isBase b) (areBases s) h .0
-base-at (b ∷ s) (suc i) h l = base-at s i (each (isBase b) (areBases s) h .1) (omega arith)
+base-at (b ∷ s) zero h l = and-eq-true-iff (isBase b) (areBases s) .0 h .0
+base-at (b ∷ s) (suc i) h l = base-at s i (and-eq-true-iff (isBase b) (areBases s) .0 h .1) (omega arith)
 
 bases-append : (s t : List ℕ) → areBases (s ++ t) ≡ areBases s && areBases t
 unfolding areBases
@@ -94,7 +94,7 @@ bases-append [] t = refl
 bases-append (b ∷ s) t = ap (λ (x : Bool). isBase b && x) (bases-append s t) ∙ sym (and-assoc (isBase b) (areBases s) (areBases t))
 
 pub bases-parts : (n : ℕ) (s : List ℕ) → areBases s ≡ true → (areBases (take n s) ≡ true) × (areBases (drop n s) ≡ true)
-bases-parts n s h = each (areBases (take n s)) (areBases (drop n s)) (sym (bases-append (take n s) (drop n s)) ∙ ap areBases (take-append-drop n s) ∙ h)
+bases-parts n s h = and-eq-true-iff (areBases (take n s)) (areBases (drop n s)) .0 (sym (bases-append (take n s) (drop n s)) ∙ ap areBases (take-append-drop n s) ∙ h)
 
 -- 0, which stands for a letter past the end, is its own complement
 complement-at : (s : List ℕ) (i : ℕ) → getD (map complement s) i 0 ≡ complement (getD s i 0)

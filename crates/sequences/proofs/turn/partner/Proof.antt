@@ -1,14 +1,14 @@
 -- Each arm of the `match` is a letter at which the definition computes, and what no arm takes is in no pair.
 -- Assumes nothing.
 use mathlib.Core.Path.{_≡_, refl, sym, _∙_}
-use mathlib.Core.Bool.{Bool, true, false, _&&_, _||_, false≢true}
+use mathlib.Core.Bool.{Bool, true, false, _&&_, _||_, false≢true, and-eq-true-iff}
 use mathlib.Core.List.{List, [], _∷_}
 use Prim.Native.Nat.{ℕ}
 use native.Mathlib.Decide.{ℕ-discrete}
 use lib.Dec.{eqb}
 use borrow.Author.Tests.{ne-eqb}
 use Rattle.sequences.specs.Turned.{Pair, pairs, partnerIn, partner}
-use Rattle.sequences.specs.laws.Letters.{each, passes}
+use Rattle.sequences.specs.laws.Letters.{passes}
 use Rattle.sequences.proofs.turn.partner.Statement.{statement}
 use Rattle.sequences.proofs.turn.partner.Tie as tie
 
@@ -39,8 +39,8 @@ unpaired : (b : ℕ) (xs : List ℕ) → Differs b xs → (ps : List Pair) → p
 unfolding partnerIn
 unpaired b xs n [] h = refl
 unpaired b xs n (p ∷ ps) h =
-    let one = each (has xs (p .one)) (has xs (p .other) && passes (has xs) ps) h in
-    let other = each (has xs (p .other)) (passes (has xs) ps) (one .1) in
+    let one = and-eq-true-iff (has xs (p .one)) (has xs (p .other) && passes (has xs) ps) .0 h in
+    let other = and-eq-true-iff (has xs (p .other)) (passes (has xs) ps) .0 (one .1) in
     rw (ne-eqb b (p .one) (differs b xs n (p .one) (one .0)), ne-eqb b (p .other) (differs b xs n (p .other) (other .0)))
     (unpaired b xs n ps (other .1))
 
