@@ -5,6 +5,7 @@ ghost use lib.ListN.{length, getD};
 ghost use Rattle.sequences.specs.Alleles.{prefixLen, suffixLen, along, changedPart};
 ghost use Rattle.sequences.specs.Slices.{sliceOf, partBetween, restOf, frontOf, partOf};
 
+pub mod strand;
 pub mod turn;
 
 // The i-th byte from the back, or from the front.

@@ -20,6 +20,7 @@ use lib.Seq.{take-at, drop-at, take-nil}
 use borrow.Author.Tests.{eq-eqb, ne-eqb}
 use Rattle.sequences.specs.Alleles.{prefixLen, suffixLen, lastOf, withoutLast, stretch, bytesBefore, after, middle, changedOf}
 use Rattle.sequences.specs.Turned.{complement, turned, prefixAfter, middleBack, changedBack}
+use Rattle.sequences.specs.laws.Parts.{front-first}
 use Rattle.sequences.specs.laws.Letters.{complement-twice}
 use Rattle.sequences.specs.laws.Turning.{turned-length, reverse-turned, turned-twice, turned-append}
 
@@ -94,14 +95,11 @@ drop-take (suc p) zero s = rw (zero-sub (suc p))
 drop-take (suc p) (suc n) [] = sym (take-nil (suc n - suc p))
 drop-take (suc p) (suc n) (b ∷ s) = rw (suc-sub-suc n p) (drop-take p n s)
 
--- what is around a stretch goes at the back first, or at the front first
+-- what is around a stretch may go at the back first
 back-first : (p q : ℕ) (s : List ℕ) → drop p (withoutLast s q) ≡ stretch s p (length s - q)
 back-first p q s = drop-take p (length s - q) s
 
-front-first : (p q : ℕ) (s : List ℕ) → withoutLast (drop p s) q ≡ stretch s p (length s - q)
-front-first p q s = ap (λ (n : ℕ). take n (drop p s)) (let h : length (drop p s) - q ≡ length s - q - p = omega (arith, length-drop p s) in h)
-
-stretch-turned : (p q : ℕ) (s : List ℕ) → stretch (turned s) q (length (turned s) - p) ≡ turned (stretch s p (length s - q))
+pub stretch-turned : (p q : ℕ) (s : List ℕ) → stretch (turned s) q (length (turned s) - p) ≡ turned (stretch s p (length s - q))
 stretch-turned p q s =
     sym (front-first q p (turned s))
     ∙ ap (λ (t : List ℕ). withoutLast t p) (sym (without-last-turned q s))
