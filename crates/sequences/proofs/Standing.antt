@@ -4,7 +4,7 @@
 --     after-rests      the bytes that go at the back of two alleles are counted in what is left of them behind their common prefix
 --     prefix-fronts    and those that go at their front, where the suffix is removed first, in what is left of them before it
 -- Assumes nothing.
-use mathlib.Core.Path.{_≡_, refl, sym, ap, _∙_}
+use mathlib.Core.Path.{_≡_, refl, ap}
 use mathlib.Core.Bool.{Bool, true, false, cond}
 use mathlib.Core.List.{List, [], _∷_}
 use Prim.Native.Nat.{ℕ}

@@ -1,5 +1,4 @@
 -- `alleles::first_refusal` meets its contract: the tests stand in the order of the refusals. Assumes nothing.
-use Prim.Native.Nat.{ℕ}
 use borrow.Author.Tests.{eq-eqb, ne-eqb}
 use Rattle.refusals.specs.Numbers.{notTogether}
 use Rattle.alleles.proofs.first_refusal.Statement.{statement}

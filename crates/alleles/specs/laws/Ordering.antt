@@ -16,8 +16,7 @@ use Rattle.refusals.specs.Outcome.{Outcome, answered, refused, Answered, number
 use Rattle.refusals.specs.Refusing.{oneOf, Only}
 use Rattle.whole.specs.Whole.{if_then_else_}
 use Rattle.whole.specs.laws.Whole.{by-test}
-use Rattle.transcript.specs.Transcript.{Source}
-use Rattle.holding.specs.Holding.{ofRecords, isForward, Lent, holds, sourceOf, checked}
+use Rattle.holding.specs.Holding.{ofRecords, Lent, holds, sourceOf, checked}
 use Rattle.holding.specs.laws.Held.{source-of-records, source-of-length, checked-held, checked-broken}
 use Rattle.positions.specs.Positions.{Interval, GAsked, CPosition}
 use Rattle.positions.specs.Answers.{Answer}

@@ -1,8 +1,8 @@
 -- Which refusals the plain mapping gives once 23 is settled: neither 23 nor 0. Assumes nothing.
 use Prim.Native.Nat.{ℕ}
-use mathlib.Core.Bool.{Bool, true, false}
+use mathlib.Core.Bool.{Bool}
 use mathlib.Core.List.{List, [], _∷_}
-use mathlib.Core.Path.{_≡_, refl}
+use mathlib.Core.Path.{refl}
 use Rattle.refusals.specs.Numbers.{notCoding, outside, nOutside, tooWide, noGenome, missingEnd}
 use Rattle.refusals.specs.Refusing.{Only}
 use Rattle.refusals.specs.laws.Refusing.{only-then}

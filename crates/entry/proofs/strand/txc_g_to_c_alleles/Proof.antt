@@ -1,5 +1,5 @@
 -- `entry::strand::txc_g_to_c_alleles` meets its contract: `g_asked` and `head_of` read what is handed over, and `join` answers. Assumes nothing.
-use mathlib.Core.Path.{_≡_, ap, ap₂, _∙_}
+use mathlib.Core.Path.{ap, ap₂, _∙_}
 use lib.ListN.{length}
 use Rattle.whole.specs.laws.Whole.{read}
 use Rattle.transcript.specs.declared.Head.{Head}

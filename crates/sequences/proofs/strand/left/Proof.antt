@@ -1,6 +1,6 @@
 -- The strand says at which end of the allele what goes first stands.
 -- Assumes nothing.
-use mathlib.Core.Path.{_≡_, ap, _∙_}
+use mathlib.Core.Path.{ap, _∙_}
 use Rattle.sequences.specs.Slices.{Slice, frontOf}
 use borrow.Author.Needs.{needs}
 use Rattle.sequences.proofs.strand.left.Statement.{statement}
