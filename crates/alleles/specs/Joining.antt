@@ -69,7 +69,7 @@ beside t i = record { interval = i; trimmed = t }
 abbrev pub joinedWith : Bool → Alleles → Rooms → Answer CPosition → Outcome Joining
 joinedWith back s room plain = andThen (andThen (readBoth back s) (λ (read : Alleles). fittingBoth room (trimmed read))) (λ (t : Trimmed). through (beside t) plain)
 
--- whether a transcript reads its genome backwards. One that is known by its length has no strand: it is read as on strand 1, up to its 18
+-- whether a transcript reads its genome backwards. One that is known by its length has no strand and comes to 18: until then it is read as on strand 1, and as much of two alleles goes on either, so that 20 is the same
 abbrev pub readsBack : Source → Bool
 readsBack (aligned t) = not (t .forward)
 readsBack (lengthOnly n c) = false

@@ -83,7 +83,7 @@ module _ (c : tie.After-first-refusal) where
   found =
       c .first-refusal .ensures
       ∙ ap (λ (n : ℕ). firstRefusal n (c .before .before .before .are-both-bases .result) (c .before .before .have-room .result)) (c .before .number-of .ensures ∙ ap numberOf asked)
-      ∙ ap₂ (firstRefusal (numberOf (plain))) (c .before .before .before .are-both-bases .ensures)
+      ∙ ap₂ (firstRefusal (numberOf plain)) (c .before .before .before .are-both-bases .ensures)
       (c .before .before .have-room .ensures ∙ ap₂ (λ (m n : ℕ). enough (room .reference) m && enough (room .alternative) n) reference-long alternative-long)
 
 -- where the tests passed
