@@ -9,8 +9,8 @@ use lib.IntN.{ℤ, pos, negsuc, natAbs}
 use lib.ListN.{length, drop, getD}
 use lib.Signed.{ltZ}
 use borrow.Author.Tests.{eqb-true, ltb-true}
-use Rattle.refusals.specs.Numbers.{noRecords, noStrand, tooMuch, badBound, badOrd, notAdjacent, noElement, badCount, tooLong, noSegment, halfCds, badCds, noRoom, noCard, notTogether, noOperation, notSpanning, mostWordCount, mostCount, mostSegments, mostText, mostRecords, mostBases, mostCard}
-use Rattle.refusals.specs.Outcome.{Outcome, answered, refused, unless}
+use Rattle.refusals.specs.Numbers.{noRecords, noStrand, tooMuch, badBound, badOrd, notAdjacent, noElement, badCount, tooLong, noSegment, halfCds, badCds, noRoom, noCard, notTogether, noOperation, notSpanning, noBase, mostWordCount, mostCount, mostSegments, mostText, mostRecords, mostBases, mostCard}
+use Rattle.refusals.specs.Outcome.{Outcome, answered, refused, andThen, unless}
 use Rattle.refusals.specs.Refusing.{oneOf, Only}
 use Rattle.refusals.specs.laws.Refusing.{only-through, only-both, only-then}
 use Rattle.whole.specs.Whole.{if_then_else_, eqZ}
@@ -39,7 +39,13 @@ use Rattle.card.specs.laws.RoundTrips.{IsCard, read-means}
 use Rattle.card.specs.declared.ReadCard.{ReadCard}
 use Rattle.card.specs.declared.ReadCard.the-variants as read
 use Rattle.worklist.specs.laws.Refusing.{worklist-refuses}
-use Rattle.promises.specs.Refusals.{Refusals, readingRefusals, writingRefusals, readingWordsRefusals, writingWordsRefusals, recordsRefusals, buildingRefusals, cardRefusals, lengthRefusals, cardWritingRefusals}
+use Rattle.holding.specs.Holding.{Lent, holds, sourceOf, checked}
+use Rattle.positions.specs.Positions.{Interval, GAsked}
+use Rattle.mapper.specs.Asking.{askGToC}
+use Rattle.sequences.specs.Turned.{areBases, onStrand, readOn, fitting, turning}
+use Rattle.alleles.specs.Joining.{Alleles, alleles, Rooms, readBoth, Trimmed, trimmed, fittingBoth, beside, readsBack, askJoined, joined}
+use Rattle.alleles.specs.laws.Refusing.{plainRefusals, plain-only}
+use Rattle.promises.specs.Refusals.{Refusals, readingRefusals, writingRefusals, readingWordsRefusals, writingWordsRefusals, recordsRefusals, buildingRefusals, cardRefusals, lengthRefusals, cardWritingRefusals, turningRefusals, joiningRefusals}
 
 -- ---- rows
 
@@ -329,6 +335,33 @@ card-writing-only n bytes room = go (judge n bytes) (judge-only n bytes)
         let text = cardText (inputOf n bytes) in
         only-unless cardWritingRefusals (ltb mostCard (length text)) tooMuch _ (only-unless cardWritingRefusals (ltb room (length text)) noRoom _ (done text) (λ e. refl)) (λ e. refl)
 
+-- ---- alleles
+
+read-only : (ks : List ℕ) → oneOf noBase ks ≡ true → (back : Bool) (s : List ℕ) → Only ks (readOn back s)
+read-only ks h back s = only-if ks (areBases s) noBase (answered (onStrand back s)) (done _) (λ e. h)
+
+fitting-only : (ks : List ℕ) → oneOf noRoom ks ≡ true → (room : ℕ) (s : List ℕ) → Only ks (fitting room s)
+fitting-only ks h room s = only-unless ks (ltb room (length s)) noRoom (answered s) (done _) (λ e. h)
+
+turning-only : (allele : List ℕ) (room : ℕ) → Only turningRefusals (turning allele room)
+unfolding turning
+turning-only allele room = only-then turningRefusals (readOn true allele) (fitting room) (read-only turningRefusals refl true allele) (λ s e. fitting-only turningRefusals refl room s)
+
+abbrev J : List ℕ
+J = joiningRefusals
+
+join-only : (x : Lent) (strict : Bool) (q : Interval GAsked) (s : Alleles) (room : Rooms) → Only joiningRefusals (joined x strict q s room)
+unfolding checked askJoined
+join-only x strict q s room =
+    let back = readsBack (sourceOf x) in
+    let plain = askGToC strict q (sourceOf x) in
+    only-if J (holds x) notTogether _
+    (only-then J (andThen (readBoth back s) (λ (read : Alleles). fittingBoth room (trimmed read))) _
+    (only-then J (readBoth back s) _ (only-both J alleles _ _ (read-only J refl back (s .reference)) (read-only J refl back (s .alternative)))
+    (λ read e. only-both J _ _ _ (fitting-only J refl (room .reference) _) (fitting-only J refl (room .alternative) _)))
+    (λ t e. only-through J (beside t) plain (wider plainRefusals J plain refl (plain-only strict q (sourceOf x)))))
+    (λ e. refl)
+
 pub refusals : Refusals
 refusals = record {
   read-cigar = text-only;
@@ -340,4 +373,6 @@ refusals = record {
   build-length = length-only;
   write-card = card-writing-only;
   worklist = worklist-refuses;
+  turn = turning-only;
+  join = join-only;
 }
