@@ -54,6 +54,31 @@ fn from_records_to_the_table_of_places() {
 }
 
 #[test]
+fn from_records_to_variants() {
+    let text = "strand -1\ncds 3 15\nexon 10 20 8 18 1 10M\nexon 25 33 0 8 0 8M\n";
+    let card = PathBuf::from(env!("CARGO_TARGET_TMPDIR")).join("variants.card");
+    assert!(run(&["card", "-o", card.to_str().unwrap()], text).status.success());
+    let lines = "g.23A>G\ng.22_23del\ng.22_23delinsTT\ng.23_24insC\ng.12_14CAC>C\ng.23A>U\n";
+    let mapped = run(&["map", card.to_str().unwrap()], lines);
+    assert!(mapped.status.success());
+    let output = String::from_utf8(mapped.stdout).unwrap();
+    let refused = "refused 34: an allele with a letter outside the nucleotide list; place 7 of the line has `U`";
+    assert_eq!(
+        output.lines().collect::<Vec<_>>(),
+        [
+            "g.23A>G         intron 1        n.8+3           c.5+3T>C",
+            "g.22_23del      intron 1        n.8+3_9-2       c.5+3_6-2del",
+            "g.22_23delinsTT intron 1        n.8+3_9-2       c.5+3_6-2delinsAA",
+            "g.23_24insC     intron 1        n.8+2_8+3       c.5+2_5+3insG",
+            "g.12_14CAC>C    exon 2          n.15_17         c.12_*2GTG>G    removed: G in front; left: TG, nothing",
+            &format!("g.23A>U         intron 1        n.8+3           {refused}"),
+        ]
+    );
+    let help = String::from_utf8(run(&["map", "--help"], "").stdout).unwrap();
+    assert!(help.contains("Nothing is normalized"));
+}
+
+#[test]
 fn what_goes_wrong_is_said() {
     let card = card_of_a("wrong.card");
     let mapped = run(&["map", card.to_str().unwrap()], "g 11\nnonsense\ng 12\n");
