@@ -12,12 +12,16 @@ fn demo(name: &str) -> PathBuf {
     PathBuf::from(env!("CARGO_MANIFEST_DIR")).join("../demo").join(name)
 }
 
-/// Writes transcript A's card to a file of its own.
-fn card_of_a(name: &str) -> PathBuf {
+/// Writes the card of a text of records to a file of its own.
+fn card_of(text: &str, name: &str) -> PathBuf {
     let card = PathBuf::from(env!("CARGO_TARGET_TMPDIR")).join(name);
-    let written = run(&["card", demo("a.txt").to_str().unwrap(), "-o", card.to_str().unwrap()], "");
+    let written = run(&["card", demo(text).to_str().unwrap(), "-o", card.to_str().unwrap()], "");
     assert!(written.status.success(), "{}", String::from_utf8_lossy(&written.stderr));
     card
+}
+
+fn card_of_a(name: &str) -> PathBuf {
+    card_of("a.txt", name)
 }
 
 #[test]
@@ -55,11 +59,8 @@ fn from_records_to_the_table_of_places() {
 
 #[test]
 fn from_records_to_variants() {
-    let text = "strand -1\ncds 3 15\nexon 10 20 8 18 1 10M\nexon 25 33 0 8 0 8M\n";
-    let card = PathBuf::from(env!("CARGO_TARGET_TMPDIR")).join("variants.card");
-    assert!(run(&["card", "-o", card.to_str().unwrap()], text).status.success());
-    let lines = "g.23A>G\ng.22_23del\ng.22_23delinsTT\ng.23_24insC\ng.12_14CAC>C\ng.23A>U\n";
-    let mapped = run(&["map", card.to_str().unwrap()], lines);
+    let card = card_of("b.txt", "variants.card");
+    let mapped = run(&["map", card.to_str().unwrap()], &fs::read_to_string(demo("variants.txt")).unwrap());
     assert!(mapped.status.success());
     let output = String::from_utf8(mapped.stdout).unwrap();
     let refused = "refused 34: an allele with a letter outside the nucleotide list; place 7 of the line has `U`";
