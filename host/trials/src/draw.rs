@@ -542,7 +542,8 @@ fn other_letter<R: Rng>(rng: &mut R) -> u8 {
 
 /// So many letters of the nucleotide list at most: any of them, or of two alone, so that alleles share some.
 fn letters<R: Rng>(rng: &mut R, most: usize) -> Vec<u8> {
-    let list: &[u8] = *[&b"AC"[..], b"AT", b"aA", b"ACGTRYKMBDHVSWNacgtrykmbdhvswn"].choose(rng).expect("not empty");
+    let lists = [&b"AC"[..], b"AT", b"aA", b"ACGTRYKMBDHVSWNacgtrykmbdhvswn"];
+    let list = lists.choose(rng).expect("not empty");
     (0..rng.gen_range(0..=most)).map(|_| *list.choose(rng).expect("not empty")).collect()
 }
 
