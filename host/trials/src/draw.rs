@@ -523,6 +523,11 @@ pub fn question<R: Rng>(rng: &mut R, source: &Source) -> Question {
     if kind == Kind::IsCoding {
         return Question { kind, start: Asked::default(), end: Asked::default(), missing: 0, strict: false };
     }
+    question_of(rng, kind, source)
+}
+
+/// A question of a kind that is about an interval, to a transcript.
+pub fn question_of<R: Rng>(rng: &mut R, kind: Kind, source: &Source) -> Question {
     let start = asked(rng, kind, source);
     let end = if rng.gen() { start } else { asked(rng, kind, source) };
     let missing = if kind.is_about_g() && rng.gen_ratio(1, 50) { rng.gen_range(1..4) } else { 0 };
@@ -576,12 +581,4 @@ pub fn alleles<R: Rng>(rng: &mut R) -> ([Vec<u8>; 2], [usize; 2]) {
     let rooms = [0, 1].map(|index| room(rng, both[index].len() - common));
     both.iter_mut().for_each(|allele| spoil_letter(rng, allele));
     (both, rooms)
-}
-
-/// A g. interval to a transcript, and whether bounds are strict.
-pub fn g<R: Rng>(rng: &mut R, source: &Source) -> Question {
-    let start = asked(rng, Kind::GToC, source);
-    let end = if rng.gen() { start } else { asked(rng, Kind::GToC, source) };
-    let missing = if rng.gen_ratio(1, 50) { rng.gen_range(1..4) } else { 0 };
-    Question { kind: Kind::GToC, start, end, missing, strict: rng.gen() }
 }

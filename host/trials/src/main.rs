@@ -14,7 +14,7 @@ use rand_xorshift::XorShiftRng;
 use trials::{
     draw::{self, Case},
     paper::{self, Both, Source, CARD_HEAD},
-    Lent, Question,
+    Kind, Lent, Question,
 };
 
 /// Tries the boundary with bad input.
@@ -211,7 +211,7 @@ impl Trial {
         }
         let positions = draw::worklist(&mut self.rng, &self.source);
         self.judge_worklist(&positions, source.as_ref());
-        let question = draw::g(&mut self.rng, &self.source);
+        let question = draw::question_of(&mut self.rng, Kind::GToC, &self.source);
         self.judge_join(&question, source.as_ref());
         self.before = whole.clone();
         self.lent = whole;
@@ -385,7 +385,7 @@ impl Trial {
     fn join(&mut self) {
         let source = self.lent.source();
         for _ in 0..6 {
-            let question = draw::g(&mut self.rng, source.as_ref().unwrap_or(&self.source));
+            let question = draw::question_of(&mut self.rng, Kind::GToC, source.as_ref().unwrap_or(&self.source));
             self.judge_join(&question, source.as_ref());
         }
     }
