@@ -478,6 +478,25 @@ mod tests {
         assert_eq!(lines[2], "g.?del          refused 19: g. start or end missing");
     }
 
+    /// Every line that is asked gives one row or one complaint, whatever stands on it.
+    #[test]
+    fn any_line_is_answered_or_named() {
+        let pieces =
+            ["g", "g.", "g ", "c.", "1", "23", "_", "-", "?", "+", "A", "c", "N", "U", "é", ">", "del", "ins", " "];
+        let mut rng = XorShiftRng::seed_from_u64(6);
+        for transcript in [transcript(1), transcript(-1), Transcript::of_length(18, Some(3), Some(15)).unwrap()] {
+            for _ in 0..20_000 {
+                let start = if rng.gen_ratio(3, 4) { "g.23" } else { "" };
+                let rest: String = (0..rng.gen_range(1..8)).map(|_| *pieces.choose(&mut rng).unwrap()).collect();
+                let line = format!("{start}{rest}");
+                let (done, output, complaints) = map_of(&transcript, Bounds::Strict, line.as_bytes());
+                let is_asked = usize::from(!line.trim().is_empty());
+                assert_eq!(output.lines().count() + complaints.lines().count(), is_asked, "{line}");
+                assert_eq!(done, complaints.is_empty(), "{line}");
+            }
+        }
+    }
+
     #[test]
     fn what_is_no_variant_is_named() {
         let neighbours = "an insertion stands between two neighbouring bases, as in g.23_24insC";
