@@ -87,11 +87,8 @@ fn row(transcript: &Transcript, asked: &Asked, bounds: Bounds, at_hand: Option<N
         Asked::Variant(ref variant) => {
             let n = transcript.g_to_n(variant.g, bounds);
             let ends = n.ok().and_then(|n| ends_of_n(n.interval()));
-            let c = variant.on(transcript, bounds).map(|(name, removed)| {
-                note = removed;
-                name
-            });
-            let c = c.unwrap_or_else(|refusal| refusal);
+            let (c, removed) = variant.on(transcript, bounds).unwrap_or_else(|refusal| (refusal, None));
+            note = removed;
             // Where the n. interval is refused, the refusal of the c. interval is that one or comes before it.
             (variant.to_string(), ends, [n.map_or_else(|_| c.clone(), |n| n.to_string()), c])
         }
