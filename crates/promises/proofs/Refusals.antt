@@ -1,7 +1,7 @@
 -- The table of refusals holds: each judgment is a chain of tests, and a test gives one number of its row or lets the rest decide. Assumes nothing.
 use Prim.Native.Nat.{ℕ, zero, suc, _+_, _-_, _*_, min}
 use native.Mathlib.Omega.{arith}
-use mathlib.Core.Bool.{Bool, true, false, not, _&&_, false≢true}
+use mathlib.Core.Bool.{Bool, true, false, cond, not, _&&_, false≢true}
 use mathlib.Core.List.{List, [], _∷_}
 use mathlib.Core.Path.{_≡_, refl}
 use lib.Dec.{eqb, ltb}
@@ -337,15 +337,23 @@ card-writing-only n bytes room = go (judge n bytes) (judge-only n bytes)
 
 -- ---- alleles
 
-read-only : (ks : List ℕ) → oneOf noBase ks ≡ true → (back : Bool) (s : List ℕ) → Only ks (readOn back s)
-read-only ks h back s = only-if ks (areBases s) noBase (answered (onStrand back s)) (done _) (λ e. h)
+letters-only : (ks : List ℕ) → oneOf noBase ks ≡ true → (back : Bool) (s : List ℕ) → Only ks (readOn back s)
+letters-only ks h back s = go (areBases s)
+  where
+    go : (t : Bool) → Only ks (cond t (answered (onStrand back s)) (refused noBase))
+    go true = done _
+    go false = record { only = h }
 
-fitting-only : (ks : List ℕ) → oneOf noRoom ks ≡ true → (room : ℕ) (s : List ℕ) → Only ks (fitting room s)
-fitting-only ks h room s = only-unless ks (ltb room (length s)) noRoom (answered s) (done _) (λ e. h)
+room-only : (ks : List ℕ) → oneOf noRoom ks ≡ true → (room : ℕ) (s : List ℕ) → Only ks (fitting room s)
+room-only ks h room s = go (ltb room (length s))
+  where
+    go : (t : Bool) → Only ks (cond t (refused noRoom) (answered s))
+    go true = record { only = h }
+    go false = done _
 
 turning-only : (allele : List ℕ) (room : ℕ) → Only turningRefusals (turning allele room)
 unfolding turning
-turning-only allele room = only-then turningRefusals (readOn true allele) (fitting room) (read-only turningRefusals refl true allele) (λ s e. fitting-only turningRefusals refl room s)
+turning-only allele room = only-then turningRefusals (readOn true allele) (fitting room) (letters-only turningRefusals refl true allele) (λ s e. room-only turningRefusals refl room s)
 
 abbrev J : List ℕ
 J = joiningRefusals
@@ -357,8 +365,10 @@ join-only x strict q s room =
     let plain = askGToC strict q (sourceOf x) in
     only-if J (holds x) notTogether _
     (only-then J (andThen (readBoth back s) (λ (read : Alleles). fittingBoth room (trimmed read))) _
-    (only-then J (readBoth back s) _ (only-both J alleles _ _ (read-only J refl back (s .reference)) (read-only J refl back (s .alternative)))
-    (λ read e. only-both J _ _ _ (fitting-only J refl (room .reference) _) (fitting-only J refl (room .alternative) _)))
+    (only-then J (readBoth back s) _ (only-both J alleles _ _ (letters-only J refl back (s .reference)) (letters-only J refl back (s .alternative)))
+    (λ read e.
+    let t = trimmed read in
+    only-both J (λ (r a : List ℕ). t) _ _ (room-only J refl (room .reference) (t .left .reference)) (room-only J refl (room .alternative) (t .left .alternative))))
     (λ t e. only-through J (beside t) plain (wider plainRefusals J plain refl (plain-only strict q (sourceOf x)))))
     (λ e. refl)
 
