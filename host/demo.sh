@@ -1,5 +1,6 @@
 #!/bin/sh
-# Proves the entries, builds the command line over them, and maps the places P1 to P9 of document 01 on transcript A.
+# Proves the entries, builds the command line over them, maps the places P1 to P9 of document 01 on transcript A, and variants on B, which is A
+# on strand -1.
 set -eu
 cd "$(dirname "$0")/.."
 [ -n "${TXC_ARCHIVE:-}" ] || rt staticlib entry
@@ -20,3 +21,6 @@ echo "its places:"
 $emulator $programs/pulindraxi map "$card" <demo/places.txt
 echo "and with lenient bounds:"
 echo g 10 | $emulator $programs/pulindraxi map --lenient "$card"
+$emulator $programs/pulindraxi card demo/b.txt --output "$card"
+echo "variants on transcript B:"
+$emulator $programs/pulindraxi map "$card" <demo/variants.txt

@@ -1,6 +1,7 @@
-//! What two alleles have in common, and what remains of them. Any bytes will do.
+//! What two alleles have in common, what remains of them, and an allele as the other strand reads it. To trim, any bytes will
+//! do; what is turned is letters.
 
-use crate::boundary;
+use crate::{boundary, Refusal};
 
 /// The length of the common prefix, and what remains of both.
 ///
@@ -49,4 +50,37 @@ pub fn changed<'r, 'a>(reference: &'r [u8], alternative: &'a [u8]) -> Changed<'r
         0 => Changed::Reference(&reference[part.from..part.to]),
         _ => Changed::Alternative(&alternative[part.from..part.to]),
     }
+}
+
+/// Writes an allele as the other strand reads it, reversed and complemented, into the front of a buffer, and says how long it
+/// is. A letter that [`turn`] refuses is refused first (34), then a buffer that is too short (20).
+///
+/// ```
+/// use pulindraxi::{alleles, Refusal};
+///
+/// let mut buffer = *b"....";
+/// assert_eq!(alleles::turn_into(b"AAC", &mut buffer), Ok(3));
+/// assert_eq!(&buffer, b"GTT.");
+/// assert_eq!(alleles::turn_into(b"AAC", &mut buffer[..2]), Err(Refusal::NoRoom));
+/// ```
+pub fn turn_into(allele: &[u8], buffer: &mut [u8]) -> Result<usize, Refusal> {
+    let turned = boundary::turn(allele, buffer);
+    Refusal::check(turned.number)?;
+    Ok(turned.length)
+}
+
+/// An allele as the other strand reads it: reversed, and each letter complemented (A-T, C-G, R-Y, K-M, B-V, D-H; S, W and N
+/// are their own), its case kept. Turning twice gives the allele back. Any other letter, U among them, is refused (34).
+///
+/// ```
+/// use pulindraxi::{alleles, Refusal};
+///
+/// assert_eq!(alleles::turn(b"AACr")?, b"yGTT");
+/// assert_eq!(alleles::turn(b"AAU"), Err(Refusal::NoBase));
+/// # Ok::<(), Refusal>(())
+/// ```
+pub fn turn(allele: &[u8]) -> Result<Vec<u8>, Refusal> {
+    let mut turned = vec![0; allele.len()];
+    turn_into(allele, &mut turned)?;
+    Ok(turned)
 }

@@ -95,6 +95,23 @@ impl<T> Mapped<T> {
     }
 }
 
+/// What a g. interval with two alleles answers. The alleles are as the transcript reads them, without what they had in common at
+/// the front, and then at the back. The interval is not narrowed to what is left of them.
+#[derive(Clone, Copy, Debug, PartialEq, Eq, Hash)]
+#[non_exhaustive]
+pub struct Joined<Allele> {
+    /// What g. to c. answers.
+    pub c: Mapped<CInterval>,
+    /// How many letters went at the front, in transcript direction.
+    pub prefix: usize,
+    /// How many letters went at the back.
+    pub suffix: usize,
+    /// What is left of the reference.
+    pub reference: Allele,
+    /// What is left of the alternative.
+    pub alternative: Allele,
+}
+
 // ---- From the boundary
 
 impl Slot {

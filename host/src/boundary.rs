@@ -266,6 +266,22 @@ pub struct Length {
     pub length: usize,
 }
 
+/// What a g. interval with two alleles answers; where the answer's number is not 0, all else is, and no buffer has changed.
+#[repr(C)]
+#[derive(Clone, Copy, Debug, Default, PartialEq, Eq)]
+pub struct Joined {
+    /// What [`g_to_c`] answers.
+    pub answer: Answer,
+    /// How many letters went at the front, in transcript direction.
+    pub prefix: usize,
+    /// How many letters went at the back.
+    pub suffix: usize,
+    /// How many letters of the reference stand in its buffer.
+    pub reference: usize,
+    /// How many letters of the alternative stand in its buffer.
+    pub alternative: usize,
+}
+
 /// A part of the reference or of the alternative.
 #[repr(C)]
 #[derive(Clone, Copy, Debug, Default, PartialEq, Eq)]
@@ -385,6 +401,26 @@ unsafe extern "C" {
         slots_len: usize,
     ) -> Steps;
 
+    fn txc_g_to_c_alleles(
+        head: &Head,
+        genome: &Starts,
+        transcript: &Starts,
+        letters: &Letters,
+        exons: &Exons,
+        start: i32,
+        end: i32,
+        missing: u32,
+        strict: bool,
+        reference: *const u8,
+        reference_len: usize,
+        alternative: *const u8,
+        alternative_len: usize,
+        reference_out: *mut u8,
+        reference_room: usize,
+        alternative_out: *mut u8,
+        alternative_room: usize,
+    ) -> Joined;
+
     fn txc_build(
         strand: i32,
         cds: u32,
@@ -448,6 +484,7 @@ unsafe extern "C" {
         alternative_len: usize,
     ) -> usize;
     fn txc_changed(reference: *const u8, reference_len: usize, alternative: *const u8, alternative_len: usize) -> Part;
+    fn txc_turn(allele: *const u8, allele_len: usize, buffer: *mut u8, buffer_len: usize) -> Length;
 }
 
 /// Answers the slots of a sorted worklist in one walk, and says how many segments it stepped over.
@@ -456,6 +493,42 @@ pub fn worklist(of: Reading<'_>, slots: &mut [Slot]) -> Steps {
     let Reading { head, genome, transcript, letters, exons } = of;
     // SAFETY: pointer and length are the slice's.
     unsafe { txc_worklist(head, genome, transcript, letters, exons, slots.as_mut_ptr(), slots.len()) }
+}
+
+/// g. to c. with two alleles of the genome, which are written as the transcript reads them, trimmed.
+#[inline]
+pub fn g_to_c_alleles(
+    of: Reading<'_>,
+    g: AskedG,
+    strict: bool,
+    reference: &[u8],
+    alternative: &[u8],
+    reference_out: &mut [u8],
+    alternative_out: &mut [u8],
+) -> Joined {
+    let Reading { head, genome, transcript, letters, exons } = of;
+    // SAFETY: pointers and lengths are the slices'.
+    unsafe {
+        txc_g_to_c_alleles(
+            head,
+            genome,
+            transcript,
+            letters,
+            exons,
+            g.start,
+            g.end,
+            g.missing,
+            strict,
+            reference.as_ptr(),
+            reference.len(),
+            alternative.as_ptr(),
+            alternative.len(),
+            reference_out.as_mut_ptr(),
+            reference_out.len(),
+            alternative_out.as_mut_ptr(),
+            alternative_out.len(),
+        )
+    }
 }
 
 /// Builds a transcript from records, and says the refusal's number.
@@ -572,4 +645,11 @@ pub fn trim_suffix(reference: &[u8], alternative: &[u8]) -> usize {
 pub fn changed(reference: &[u8], alternative: &[u8]) -> Part {
     // SAFETY: pointers and lengths are the slices'.
     unsafe { txc_changed(reference.as_ptr(), reference.len(), alternative.as_ptr(), alternative.len()) }
+}
+
+/// Writes an allele reversed and complemented.
+#[inline]
+pub fn turn(allele: &[u8], buffer: &mut [u8]) -> Length {
+    // SAFETY: pointers and lengths are the slices'.
+    unsafe { txc_turn(allele.as_ptr(), allele.len(), buffer.as_mut_ptr(), buffer.len()) }
 }

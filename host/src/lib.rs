@@ -4,7 +4,8 @@
 //! and written as HGVS names; those that are [`asked`] and those that are [`answered`] are types of their own, and an answer
 //! becomes a question by `into`. An answer to or from g. has the exon's number at both of its ends. What cannot be answered
 //! is a [`Refusal`] with the number and the words of the documents. A record's CIGAR is text; [`cigar`] makes it from BAM's
-//! words too. Sorted g. positions are answered in one walk ([`Room::worklist`]).
+//! words too. Sorted g. positions are answered in one walk ([`Room::worklist`]), and a g. interval's alleles are read as the
+//! transcript reads them ([`Room::g_to_c_alleles`], [`alleles`]).
 //!
 //! ```
 //! use pulindraxi::{Bounds, Exon, Input, Transcript};
@@ -37,7 +38,7 @@ pub mod name;
 mod refusal;
 mod transcript;
 
-pub use answered::Mapped;
+pub use answered::{Joined, Mapped};
 pub use boundary::Slot;
 pub use cigar::Element;
 pub use input::{Exon, Input};

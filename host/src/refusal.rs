@@ -80,7 +80,7 @@ refusals! {
     17 TooWide "a result number doesn't fit 32 signed bits"
     18 NoGenome "g. asked of a length-only transcript"
     19 MissingEnd "g. start or end missing"
-    20 NoRoom "text or words longer than the lent buffer"
+    20 NoRoom "text, words or an allele longer than the lent buffer"
     21 NoCard "bytes that are no card"
     22 BadVersion "card version not 1"
     23 NotTogether "a transcript that doesn't hold together"
@@ -88,6 +88,7 @@ refusals! {
     31 NoWord "in writing BAM words, a count below 0 or above 268,435,455"
     32 NotSpanning "a CIGAR whose genome length differs from its bounds"
     33 Falling "a worklist that falls anywhere"
+    34 NoBase "an allele with a letter outside the nucleotide list"
 }
 
 impl Refusal {
@@ -115,7 +116,7 @@ mod tests {
     #[test]
     fn document_01_has_1_to_23_and_document_02_goes_on_from_30() {
         let numbers: Vec<_> = Refusal::NAMED.iter().map(|refusal| refusal.number()).collect();
-        assert!(numbers.is_sorted() && numbers.starts_with(&(1..=23).chain(30..=33).collect::<Vec<_>>()));
+        assert!(numbers.is_sorted() && numbers.starts_with(&(1..=23).chain(30..=34).collect::<Vec<_>>()));
     }
 
     #[test]

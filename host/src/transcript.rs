@@ -3,7 +3,7 @@
 use std::ops::Deref;
 
 use crate::{
-    answered::{self, Mapped},
+    answered::{self, Joined, Mapped},
     asked,
     boundary::{self, Cds, Exons, Filling, Head, Letters, Reading, Slot, Starts},
     input::Input,
@@ -120,6 +120,61 @@ impl Room {
     /// The c. interval of a g. interval.
     pub fn g_to_c(&self, g: asked::GInterval, bounds: Bounds) -> Result<Mapped<answered::CInterval>, Refusal> {
         boundary::g_to_c(self.reading(), g.into(), bounds.strict()).try_into()
+    }
+
+    /// The c. interval of a g. interval with two alleles, and the alleles as the transcript reads them, trimmed, at the fronts of
+    /// two buffers. It refuses like [`Room::g_to_c`], but behind 23 stand 34, a letter that
+    /// [`turn`](crate::alleles::turn) refuses, on either strand, and 20, a buffer that is too short for what is left.
+    pub fn g_to_c_alleles_into<'b>(
+        &self,
+        g: asked::GInterval,
+        bounds: Bounds,
+        reference: &[u8],
+        alternative: &[u8],
+        reference_out: &'b mut [u8],
+        alternative_out: &'b mut [u8],
+    ) -> Result<Joined<&'b [u8]>, Refusal> {
+        let (of, strict) = (self.reading(), bounds.strict());
+        let boundary::Joined { answer, prefix, suffix, reference, alternative } =
+            boundary::g_to_c_alleles(of, g.into(), strict, reference, alternative, reference_out, alternative_out);
+        let c = answer.try_into()?;
+        let (reference, alternative) = (&reference_out[..reference], &alternative_out[..alternative]);
+        Ok(Joined { c, prefix, suffix, reference, alternative })
+    }
+
+    /// The c. interval of a g. interval with two alleles, and the alleles as the transcript reads them: on strand -1 turned, then
+    /// without their common prefix, then without their common suffix. The interval is the plain one, not narrowed.
+    ///
+    /// ```
+    /// use pulindraxi::{asked::GInterval, Bounds, Exon, Input, Refusal, Transcript};
+    ///
+    /// let exons = [
+    ///     Exon { alt_start_i: 10, alt_end_i: 20, tx_start_i: 8, tx_end_i: 18, ord: 1, cigar: b"10M" },
+    ///     Exon { alt_start_i: 25, alt_end_i: 33, tx_start_i: 0, tx_end_i: 8, ord: 0, cigar: b"8M" },
+    /// ];
+    /// let b = Transcript::build(&Input { strand: -1, cds_start: Some(3), cds_end: Some(15), exons: &exons })?;
+    ///
+    /// let joined = b.g_to_c_alleles(GInterval::new(12, 14), Bounds::Strict, b"CAC", b"C")?;
+    /// assert_eq!(joined.c.to_string(), "c.12_*2");
+    /// assert_eq!((joined.prefix, joined.suffix), (1, 0));
+    /// assert_eq!((&joined.reference[..], &joined.alternative[..]), (&b"TG"[..], &b""[..]));
+    /// assert_eq!(b.g_to_c_alleles(GInterval::at(12), Bounds::Strict, b"U", b""), Err(Refusal::NoBase));
+    /// # Ok::<(), Refusal>(())
+    /// ```
+    pub fn g_to_c_alleles(
+        &self,
+        g: asked::GInterval,
+        bounds: Bounds,
+        reference: &[u8],
+        alternative: &[u8],
+    ) -> Result<Joined<Vec<u8>>, Refusal> {
+        let (mut reference_out, mut alternative_out) = (vec![0; reference.len()], vec![0; alternative.len()]);
+        let Joined { c, prefix, suffix, reference, alternative } =
+            self.g_to_c_alleles_into(g, bounds, reference, alternative, &mut reference_out, &mut alternative_out)?;
+        let [reference, alternative] = [reference.len(), alternative.len()];
+        reference_out.truncate(reference);
+        alternative_out.truncate(alternative);
+        Ok(Joined { c, prefix, suffix, reference: reference_out, alternative: alternative_out })
     }
 
     /// The g. interval of an n. interval.

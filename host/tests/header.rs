@@ -3,7 +3,7 @@
 use std::{collections::BTreeSet, fs, mem::size_of};
 
 use pulindraxi::{
-    boundary::{Answer, Head, Length, Part, Position, Said, Slot, Steps},
+    boundary::{Answer, Head, Joined, Length, Part, Position, Said, Slot, Steps},
     limits::{MOST_SEGMENTS, MOST_STARTS},
 };
 
@@ -26,7 +26,7 @@ fn entries(text: &str) -> BTreeSet<&str> {
 fn the_entries_are_the_headers() {
     let header = header();
     let declared = entries(&header);
-    assert_eq!(declared.len(), 20);
+    assert_eq!(declared.len(), 22);
     assert_eq!(entries(include_str!("../src/boundary.rs")), declared);
 }
 
@@ -34,7 +34,7 @@ fn the_entries_are_the_headers() {
 fn the_structs_are_the_headers() {
     let sizes = [size_of::<Position>(), size_of::<Answer>(), size_of::<Said>(), size_of::<Length>(), size_of::<Part>()];
     assert_eq!(sizes, [16, 40, 8, 16, 24]);
-    assert_eq!([size_of::<Slot>(), size_of::<Steps>()], [44, 8]);
+    assert_eq!([size_of::<Slot>(), size_of::<Steps>(), size_of::<Joined>()], [44, 8, 72]);
 }
 
 #[test]

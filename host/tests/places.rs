@@ -245,3 +245,58 @@ fn a_cigar_beyond_a_cards_size_is_too_much() {
     assert_eq!(build(&[exon(&text, 0)]), Refusal::TooMuch);
     assert_eq!(build(&[exon(&text, 0), exon(b"M", 0)]), Refusal::BadOrd);
 }
+
+/// Ask 6, worked by hand: a g. interval with two alleles, and what stands of it on A and on B.
+#[test]
+fn alleles_are_read_as_the_transcript_reads_them() {
+    for (g, reference, alternative, on_a, on_b) in [
+        ("g.23", "A", "G", "c.7+3 0 0 A>G", "c.5+3 0 0 T>C"),
+        ("g.24", "A", "G", "c.8-2 0 0 A>G", "c.5+2 0 0 T>C"),
+        ("g.22_23", "", "TT", "c.7+2_7+3 0 0 >TT", "c.5+3_6-2 0 0 >AA"),
+        ("g.12_13", "", "C", "c.-2_-1 0 0 >C", "c.*1_*2 0 0 >G"),
+        // CAC is GTG from the other side, and loses the front there as here.
+        ("g.12_14", "CAC", "C", "c.-2_1 1 0 AC>", "c.12_*2 1 0 TG>"),
+        // GTT against GT: what is the back of AAC is the front there.
+        ("g.12_14", "AAC", "AC", "c.-2_1 1 1 A>", "c.12_*2 2 0 T>"),
+        ("g.12_14", "ACG", "TCG", "c.-2_1 0 2 A>T", "c.12_*2 2 0 T>A"),
+        ("g.12_14", "acg", "ACG", "c.-2_1 0 0 acg>ACG", "c.12_*2 0 0 cgt>CGT"),
+        ("g.14", "T", "T", "c.1 1 0 >", "c.12 1 0 >"),
+        ("g.11_25", "ACGTRYKMBDHVSWN", "", "c.-3_8-1 0 0 ACGTRYKMBDHVSWN>", "c.5+1_*3 0 0 NWSBDHVKMRYACGT>"),
+        // The order: 34, 20 (here there is room), then the mapping's.
+        ("g.34", "A", "u", "34", "34"),
+        ("g.?_12", "", "-", "34", "34"),
+        ("g.34", "A", "G", "14", "14"),
+        ("g.?_12", "A", "G", "19", "19"),
+    ] {
+        let (g, r, a) = (g.parse().unwrap(), reference.as_bytes(), alternative.as_bytes());
+        for (strand, expected) in [(1, on_a), (-1, on_b)] {
+            let joined = transcript(strand).g_to_c_alleles(g, Bounds::Strict, r, a).map(|joined| {
+                let [r, a] = [joined.reference, joined.alternative].map(|left| String::from_utf8(left).unwrap());
+                format!("{} {} {} {r}>{a}", joined.c, joined.prefix, joined.suffix)
+            });
+            assert_eq!(said(joined), expected, "{g} {reference} {alternative}, strand {strand}");
+        }
+    }
+}
+
+#[test]
+fn what_is_lent_for_alleles_stays_where_they_are_refused() {
+    let length = Transcript::of_length(18, Some(3), Some(15)).unwrap();
+    let (a, not_built) = (transcript(1), Room::new());
+    for (room, r, a, rooms, number) in [
+        (&not_built, "U", "G", [0, 0], 23),
+        (&*length, "U", "G", [0, 0], 34),
+        (&*length, "AG", "A", [0, 0], 20),
+        (&*length, "AG", "A", [1, 0], 18),
+        (&*a, "A", "AGG", [0, 1], 20),
+        (&*alone(0, 9, 9, b"9M"), "A", "AGG", [0, 2], 13),
+        (&*a, "A", "AGG", [0, 2], 14),
+    ] {
+        let [mut front, mut back] = rooms.map(|length| vec![b'.'; length]);
+        let g = "g.9".parse().unwrap();
+        let joined =
+            room.g_to_c_alleles_into(g, Bounds::Strict, r.as_bytes(), a.as_bytes(), &mut front, &mut back).err();
+        assert_eq!(joined.map(Refusal::number), Some(number), "{r} {a} {rooms:?}");
+        assert!(front.iter().chain(&back).all(|&letter| letter == b'.'));
+    }
+}

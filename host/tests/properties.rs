@@ -51,6 +51,22 @@ fn transcripts() -> impl Strategy<Value = (i32, i32, Vec<Part>, bool)> {
     (select(&[1, -1][..]), 0..1000i32, vec((elements(5), 0..9i32), 1..6), any::<bool>())
 }
 
+/// The letters that can be turned.
+const LETTERS: &[u8] = b"ACGTRYKMBDHVSWNacgtrykmbdhvswn";
+
+/// So many letters at most: any, or of two alone.
+fn allele(most: usize) -> impl Strategy<Value = Vec<u8>> {
+    prop_oneof![vec(select(LETTERS), 0..most), vec(select(&b"CG"[..]), 0..most)]
+}
+
+/// A reference and an alternative with something in common at both ends.
+fn two_alleles() -> impl Strategy<Value = (Vec<u8>, Vec<u8>)> {
+    (allele(4), allele(4), allele(4), allele(4)).prop_map(|(front, r, a, back)| {
+        let whole = |middle: &[u8]| [&front[..], middle, &back].concat();
+        (whole(&r), whole(&a))
+    })
+}
+
 fn bounds() -> impl Strategy<Value = Bounds> {
     select(&[Bounds::Strict, Bounds::Lenient][..])
 }
@@ -339,5 +355,97 @@ proptest! {
         let (common, r, a) = alleles::trim_suffix(reference, alternative);
         prop_assert_eq!(&reference[reference.len() - common..], &alternative[alternative.len() - common..]);
         prop_assert!(r.is_empty() || a.is_empty() || r[r.len() - 1] != a[a.len() - 1]);
+    }
+
+    #[test]
+    fn turning_twice_gives_the_allele_back(allele in allele(60)) {
+        let turned = alleles::turn(&allele).unwrap();
+        prop_assert_eq!(turned.len(), allele.len());
+        let is_upper = |letters: &[u8]| letters.iter().map(u8::is_ascii_uppercase).collect::<Vec<_>>();
+        prop_assert!(is_upper(&turned).iter().rev().eq(&is_upper(&allele)));
+        prop_assert_eq!(alleles::turn(&turned).unwrap(), allele);
+    }
+
+    /// Of two, what is turned together is turned one by one in the other order.
+    #[test]
+    fn the_front_turns_to_the_back(front in allele(20), back in allele(20)) {
+        let [turned_front, turned_back] = [&front, &back].map(|allele| alleles::turn(allele).unwrap());
+        prop_assert_eq!(alleles::turn(&[front, back].concat()).unwrap(), [turned_back, turned_front].concat());
+    }
+
+    #[test]
+    fn common_prefix_before_turning_is_common_suffix_after((reference, alternative) in two_alleles()) {
+        let [turned_reference, turned_alternative] = [&reference, &alternative].map(|allele| alleles::turn(allele).unwrap());
+        let [prefix, suffix] = [alleles::trim_prefix, alleles::trim_suffix].map(|trim| trim(&reference, &alternative).0);
+        prop_assert_eq!(alleles::trim_suffix(&turned_reference, &turned_alternative).0, prefix);
+        prop_assert_eq!(alleles::trim_prefix(&turned_reference, &turned_alternative).0, suffix);
+    }
+
+    #[test]
+    fn any_letter_is_turned_or_refused(allele in vec(any::<u8>(), 0..4)) {
+        let known = allele.iter().all(|letter| LETTERS.contains(letter));
+        prop_assert_eq!(alleles::turn(&allele).err(), (!known).then_some(Refusal::NoBase));
+    }
+
+    #[test]
+    fn a_short_buffer_for_a_turned_allele_stays(allele in allele(20), room in 0..24usize) {
+        let mut buffer = vec![b'.'; room];
+        match alleles::turn_into(&allele, &mut buffer) {
+            Ok(length) => {
+                prop_assert_eq!(&buffer[..length], &alleles::turn(&allele).unwrap()[..]);
+                prop_assert!(buffer[length..].iter().all(|&letter| letter == b'.'));
+            }
+            Err(refusal) => {
+                prop_assert_eq!(refusal, Refusal::NoRoom);
+                prop_assert!(room < allele.len() && buffer.iter().all(|&letter| letter == b'.'));
+            }
+        }
+    }
+
+    /// On strand 1 nothing is turned; on strand -1 both are, and what is left is trimmed as the transcript reads it.
+    #[test]
+    fn the_join_maps_trims_and_turns((strand, first, parts, coding) in transcripts(), (reference, alternative) in two_alleles(),
+                                     at in -5..300i32, long in 0..4i32, bounds in bounds()) {
+        let built = with_input(strand, first, &parts, coding, Transcript::build);
+        prop_assume!(built.is_ok());
+        let (room, g) = (built.unwrap(), GInterval::new(first + at, first + at + long));
+        let joined = match (room.g_to_c_alleles(g, bounds, &reference, &alternative), room.g_to_c(g, bounds)) {
+            (Ok(joined), Ok(c)) => {
+                prop_assert_eq!(joined.c, c);
+                joined
+            }
+            (joined, c) => {
+                prop_assert_eq!(joined.err(), c.err());
+                return Ok(());
+            }
+        };
+        let read = |allele: &[u8]| if strand == 1 { allele.to_vec() } else { alleles::turn(allele).unwrap() };
+        let (whole_reference, whole_alternative) = (read(&reference), read(&alternative));
+        let (prefix, r, a) = alleles::trim_prefix(&whole_reference, &whole_alternative);
+        let (suffix, r, a) = alleles::trim_suffix(r, a);
+        prop_assert_eq!((joined.prefix, joined.suffix), (prefix, suffix));
+        prop_assert_eq!((&joined.reference[..], &joined.alternative[..]), (r, a));
+    }
+
+    #[test]
+    fn a_refused_join_leaves_both_buffers((strand, first, parts, coding) in transcripts(), (mut reference, alternative) in two_alleles(),
+                                          spoiled in any::<bool>(), rooms in (0..6usize, 0..6usize), at in -5..60i32) {
+        let built = with_input(strand, first, &parts, coding, Transcript::build);
+        prop_assume!(built.is_ok());
+        if spoiled {
+            reference.push(b'U');
+        }
+        let (room, g) = (built.unwrap(), GInterval::at(first + at));
+        let (mut front, mut back) = (vec![b'.'; rooms.0], vec![b'.'; rooms.1]);
+        let joined = room.g_to_c_alleles_into(g, Bounds::Strict, &reference, &alternative, &mut front, &mut back);
+        let lengths = joined.map(|joined| (joined.reference.len(), joined.alternative.len()));
+        prop_assert_eq!(lengths.err() == Some(Refusal::NoBase), spoiled);
+        let (r, a) = lengths.unwrap_or((0, 0));
+        prop_assert!(front[r..].iter().chain(&back[a..]).all(|&letter| letter == b'.'));
+        if lengths.is_ok() || lengths == Err(Refusal::NoRoom) {
+            let whole = room.g_to_c_alleles(g, Bounds::Lenient, &reference, &alternative);
+            let fits = whole.map(|whole| whole.reference.len() <= rooms.0 && whole.alternative.len() <= rooms.1);
+            prop_assert!(fits.is_err() || fits == Ok(lengths.is_ok()));
+        }
     }
 }

@@ -1,7 +1,11 @@
 -- What the boundary's entries lay out beside the mappings' answers: lengths of texts, parts of alleles, and what building tells. Assumes nothing.
 use Prim.Native.Nat.{ℕ}
+use mathlib.Core.Bool.{cond}
 use mathlib.Core.List.{List}
+use lib.Dec.{eqb}
 use lib.IntN.{ℤ}
+use lib.ListN.{length}
+use Rattle.refusals.specs.Outcome.{Outcome, answered, refused}
 use Rattle.transcript.specs.declared.Built.{Built}
 use Rattle.transcript.specs.declared.Built.the-variants as built
 use Rattle.layout.specs.Layout.{headRow, starOf}
@@ -26,6 +30,15 @@ countedLaid (counted.Refused k) = lengthRefused k
 abbrev pub writtenLaid : Written → Length
 writtenLaid (written.Text n) = lengthLaid n
 writtenLaid (written.Refused k) = lengthRefused k
+
+-- a text that is written
+abbrev pub textLaid : Outcome (List ℕ) → Length
+textLaid (answered text) = lengthLaid (length text)
+textLaid (refused k) = lengthRefused k
+
+-- as the code has it: a number that is 0 where the text has that length
+abbrev pub numberLaid : ℕ → ℕ → Length
+numberLaid number n = cond (eqb number 0) (lengthLaid n) (lengthRefused number)
 
 -- of the reference (0) or of the alternative (1)
 abbrev pub partLaid : alleles.Part → Part

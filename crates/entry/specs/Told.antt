@@ -3,11 +3,13 @@ use Prim.Native.Nat.{ℕ}
 use mathlib.Core.Bool.{Bool}
 use mathlib.Core.List.{List}
 use lib.IntN.{ℤ}
+use Rattle.refusals.specs.Outcome.{Outcome}
 use Rattle.holding.specs.Holding.{Lent, checked}
 use Rattle.mapper.specs.Asking.{askGToN, askNToG, askNToC, askCToN, askGToC, askCToG, askCoding, askInBounds}
 use Rattle.layout.specs.Layout.{gAsked, nAsked, cAsked, gLaid, nLaid, cLaid, laid, saidLaid}
 use Rattle.layout.specs.declared.lay.Answer.{Answer}
 use Rattle.layout.specs.declared.lay.Said.{Said}
+use Rattle.alleles.specs.Joining.{Alleles, Rooms, Joining, joined}
 use Rattle.worklist.specs.Worklist.{listed, stepsLaid, slotsAfter}
 use Rattle.worklist.specs.declared.Slot.{Slot}
 use Rattle.worklist.specs.declared.Steps.{Steps}
@@ -36,6 +38,10 @@ module _ (x : Lent) where
 
   abbrev pub toldCoding : Said
   toldCoding = saidLaid (checked x askCoding)
+
+  -- the join of a g. interval with two alleles, for two buffers
+  abbrev pub toldJoined : ℤ → ℤ → ℕ → Bool → Alleles → Rooms → Outcome Joining
+  toldJoined start end missing strict s room = joined x strict (gAsked start end missing) s room
 
   -- what a worklist tells, and its slots afterwards
   abbrev pub toldSteps : List Slot → Steps

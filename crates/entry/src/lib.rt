@@ -4,4 +4,5 @@ pub mod ask;
 pub mod bam;
 pub mod build;
 pub mod slots;
+pub mod strand;
 pub mod text;

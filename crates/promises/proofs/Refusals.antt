@@ -1,7 +1,7 @@
 -- The table of refusals holds: each judgment is a chain of tests, and a test gives one number of its row or lets the rest decide. Assumes nothing.
 use Prim.Native.Nat.{ℕ, zero, suc, _+_, _-_, _*_, min}
 use native.Mathlib.Omega.{arith}
-use mathlib.Core.Bool.{Bool, true, false, not, _&&_, false≢true}
+use mathlib.Core.Bool.{Bool, true, false, cond, not, _&&_, false≢true}
 use mathlib.Core.List.{List, [], _∷_}
 use mathlib.Core.Path.{_≡_, refl}
 use lib.Dec.{eqb, ltb}
@@ -9,8 +9,8 @@ use lib.IntN.{ℤ, pos, negsuc, natAbs}
 use lib.ListN.{length, drop, getD}
 use lib.Signed.{ltZ}
 use borrow.Author.Tests.{eqb-true, ltb-true}
-use Rattle.refusals.specs.Numbers.{noRecords, noStrand, tooMuch, badBound, badOrd, notAdjacent, noElement, badCount, tooLong, noSegment, halfCds, badCds, noRoom, noCard, notTogether, noOperation, notSpanning, mostWordCount, mostCount, mostSegments, mostText, mostRecords, mostBases, mostCard}
-use Rattle.refusals.specs.Outcome.{Outcome, answered, refused, unless}
+use Rattle.refusals.specs.Numbers.{noRecords, noStrand, tooMuch, badBound, badOrd, notAdjacent, noElement, badCount, tooLong, noSegment, halfCds, badCds, noRoom, noCard, notTogether, noOperation, notSpanning, noBase, mostWordCount, mostCount, mostSegments, mostText, mostRecords, mostBases, mostCard}
+use Rattle.refusals.specs.Outcome.{Outcome, answered, refused, andThen, unless}
 use Rattle.refusals.specs.Refusing.{oneOf, Only}
 use Rattle.refusals.specs.laws.Refusing.{only-through, only-both, only-then}
 use Rattle.whole.specs.Whole.{if_then_else_, eqZ}
@@ -39,7 +39,13 @@ use Rattle.card.specs.laws.RoundTrips.{IsCard, read-means}
 use Rattle.card.specs.declared.ReadCard.{ReadCard}
 use Rattle.card.specs.declared.ReadCard.the-variants as read
 use Rattle.worklist.specs.laws.Refusing.{worklist-refuses}
-use Rattle.promises.specs.Refusals.{Refusals, readingRefusals, writingRefusals, readingWordsRefusals, writingWordsRefusals, recordsRefusals, buildingRefusals, cardRefusals, lengthRefusals, cardWritingRefusals}
+use Rattle.holding.specs.Holding.{Lent, holds, sourceOf, checked}
+use Rattle.positions.specs.Positions.{Interval, GAsked}
+use Rattle.mapper.specs.Asking.{askGToC}
+use Rattle.sequences.specs.Turned.{areBases, onStrand, readOn, fitting, turning}
+use Rattle.alleles.specs.Joining.{Alleles, alleles, Rooms, readBoth, Trimmed, trimmed, fittingBoth, beside, readsBack, askJoined, joined}
+use Rattle.alleles.specs.laws.Refusing.{plainRefusals, plain-only}
+use Rattle.promises.specs.Refusals.{Refusals, readingRefusals, writingRefusals, readingWordsRefusals, writingWordsRefusals, recordsRefusals, buildingRefusals, cardRefusals, lengthRefusals, cardWritingRefusals, turningRefusals, joiningRefusals}
 
 -- ---- rows
 
@@ -329,6 +335,43 @@ card-writing-only n bytes room = go (judge n bytes) (judge-only n bytes)
         let text = cardText (inputOf n bytes) in
         only-unless cardWritingRefusals (ltb mostCard (length text)) tooMuch _ (only-unless cardWritingRefusals (ltb room (length text)) noRoom _ (done text) (λ e. refl)) (λ e. refl)
 
+-- ---- alleles
+
+letters-only : (ks : List ℕ) → oneOf noBase ks ≡ true → (back : Bool) (s : List ℕ) → Only ks (readOn back s)
+letters-only ks h back s = go (areBases s)
+  where
+    go : (t : Bool) → Only ks (cond t (answered (onStrand back s)) (refused noBase))
+    go true = done _
+    go false = record { only = h }
+
+room-only : (ks : List ℕ) → oneOf noRoom ks ≡ true → (room : ℕ) (s : List ℕ) → Only ks (fitting room s)
+room-only ks h room s = go (ltb room (length s))
+  where
+    go : (t : Bool) → Only ks (cond t (refused noRoom) (answered s))
+    go true = record { only = h }
+    go false = done _
+
+turning-only : (allele : List ℕ) (room : ℕ) → Only turningRefusals (turning allele room)
+unfolding turning
+turning-only allele room = only-then turningRefusals (readOn true allele) (fitting room) (letters-only turningRefusals refl true allele) (λ s e. room-only turningRefusals refl room s)
+
+abbrev J : List ℕ
+J = joiningRefusals
+
+join-only : (x : Lent) (strict : Bool) (q : Interval GAsked) (s : Alleles) (room : Rooms) → Only joiningRefusals (joined x strict q s room)
+unfolding checked askJoined
+join-only x strict q s room =
+    let back = readsBack (sourceOf x) in
+    let plain = askGToC strict q (sourceOf x) in
+    only-if J (holds x) notTogether _
+    (only-then J (andThen (readBoth back s) (λ (read : Alleles). fittingBoth room (trimmed read))) _
+    (only-then J (readBoth back s) _ (only-both J alleles _ _ (letters-only J refl back (s .reference)) (letters-only J refl back (s .alternative)))
+    (λ read e.
+    let t = trimmed read in
+    only-both J (λ (r a : List ℕ). t) _ _ (room-only J refl (room .reference) (t .left .reference)) (room-only J refl (room .alternative) (t .left .alternative))))
+    (λ t e. only-through J (beside t) plain (wider plainRefusals J plain refl (plain-only strict q (sourceOf x)))))
+    (λ e. refl)
+
 pub refusals : Refusals
 refusals = record {
   read-cigar = text-only;
@@ -340,4 +383,6 @@ refusals = record {
   build-length = length-only;
   write-card = card-writing-only;
   worklist = worklist-refuses;
+  turn = turning-only;
+  join = join-only;
 }

@@ -1,8 +1,9 @@
--- The table of refusals, of what is not a question: which numbers building, CIGAR text, BAM's words, a card and a worklist can give. That of the questions stands in `mapper`. Assumes nothing.
+-- The table of refusals, of what is not a question: which numbers building, CIGAR text, BAM's words, a card, a worklist and alleles can give. That of the questions stands in `mapper`. Assumes nothing.
 use Prim.Native.Nat.{ℕ}
+use mathlib.Core.Bool.{Bool}
 use mathlib.Core.List.{List, [], _∷_}
 use lib.IntN.{ℤ}
-use Rattle.refusals.specs.Numbers.{noRecords, noStrand, tooMuch, badBound, badOrd, notAdjacent, noElement, badCount, tooLong, noSegment, halfCds, badCds, noRoom, noCard, badVersion, notTogether, noOperation, noWord, notSpanning}
+use Rattle.refusals.specs.Numbers.{noRecords, noStrand, tooMuch, badBound, badOrd, notAdjacent, noElement, badCount, tooLong, noSegment, halfCds, badCds, noRoom, noCard, badVersion, notTogether, noOperation, noWord, notSpanning, noBase}
 use Rattle.refusals.specs.Refusing.{Only}
 use Rattle.cigar.specs.Read.{readText}
 use Rattle.cigar.specs.Write.{writing}
@@ -14,6 +15,10 @@ use Rattle.holding.specs.Holding.{Lent}
 use Rattle.worklist.specs.Worklist.{listed}
 use Rattle.worklist.specs.laws.Refusing.{worklistRefusals}
 use Rattle.worklist.specs.declared.Slot.{Slot}
+use Rattle.positions.specs.Positions.{Interval, GAsked}
+use Rattle.sequences.specs.Turned.{turning}
+use Rattle.alleles.specs.Joining.{Alleles, Rooms, joined}
+use Rattle.alleles.specs.laws.Refusing.{plainRefusals}
 
 -- txc_read_cigar
 abbrev pub readingRefusals : List ℕ
@@ -30,6 +35,14 @@ readingWordsRefusals = noOperation ∷ tooMuch ∷ noRoom ∷ []
 -- txc_write_bam
 abbrev pub writingWordsRefusals : List ℕ
 writingWordsRefusals = noElement ∷ noWord ∷ tooMuch ∷ noRoom ∷ []
+
+-- txc_turn
+abbrev pub turningRefusals : List ℕ
+turningRefusals = noBase ∷ noRoom ∷ []
+
+-- txc_g_to_c_alleles: the plain mapping's own, and three before them
+abbrev pub joiningRefusals : List ℕ
+joiningRefusals = notTogether ∷ noBase ∷ noRoom ∷ plainRefusals
 
 -- what building finds in the records once the strand is known
 abbrev pub recordsRefusals : List ℕ
@@ -61,3 +74,5 @@ pub record Refusals : Type 0 where
   pub build-length : (len : ℤ) (bits : ℕ) (start end : ℤ) → Only lengthRefusals (judgeLength len bits start end)
   pub write-card : (n : Numbers) (bytes : List ℕ) (room : ℕ) → Only cardWritingRefusals (cardWriting n bytes room)
   pub worklist : (x : Lent) (slots : List Slot) → Only worklistRefusals (listed x slots)
+  pub turn : (allele : List ℕ) (room : ℕ) → Only turningRefusals (turning allele room)
+  pub join : (x : Lent) (strict : Bool) (q : Interval GAsked) (s : Alleles) (room : Rooms) → Only joiningRefusals (joined x strict q s room)

@@ -109,6 +109,10 @@ notSpanning = 32
 abbrev pub falling : ℕ
 falling = 33
 
+-- an allele has a letter outside the nucleotide list
+abbrev pub noBase : ℕ
+noBase = 34
+
 -- the most exon records of a transcript
 abbrev pub mostRecords : ℕ
 mostRecords = 512

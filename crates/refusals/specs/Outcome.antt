@@ -12,6 +12,11 @@ abbrev pub Answered : {A : Type 0} → Outcome A → Type 0
 Answered (answered a) = Unit {0}
 Answered (refused k) = ⊥
 
+-- the number that is told of it, 0 where there is an answer
+abbrev pub numberOf : {A : Type 0} → Outcome A → ℕ
+numberOf (answered a) = 0
+numberOf (refused k) = k
+
 -- a second step takes the answer of the first; the first refusal counts
 abbrev pub andThen : {A B : Type 0} → Outcome A → (A → Outcome B) → Outcome B
 andThen (answered a) f = f a

@@ -54,6 +54,8 @@ pub const NO_WORD: u8 = 31;
 pub const NOT_SPANNING: u8 = 32;
 // A worklist's positions fall somewhere.
 pub const FALLING: u8 = 33;
+// An allele has a letter outside the nucleotide list.
+pub const NO_BASE: u8 = 34;
 
 // The most exon records of a transcript.
 pub const MOST_RECORDS: usize = 512;

@@ -13,7 +13,7 @@ use native.Mathlib.Omega.{arith}
 use lib.ListN.{length, getD, take, drop, length-reverse, length-drop, take-append-drop, List·getD-append}
 use lib.Seq.{take-suc, take-at, getD-at}
 use borrow.Author.Tests.{eq-eqb, ne-eqb}
-use Rattle.sequences.specs.Alleles.{prefixLen, suffixLen}
+use Rattle.sequences.specs.Alleles.{prefixLen, suffixLen, lastOf}
 
 pub prefix-within : (s t : List ℕ) → (prefixLen s t ≤ length s) × (prefixLen s t ≤ length t)
 unfolding prefixLen
@@ -68,11 +68,7 @@ getD-reverse (x ∷ s) i h =
           ∙ ap (λ (k : ℕ). getD (x ∷ s) k 0) {x = 0} {y = suc (length s) - 1 - i} (omega arith)
     ])
 
--- the last q bytes of a list
-abbrev pub lastOf : List ℕ → ℕ → List ℕ
-lastOf s q = drop (length s - q) s
-
--- they are the first q of the list turned round
+-- the last q bytes are the first q of the list turned round
 take-reverse : (q : ℕ) (s : List ℕ) → q ≤ length s → take q (reverse s) ≡ reverse (lastOf s q)
 take-reverse q s h =
     let n : ℕ = length s - q in

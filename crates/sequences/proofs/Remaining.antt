@@ -13,8 +13,8 @@ use native.Mathlib.Omega.{arith}
 use lib.ListN.{length, take, drop, length-drop, take-append-drop}
 use borrow.Author.Tests.{le-ltb}
 use Rattle.sequences.specs.declared.Part.{Part}
-use Rattle.sequences.specs.Alleles.{prefixLen, bytesBefore, after, remains, changedPart, stretch}
-use Rattle.sequences.proofs.InCommon.{lastOf, prefix-within, suffix-within, prefix-common, suffix-common, prefix-longest}
+use Rattle.sequences.specs.Alleles.{prefixLen, lastOf, stretch, bytesBefore, after, middle, remains, changedPart}
+use Rattle.sequences.proofs.InCommon.{prefix-within, suffix-within, prefix-common, suffix-common, prefix-longest}
 
 -- any list, with p bytes off its front and then q off its back
 in-three : (p q : ℕ) (s : List ℕ) → s ≡ take p s ++ (stretch s p (length s - q) ++ lastOf (drop p s) q)
@@ -31,17 +31,14 @@ pub record Inside (k : Part) (r a : List ℕ) : Type 0 where
   pub ends : k .to ≤ length (cond (k .alternative) a r)
 
 module _ (r a : List ℕ) where
-  -- what both begin and end with, and what remains of one of them
+  -- what both begin and end with
   abbrev pub first : List ℕ
   first = take (bytesBefore r a) r
 
   abbrev pub last : List ℕ
   last = lastOf (drop (bytesBefore r a) r) (after r a)
 
-  abbrev pub middle : List ℕ → List ℕ
-  middle s = stretch s (bytesBefore r a) (length s - after r a)
-
-  pub put-together : (r ≡ first ++ (middle r ++ last)) × (a ≡ first ++ (middle a ++ last))
+  pub put-together : (r ≡ first ++ (middle r a r ++ last)) × (a ≡ first ++ (middle r a a ++ last))
   put-together =
       let p : ℕ = bytesBefore r a in
       let q : ℕ = after r a in

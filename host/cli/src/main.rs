@@ -1,4 +1,5 @@
-//! `pulindraxi`: maps positions between g., n. and c. by a transcript's card, lists cards and writes them, from records or alignments.
+//! `pulindraxi`: maps positions between g., n. and c. by a transcript's card, and variants from g. to c., lists cards and writes them,
+//! from records or alignments.
 
 mod bam;
 mod card;
@@ -7,6 +8,7 @@ mod hts;
 mod list;
 mod map;
 mod store;
+mod variant;
 
 use std::{
     error::Error,
@@ -31,13 +33,19 @@ struct Options {
 
 #[derive(Subcommand)]
 enum Command {
-    /// Map positions from standard input, one a line: `g 23`, `g 11_33`, `c 7+3`, `c *3`, `n 8+3`
+    /// Map positions from standard input, one a line: `g 23`, `g 11_33`, `c 7+3`, `c *3`, `n 8+3`; and variants, `g.23A>G`
     ///
     /// Beside each stand the exon that it lies in (`exon 2`; `exons 2_3` from one to another; `intron 2` behind exon 2) and its
     /// names of the other two kinds, an uncertain one in parentheses, or the refusal's number and words. Exons are counted
     /// from 1 in transcript order; an intron is told by the exon and the sign of the offset. Empty lines and lines that begin with # are skipped. A line that is no position is reported with its
     /// number, and the run goes on; the exit status is then 1. Single g. positions that come in order are put to the
     /// transcript as sorted worklists; each line says the same either way.
+    ///
+    /// A line may also be a variant of the genome: `g.23A>G`, `g.22_23del`, `g.22_23delinsTT`, `g.23_24insC`, with or without
+    /// the letters behind `del`. Its c. name has the alleles as the transcript reads them, on strand -1 turned (`c.8-2T>C`), and
+    /// behind it stands what both alleles have in common, if anything, and what is left of them. Nothing is normalized: the
+    /// interval is neither moved nor narrowed, and the form is kept. The genome itself is not looked at. A letter
+    /// outside the nucleotide list (IUPAC's without U) is named with its place in the line.
     Map {
         /// The transcript's card
         card: PathBuf,

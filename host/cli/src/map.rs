@@ -1,4 +1,5 @@
-//! `map`: positions from lines, with their exons and their names of the other kinds beside them.
+//! `map`: positions from lines, with their exons and their names of the other kinds beside them; and variants of the genome, as the
+//! transcript reads them.
 
 use std::{
     fmt::Display,
@@ -13,20 +14,31 @@ use pulindraxi::{
 
 use crate::{
     exon::{self, End},
+    variant::{self, Variant},
     Outcome,
 };
 
-/// A position of one of the three kinds.
+/// A position of one of the three kinds, or a variant of the genome.
 enum Asked {
     G(GInterval),
     N(NInterval),
     C(CInterval),
+    Variant(Variant),
 }
 
-/// Reads `g 23` or `g.23`.
+/// Reads `g 23`, `g.23` or `g.23A>G`, with or without space around it.
 fn read(line: &str) -> Result<Asked, String> {
-    let (kind, position) = line.split_once([' ', '\t', '.']).ok_or("a line is g, n or c, a space and a position")?;
-    let name = format!("{kind}.{}", position.trim_start());
+    let line = line.trim_end();
+    let (kind, position) =
+        line.trim_start().split_once([' ', '\t', '.']).ok_or("a line is g, n or c, a space and a position")?;
+    let position = position.trim_start();
+    if kind == "g" {
+        let place = line[..line.len() - position.len()].chars().count() + 1;
+        if let Some(variant) = variant::read(position, place) {
+            return variant.map(Asked::Variant);
+        }
+    }
+    let name = format!("{kind}.{position}");
     let no_name = |error: NoName| error.to_string();
     match kind {
         "g" => name.parse().map(Asked::G).map_err(no_name),
@@ -50,6 +62,8 @@ struct Row {
     /// None where the position is not mapped to or from g.
     exon: Option<String>,
     names: [String; 2],
+    /// Of a variant, what its alleles have in common.
+    note: Option<String>,
 }
 
 /// The exons of an n. answer, with its offsets.
@@ -68,7 +82,16 @@ fn row(transcript: &Transcript, asked: &Asked, bounds: Bounds, at_hand: Option<N
     let from_g = |g: Result<Mapped<answered::GInterval>, Refusal>, offsets| {
         g.ok().map(|g| ends_of_g(g.interval(), transcript.strand(), offsets))
     };
+    let mut note = None;
     let (asked, ends, names) = match *asked {
+        Asked::Variant(ref variant) => {
+            let n = transcript.g_to_n(variant.g, bounds);
+            let ends = n.ok().and_then(|n| ends_of_n(n.interval()));
+            let (c, removed) = variant.on(transcript, bounds).unwrap_or_else(|refusal| (refusal, None));
+            note = removed;
+            // Where the n. interval is refused, the refusal of the c. interval is that one or comes before it.
+            (variant.to_string(), ends, [n.map_or_else(|_| c.clone(), |n| n.to_string()), c])
+        }
         Asked::G(g) => {
             let n = at_hand.unwrap_or_else(|| transcript.g_to_n(g, bounds));
             let ends = n.ok().and_then(|n| ends_of_n(n.interval()));
@@ -86,7 +109,7 @@ fn row(transcript: &Transcript, asked: &Asked, bounds: Bounds, at_hand: Option<N
         }
     };
     let exons = u32::try_from(transcript.record_count()).unwrap_or(u32::MAX);
-    Row { asked, exon: ends.map(|ends| exon::said(ends, exons)), names }
+    Row { asked, exon: ends.map(|ends| exon::said(ends, exons)), names, note }
 }
 
 /// The position as a worklist takes it: one base of the genome, asked with strict bounds.
@@ -147,8 +170,8 @@ pub fn run(
             break;
         }
         let lines: Vec<_> = lines.split_inclusive(|&byte| byte == b'\n').map(String::from_utf8_lossy).collect();
-        let is_asked = |line: &&str| !line.is_empty() && !line.starts_with('#');
-        let asked: Vec<_> = lines.iter().map(|line| Some(line.trim()).filter(is_asked).map(read)).collect();
+        let is_asked = |line: &str| !line.is_empty() && !line.starts_with('#');
+        let asked: Vec<_> = lines.iter().map(|line| is_asked(line.trim()).then(|| read(line))).collect();
         let positions = asked.iter().flatten().flatten().filter_map(|asked| listed(asked, bounds));
         let mut walked = walk(transcript, positions).into_iter();
         for (number, (line, asked)) in (before + 1..).zip(lines.iter().zip(&asked)) {
@@ -171,17 +194,17 @@ pub fn run(
 }
 
 /// Writes a position, its exon if it has one, and its two other names, or the refusal once where both are the same. A refusal's
-/// words stand last.
+/// words, or what two alleles have in common, stand last.
 fn write_row(output: &mut impl Write, row: Row) -> io::Result<()> {
-    let Row { asked, exon, names: [first, second] } = row;
+    let Row { asked, exon, names: [first, second], note } = row;
     write!(output, "{asked:<15} ")?;
     if let Some(exon) = exon {
         write!(output, "{exon:<15} ")?;
     }
-    if first == second {
-        writeln!(output, "{first}")
-    } else {
-        writeln!(output, "{first:<15} {second}")
+    match note {
+        Some(note) => writeln!(output, "{first:<15} {second:<15} {note}"),
+        None if first == second => writeln!(output, "{first}"),
+        None => writeln!(output, "{first:<15} {second}"),
     }
 }
 
@@ -224,13 +247,13 @@ mod tests {
     /// What each line gives where it is asked by itself, with no worklist.
     fn one_by_one(transcript: &Transcript, bounds: Bounds, lines: &str) -> (bool, String, String) {
         let (mut output, mut complaints) = (Vec::new(), String::new());
-        for (index, line) in lines.split('\n').map(str::trim).enumerate() {
-            if line.is_empty() || line.starts_with('#') {
+        for (index, line) in lines.split('\n').enumerate() {
+            if line.trim().is_empty() || line.trim().starts_with('#') {
                 continue;
             }
             match read(line) {
                 Ok(asked) => write_row(&mut output, row(transcript, &asked, bounds, None)).unwrap(),
-                Err(why) => complaints += &format!("line {}: `{line}`: {why}\n", index + 1),
+                Err(why) => complaints += &format!("line {}: `{}`: {why}\n", index + 1, line.trim()),
             }
         }
         (complaints.is_empty(), String::from_utf8(output).unwrap(), complaints)
@@ -255,6 +278,8 @@ mod tests {
                 6 => format!("g {at}_{at}\n"),
                 7 => ["g ?\n", "g -2147483648\n", "g 2147483647\n"].choose(rng).unwrap().to_string(),
                 8..=10 => format!("  g.{at} \r\n"),
+                11 => format!(" g.{at}{}\n", ["A>G", "A>A", "U>G", "del", "delins", "insC"].choose(rng).unwrap()),
+                12 => format!("g {at}_{}{}\n", at + 1, ["delAC", "delACinsC", "insCC", "insX"].choose(rng).unwrap()),
                 _ => format!("g {at}\n"),
             };
         }
@@ -367,6 +392,133 @@ mod tests {
         let input = Input { strand: 1, cds_start: None, cds_end: None, exons: &exons };
         let (_, output, _) = map_of(&Transcript::build(&input).unwrap(), Bounds::Strict, "g 11\n".as_bytes());
         assert_eq!(output, "g.11            exon 1          n.1             refused 13: c. asked, no CDS\n");
+    }
+
+    /// Each line, and what stands behind the n. interval on either strand. The mapping is that of the plain interval.
+    #[test]
+    fn variants_are_read_as_the_transcript_reads_them() {
+        for (line, plus, minus) in [
+            ("g.23A>G", "c.7+3A>G", "c.3+3T>C"),
+            ("g 23A>G", "c.7+3A>G", "c.3+3T>C"),
+            (" g.24a>R ", "c.8-2a>R", "c.3+2t>Y"),
+            ("g.22_23del", "c.7+2_7+3del", "c.3+3_4-2del"),
+            ("g.22_23delAC", "c.7+2_7+3delAC", "c.3+3_4-2delGT"),
+            ("g.22_23delinsTT", "c.7+2_7+3delinsTT", "c.3+3_4-2delinsAA"),
+            ("g.22_23delACinsTTG", "c.7+2_7+3delACinsTTG", "c.3+3_4-2delGTinsCAA"),
+            ("g.23_24insC", "c.7+3_8-2insC", "c.3+2_3+3insG"),
+            ("g.12_14ACG>T", "c.-2_1ACG>T", "c.10_12CGT>A"),
+            // Behind it stands what was removed; the interval and the alleles beside it are whole.
+            (
+                "g.12_14CAC>C",
+                "c.-2_1CAC>C     removed: C in front; left: AC, nothing",
+                "c.10_12GTG>G    removed: G in front; left: TG, nothing",
+            ),
+            (
+                "g.12_14delAACinsAC",
+                "c.-2_1delAACinsAC removed: A in front, C behind; left: A, nothing",
+                "c.10_12delGTTinsGT removed: GT in front; left: T, nothing",
+            ),
+            (
+                "g.12_13CA>GA",
+                "c.-2_-1CA>GA    removed: A behind; left: C, G",
+                "c.11_12TG>TC    removed: T in front; left: G, C",
+            ),
+            (
+                "g.14T>T",
+                "c.1T>T          removed: T in front; left: nothing, nothing",
+                "c.10A>A         removed: A in front; left: nothing, nothing",
+            ),
+            // An end in a gap of the alignment.
+            ("g.30A>G", "c.(11_12)A>G", "c.1T>C"),
+            ("g.28A>G", "c.10A>G", "c.(1_2)T>C"),
+        ] {
+            for (strand, expected) in [(1, plus), (-1, minus)] {
+                let (done, output, complaints) = map_of(&transcript(strand), Bounds::Strict, line.as_bytes());
+                assert!(done && complaints.is_empty(), "{line}: {complaints}");
+                assert_eq!(behind_n(&output), expected, "{line}, strand {strand}");
+            }
+        }
+        let (_, output, _) = map(Bounds::Strict, "g.23A>G\n");
+        assert_eq!(output, "g.23A>G         intron 1        n.10+3          c.7+3A>G\n");
+    }
+
+    /// What stands behind a line's n. interval.
+    fn behind_n(output: &str) -> &str {
+        let (_, names) = output.trim_end().split_once(" n.").expect("an n. interval");
+        names.split_once(' ').expect("more").1.trim_start()
+    }
+
+    #[test]
+    fn a_wrong_letter_is_named_with_its_place_in_the_line() {
+        let refused = "refused 34: an allele with a letter outside the nucleotide list";
+        for (line, place, letter) in [
+            ("g.23A>U", 7, 'U'),
+            ("g.23u>U", 5, 'u'),
+            ("  g 23A>-", 9, '-'),
+            ("g.22_23delinsTX", 15, 'X'),
+            ("g.22_23delAEinsTX", 12, 'E'),
+            ("g.23_24insCC4C", 13, '4'),
+            ("g.23_24insé", 11, 'é'),
+            ("g.23A > G", 6, ' '),
+            ("g.22_23delA\u{e9}CinsT", 12, 'é'),
+        ] {
+            let (done, output, complaints) = map(Bounds::Strict, line);
+            assert!(done && complaints.is_empty(), "{line}: {complaints}");
+            assert_eq!(behind_n(&output), format!("{refused}; place {place} of the line has `{letter}`"), "{line}");
+        }
+        // Also where the interval is refused, as 34 comes first; other refusals stand once.
+        let (_, output, _) = map(Bounds::Strict, "g.34A>U\ng.34A>G\ng.?del\n");
+        let outside = "refused 14: strict: place outside the from-table";
+        let lines: Vec<_> = output.lines().collect();
+        assert_eq!(lines[0], format!("g.34A>U         {refused}; place 7 of the line has `U`"));
+        assert_eq!(lines[1], format!("g.34A>G         {outside}"));
+        assert_eq!(lines[2], "g.?del          refused 19: g. start or end missing");
+    }
+
+    /// Every line that is asked gives one row or one complaint, whatever stands on it.
+    #[test]
+    fn any_line_is_answered_or_named() {
+        let pieces =
+            ["g", "g.", "g ", "c.", "1", "23", "_", "-", "?", "+", "A", "c", "N", "U", "é", ">", "del", "ins", " "];
+        let mut rng = XorShiftRng::seed_from_u64(6);
+        for transcript in [transcript(1), transcript(-1), Transcript::of_length(18, Some(3), Some(15)).unwrap()] {
+            for _ in 0..20_000 {
+                let start = if rng.gen_ratio(3, 4) { "g.23" } else { "" };
+                let rest: String = (0..rng.gen_range(1..8)).map(|_| *pieces.choose(&mut rng).unwrap()).collect();
+                let line = format!("{start}{rest}");
+                let (done, output, complaints) = map_of(&transcript, Bounds::Strict, line.as_bytes());
+                let is_asked = usize::from(!line.trim().is_empty());
+                assert_eq!(output.lines().count() + complaints.lines().count(), is_asked, "{line}");
+                assert_eq!(done, complaints.is_empty(), "{line}");
+            }
+        }
+    }
+
+    #[test]
+    fn what_is_no_variant_is_named() {
+        let neighbours = "an insertion stands between two neighbouring bases, as in g.23_24insC";
+        for (line, why) in [
+            ("g.23A>", "letters are missing"),
+            ("g.23>G", "letters are missing"),
+            ("g.23_24ins", "letters are missing"),
+            ("g.23_24delins", "letters are missing"),
+            ("g.23_24delACins", "letters are missing"),
+            ("g.23insC", neighbours),
+            ("g.23_25insC", neighbours),
+            ("g.24_23insC", neighbours),
+            ("g.23AC>G", "letters of the reference: 2, bases of the interval: 1"),
+            ("g.22_24delAC", "letters of the reference: 2, bases of the interval: 3"),
+            ("g.-2147483648_2147483647delAC", "letters of the reference: 2, bases of the interval: 4294967296"),
+            ("g.A>G", "a number is missing"),
+            ("g.2147483648del", "a number does not fit 32 signed bits"),
+            ("g.23+1A>G", "a g. position is a number alone"),
+            ("g.23dup", "a g. position is a number alone"),
+            ("c.7+3A>G", "something follows the offset"),
+        ] {
+            let (done, output, complaints) = map(Bounds::Strict, line);
+            assert!(!done && output.is_empty(), "{line}: {output}");
+            assert_eq!(complaints, format!("line 1: `{line}`: {why}\n"));
+        }
     }
 
     #[test]

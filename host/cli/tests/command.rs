@@ -12,12 +12,16 @@ fn demo(name: &str) -> PathBuf {
     PathBuf::from(env!("CARGO_MANIFEST_DIR")).join("../demo").join(name)
 }
 
-/// Writes transcript A's card to a file of its own.
-fn card_of_a(name: &str) -> PathBuf {
+/// Writes the card of a text of records to a file of its own.
+fn card_of(text: &str, name: &str) -> PathBuf {
     let card = PathBuf::from(env!("CARGO_TARGET_TMPDIR")).join(name);
-    let written = run(&["card", demo("a.txt").to_str().unwrap(), "-o", card.to_str().unwrap()], "");
+    let written = run(&["card", demo(text).to_str().unwrap(), "-o", card.to_str().unwrap()], "");
     assert!(written.status.success(), "{}", String::from_utf8_lossy(&written.stderr));
     card
+}
+
+fn card_of_a(name: &str) -> PathBuf {
+    card_of("a.txt", name)
 }
 
 #[test]
@@ -51,6 +55,28 @@ fn from_records_to_the_table_of_places() {
             "g.10            refused 14: strict: place outside the from-table",
         ]
     );
+}
+
+#[test]
+fn from_records_to_variants() {
+    let card = card_of("b.txt", "variants.card");
+    let mapped = run(&["map", card.to_str().unwrap()], &fs::read_to_string(demo("variants.txt")).unwrap());
+    assert!(mapped.status.success());
+    let output = String::from_utf8(mapped.stdout).unwrap();
+    let refused = "refused 34: an allele with a letter outside the nucleotide list; place 7 of the line has `U`";
+    assert_eq!(
+        output.lines().collect::<Vec<_>>(),
+        [
+            "g.23A>G         intron 1        n.8+3           c.5+3T>C",
+            "g.22_23del      intron 1        n.8+3_9-2       c.5+3_6-2del",
+            "g.22_23delinsTT intron 1        n.8+3_9-2       c.5+3_6-2delinsAA",
+            "g.23_24insC     intron 1        n.8+2_8+3       c.5+2_5+3insG",
+            "g.12_14CAC>C    exon 2          n.15_17         c.12_*2GTG>G    removed: G in front; left: TG, nothing",
+            &format!("g.23A>U         intron 1        n.8+3           {refused}"),
+        ]
+    );
+    let help = String::from_utf8(run(&["map", "--help"], "").stdout).unwrap();
+    assert!(help.contains("Nothing is normalized"));
 }
 
 #[test]

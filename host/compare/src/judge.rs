@@ -96,11 +96,17 @@ impl<P: Port> Judge<P> {
         self.compare_built("txc_build_length", settled, port, &(length, cds_start, cds_end))
     }
 
-    /// Asks a question of the transcript that was built last.
+    /// Asks a question of the transcript that was built last. One from g. to c. is asked with two alleles too, and the interval is the
+    /// same.
     pub fn ask(&mut self, built: &mut Built, question: &Question) {
         let port = self.port.ask(question);
         let settled = settle::ask(built, question);
         self.compare(question.kind.entry(), settled, port, &(question, &built.source));
+        if question.kind == Kind::GToC {
+            let port = self.port.join(question);
+            let settled = settle::ask(built, question);
+            self.compare("txc_g_to_c_alleles", settled, port, &(question, &built.source));
+        }
     }
 
     /// Asks the transcript that was built last a sorted worklist, and holds each slot to the crate's answer to its position alone.
@@ -155,14 +161,14 @@ impl<P: Port> Judge<P> {
             (Origin::Narrowed, "narrowed"),
             (Origin::Added, "added"),
         ];
-        println!("{:<16}{}", "", all.map(|(_, word)| format!(" {word:>10}")).concat());
+        println!("{:<18}{}", "", all.map(|(_, word)| format!(" {word:>10}")).concat());
         let mut sums = [0; 6];
         for (entry, tally) in &self.tallies {
             let counts = all.map(|(origin, _)| tally.origins.get(&origin).copied().unwrap_or(0));
             for (sum, count) in sums.iter_mut().zip(counts) {
                 *sum += count;
             }
-            println!("{entry:<16}{}", counts.map(|count| format!(" {count:>10}")).concat());
+            println!("{entry:<18}{}", counts.map(|count| format!(" {count:>10}")).concat());
         }
         for fault in &self.faults {
             println!("{fault}");

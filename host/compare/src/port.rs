@@ -14,6 +14,8 @@ pub trait Port {
     fn build_length(&mut self, length: i32, cds: Cds) -> Result<Option<Source>, Refusal>;
     /// Answers a question to what was built last.
     fn ask(&self, question: &Question) -> Result<Answer, Refusal>;
+    /// Answers a g. to c. question with two alleles to what was built last: the interval alone.
+    fn join(&self, question: &Question) -> Result<Answer, Refusal>;
     /// Answers each position of a sorted worklist to what was built last. A list that is refused has its refusal everywhere.
     fn worklist(&self, positions: &[i32]) -> Vec<Result<Answer, Refusal>>;
     /// Reads CIGAR text.
@@ -49,6 +51,12 @@ impl Port for Entries {
 
     fn ask(&self, question: &Question) -> Result<Answer, Refusal> {
         let answer = question.ask(&self.lent);
+        Refusal::check(answer.number).map(|()| answer)
+    }
+
+    fn join(&self, question: &Question) -> Result<Answer, Refusal> {
+        let (of, g, strict) = (self.lent.reading(), question.g(), question.strict);
+        let answer = boundary::g_to_c_alleles(of, g, strict, b"AC", b"G", &mut [0; 2], &mut [0; 1]).answer;
         Refusal::check(answer.number).map(|()| answer)
     }
 

@@ -30,6 +30,8 @@ struct Wrong {
     /// Which questions are answered by the crate's rules: leniently, or with yes.
     kept: fn(&Source, &Question) -> bool,
     ask: fn(Kind, Answer) -> Said<Answer>,
+    /// What a g. to c. question with two alleles answers, made from the right answer or refusal.
+    join: fn(Said<Answer>) -> Said<Answer>,
     /// The answers of a worklist, made from the right ones.
     list: fn(Vec<Said<Answer>>) -> Vec<Said<Answer>>,
     read: fn(Vec<Element>) -> Said<Vec<Element>>,
@@ -46,6 +48,7 @@ impl Default for Wrong {
             unbuilt: Err,
             kept: |_, _| false,
             ask: |_, answer| Ok(answer),
+            join: |said| said,
             list: |answers| answers,
             read: Ok,
             write: |_, text| text,
@@ -75,6 +78,10 @@ impl Port for Wrong {
         let answer = self.entries.ask(&Question { strict: question.strict && !is_kept, ..*question })?;
         let yes = is_kept && question.kind == Kind::InBounds;
         (self.ask)(question.kind, if yes { Answer { mark: 1, ..answer } } else { answer })
+    }
+
+    fn join(&self, question: &Question) -> Said<Answer> {
+        (self.join)(self.entries.join(question))
     }
 
     fn worklist(&self, positions: &[i32]) -> Vec<Said<Answer>> {
@@ -252,6 +259,17 @@ fn a_walk_that_skips_a_slot_or_refuses_the_list() {
         answers.into_iter().map(|said| said.map(|answer| numbered(answer, |_| [0, 0]))).collect()
     };
     assert_eq!(listing(unnumbered), ["txc_worklist"]);
+}
+
+#[test]
+fn a_join_that_narrows_its_interval_or_refuses_otherwise() {
+    let joining = |join| differing(Wrong { join, ..Wrong::default() });
+    let narrows = |said: Said<Answer>| said.map(|answer| Answer { end: answer.start, ..answer });
+    assert_eq!(joining(narrows), ["txc_g_to_c_alleles"]);
+    let letters_first = |said: Said<Answer>| said.map_err(|_| Refusal::NoBase);
+    assert_eq!(joining(letters_first), ["txc_g_to_c_alleles"]);
+    let unnumbered = |said: Said<Answer>| said.map(|answer| numbered(answer, |_| [0, 0]));
+    assert_eq!(joining(unnumbered), ["txc_g_to_c_alleles"]);
 }
 
 #[test]

@@ -523,9 +523,62 @@ pub fn question<R: Rng>(rng: &mut R, source: &Source) -> Question {
     if kind == Kind::IsCoding {
         return Question { kind, start: Asked::default(), end: Asked::default(), missing: 0, strict: false };
     }
+    question_of(rng, kind, source)
+}
+
+/// A question of a kind that is about an interval, to a transcript.
+pub fn question_of<R: Rng>(rng: &mut R, kind: Kind, source: &Source) -> Question {
     let start = asked(rng, kind, source);
     let end = if rng.gen() { start } else { asked(rng, kind, source) };
     let missing = if kind.is_about_g() && rng.gen_ratio(1, 50) { rng.gen_range(1..4) } else { 0 };
     let strict = kind != Kind::InBounds && rng.gen();
     Question { kind, start, end, missing, strict }
+}
+
+/// A letter outside the nucleotide list: one that people write, a neighbour of those in it, or any.
+fn other_letter<R: Rng>(rng: &mut R) -> u8 {
+    let letter = if rng.gen() { *b"UuEIiZz@[`{-.*?0 X".choose(rng).expect("not empty") } else { rng.gen() };
+    if b"ACGTRYKMBDHVSWN".contains(&letter.to_ascii_uppercase()) {
+        letter | 0x80
+    } else {
+        letter
+    }
+}
+
+/// So many letters of the nucleotide list at most: any of them, or of two alone, so that alleles share some.
+fn letters<R: Rng>(rng: &mut R, most: usize) -> Vec<u8> {
+    let lists = [&b"AC"[..], b"AT", b"aA", b"ACGTRYKMBDHVSWNacgtrykmbdhvswn"];
+    let list = lists.choose(rng).expect("not empty");
+    (0..rng.gen_range(0..=most)).map(|_| *list.choose(rng).expect("not empty")).collect()
+}
+
+/// An allele, now and then with a letter outside the list, and the room for it.
+pub fn allele<R: Rng>(rng: &mut R) -> (Vec<u8>, usize) {
+    let most = if rng.gen_ratio(1, 20) { 600 } else { 12 };
+    let mut allele = letters(rng, most);
+    spoil_letter(rng, &mut allele);
+    let room = room(rng, allele.len());
+    (allele, room)
+}
+
+/// Puts a letter outside the list into an allele now and then.
+fn spoil_letter<R: Rng>(rng: &mut R, allele: &mut [u8]) {
+    if rng.gen_ratio(1, 12) {
+        if let Some(letter) = allele.choose_mut(rng) {
+            *letter = other_letter(rng);
+        }
+    }
+}
+
+/// A reference and an alternative, which share a front and a back more often than not, and the rooms for what is left of them: mostly
+/// around just that.
+pub fn alleles<R: Rng>(rng: &mut R) -> ([Vec<u8>; 2], [usize; 2]) {
+    let most = if rng.gen_ratio(1, 30) { 300 } else { 5 };
+    let (front, back) = (letters(rng, most), letters(rng, most));
+    let mut both = [(); 2].map(|()| [&front[..], &letters(rng, 3), &back].concat());
+    let least = both[0].len().min(both[1].len());
+    let common = (paper::prefix(&both[0], &both[1]) + paper::suffix(&both[0], &both[1])).min(least);
+    let rooms = [0, 1].map(|index| room(rng, both[index].len() - common));
+    both.iter_mut().for_each(|allele| spoil_letter(rng, allele));
+    (both, rooms)
 }

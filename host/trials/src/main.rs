@@ -5,7 +5,7 @@ use std::collections::BTreeMap;
 
 use clap::Parser;
 use pulindraxi::{
-    boundary::{self, Answer, Cds, Laid, Length, Position, Slot, Steps},
+    boundary::{self, Answer, Cds, Joined, Laid, Length, Position, Slot, Steps},
     limits::{MOST_RECORDS, MOST_SEGMENTS},
     Element, Refusal,
 };
@@ -13,8 +13,8 @@ use rand::{seq::SliceRandom, Rng, SeedableRng};
 use rand_xorshift::XorShiftRng;
 use trials::{
     draw::{self, Case},
-    paper::{self, Source, CARD_HEAD},
-    Lent, Question,
+    paper::{self, Both, Source, CARD_HEAD},
+    Kind, Lent, Question,
 };
 
 /// Tries the boundary with bad input.
@@ -211,6 +211,8 @@ impl Trial {
         }
         let positions = draw::worklist(&mut self.rng, &self.source);
         self.judge_worklist(&positions, source.as_ref());
+        let question = draw::question_of(&mut self.rng, Kind::GToC, &self.source);
+        self.judge_join(&question, source.as_ref());
         self.before = whole.clone();
         self.lent = whole;
     }
@@ -332,20 +334,78 @@ impl Trial {
         }
     }
 
+    fn turn(&mut self) {
+        let (allele, room) = draw::allele(&mut self.rng);
+        let expected = paper::turn(&allele, room);
+        let mut buffer = vec![b'.'; room];
+        let written = boundary::turn(&allele, &mut buffer);
+        self.judge_front("txc_turn", written, expected, &buffer, b'.');
+        self.count("txc_turn", written.number);
+    }
+
+    /// A g. interval with two alleles. Each buffer stands between two bytes and is painted: what is left of its allele fills its front,
+    /// and all else stays.
+    fn judge_join(&mut self, question: &Question, source: Option<&Source>) {
+        let ([reference, alternative], rooms) = draw::alleles(&mut self.rng);
+        let (g, strict) = (question.g(), question.strict);
+        let joined = source
+            .ok_or(Refusal::NotTogether)
+            .and_then(|of| of.g_to_c_alleles(g, strict, [&reference, &alternative], rooms));
+        let number = number_of(&joined);
+        let Both { answer, removed: [prefix, suffix], left } = joined.unwrap_or_default();
+        let expected = Joined {
+            answer: Answer { number, ..answer },
+            prefix,
+            suffix,
+            reference: left[0].len(),
+            alternative: left[1].len(),
+        };
+        let mut buffers = rooms.map(|room| vec![b'.'; room + 2]);
+        let mut after = buffers.clone();
+        for (buffer, left) in after.iter_mut().zip(&left) {
+            buffer[1..][..left.len()].copy_from_slice(left);
+        }
+        let [reference_out, alternative_out] = &mut buffers;
+        let got = boundary::g_to_c_alleles(
+            self.lent.reading(),
+            g,
+            strict,
+            &reference,
+            &alternative,
+            &mut reference_out[1..=rooms[0]],
+            &mut alternative_out[1..=rooms[1]],
+        );
+        let asked = || format!("txc_g_to_c_alleles {question:?} {reference:?} {alternative:?}, call {}", self.calls);
+        assert_eq!(got, expected, "{} of {:?}", asked(), self.lent.head);
+        assert_eq!(buffers, after, "{} of {:?}", asked(), self.lent.head);
+        assert!(self.lent == self.before, "{} changed lent memory", asked());
+        self.count("txc_g_to_c_alleles", number);
+    }
+
+    fn join(&mut self) {
+        let source = self.lent.source();
+        for _ in 0..6 {
+            let question = draw::question_of(&mut self.rng, Kind::GToC, source.as_ref().unwrap_or(&self.source));
+            self.judge_join(&question, source.as_ref());
+        }
+    }
+
     fn step(&mut self) {
         match self.rng.gen_range(0..100) {
             0..=9 => self.build(),
             10 => self.build_much(),
             11..=24 => self.build_card(),
             25..=27 => self.build_length(),
-            28..=50 => self.ask(),
-            51..=56 => self.worklist(),
+            28..=47 => self.ask(),
+            48..=51 => self.join(),
+            52..=56 => self.worklist(),
             57..=79 => self.ask_damaged(),
             80..=84 => self.read_cigar(),
             85..=87 => self.write_cigar(),
             88..=90 => self.read_bam(),
             91..=93 => self.write_bam(),
-            94..=96 => self.write_card(),
+            94..=95 => self.write_card(),
+            96..=97 => self.turn(),
             _ => self.trim(),
         }
     }
@@ -362,7 +422,7 @@ fn main() {
         entries.entry(entry).or_default().push(format!("{number}: {calls}"));
     }
     for (entry, numbers) in entries {
-        println!("{entry:<17} {}", numbers.join(", "));
+        println!("{entry:<18} {}", numbers.join(", "));
     }
     println!("{} calls from seed {}, each as the documents say", trial.calls, options.seed);
 }

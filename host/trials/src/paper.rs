@@ -808,6 +808,69 @@ pub fn changed(reference: &[u8], alternative: &[u8]) -> Part {
     Part { alternative: u32::from(is_alternative), from, to: longer - cut }
 }
 
+// ---- Alleles on the reverse strand: document 02, Ask 6
+
+/// The letters that complement each other; a letter that stands alone is its own complement.
+const PAIRS: [&[u8]; 9] = [b"AT", b"CG", b"RY", b"KM", b"BV", b"DH", b"S", b"W", b"N"];
+
+/// The complement of a letter, in its case; 34 for any other byte.
+fn complement(letter: u8) -> Result<u8, Refusal> {
+    let upper = letter.to_ascii_uppercase();
+    let pair = PAIRS.iter().find(|pair| pair.contains(&upper)).ok_or(Refusal::NoBase)?;
+    let other = if pair[0] == upper { pair[pair.len() - 1] } else { pair[0] };
+    Ok(if letter == upper { other } else { other.to_ascii_lowercase() })
+}
+
+/// An allele as the other strand reads it; 34 for a letter outside the list, wherever it stands.
+fn turned(allele: &[u8]) -> Result<Vec<u8>, Refusal> {
+    allele.iter().rev().map(|&letter| complement(letter)).collect()
+}
+
+/// An allele as the other strand reads it, in a room: 34, 20.
+pub fn turn(allele: &[u8], room: usize) -> Result<Vec<u8>, Refusal> {
+    let turned = turned(allele)?;
+    if turned.len() > room {
+        return Err(Refusal::NoRoom);
+    }
+    Ok(turned)
+}
+
+/// What a g. interval with two alleles answers.
+#[derive(Clone, Debug, Default, PartialEq, Eq)]
+pub struct Both {
+    /// The plain mapping's answer.
+    pub answer: Answer,
+    /// How many letters went at the front, and then at the back, in transcript direction.
+    pub removed: [usize; 2],
+    /// What is left of the reference and of the alternative.
+    pub left: [Vec<u8>; 2],
+}
+
+impl Source {
+    /// A g. interval with a reference and an alternative, each with the room for what is left of it: 34 on either strand, 20, then as
+    /// g. to c. Turned on strand -1, then without the common prefix, then without the common suffix.
+    pub fn g_to_c_alleles(
+        &self,
+        g: AskedG,
+        strict: bool,
+        given: [&[u8]; 2],
+        rooms: [usize; 2],
+    ) -> Result<Both, Refusal> {
+        let [turned_reference, turned_alternative] = given.map(turned);
+        let turned = [turned_reference?, turned_alternative?];
+        let backwards = matches!(self, Source::Records(Aligned { strand: -1, .. }));
+        let mut left = if backwards { turned } else { given.map(<[u8]>::to_vec) };
+        let prefix = prefix(&left[0], &left[1]);
+        left.iter_mut().for_each(|allele| drop(allele.drain(..prefix)));
+        let suffix = suffix(&left[0], &left[1]);
+        left.iter_mut().for_each(|allele| allele.truncate(allele.len() - suffix));
+        if left[0].len() > rooms[0] || left[1].len() > rooms[1] {
+            return Err(Refusal::NoRoom);
+        }
+        Ok(Both { answer: self.g_to_c(g, strict)?, removed: [prefix, suffix], left })
+    }
+}
+
 #[cfg(test)]
 mod tests {
     use super::*;
@@ -981,6 +1044,72 @@ mod tests {
         ] {
             assert_eq!(run(strand, records, "MNM", &exons), None, "{strand} {records} {exons:?}");
         }
+    }
+
+    #[test]
+    fn letters_are_turned_as_document_02_says() {
+        assert_eq!(turn(b"ACGTRYKMBDHVSWN", 15).unwrap(), b"NWSBDHVKMRYACGT");
+        assert_eq!(turn(b"aCgTrYkMbDhVsWn", 15).unwrap(), b"nWsBdHvKmRyAcGt");
+        assert_eq!(turn(b"", 0).unwrap(), b"");
+        let others = (0..=255u8).filter(|letter| !b"ACGTRYKMBDHVSWNacgtrykmbdhvswn".contains(letter));
+        for other in others {
+            for allele in [vec![other], vec![b'A', other], vec![other, b'A']] {
+                assert_eq!(turn(&allele, 0), Err(Refusal::NoBase), "{other}");
+            }
+        }
+        assert_eq!(turn(b"AC", 1), Err(Refusal::NoRoom));
+    }
+
+    #[test]
+    fn alleles_are_joined_as_document_02_says() {
+        let records = [([10, 20], "10M"), ([25, 33], "8M")];
+        let cds = Cds::new(Some(3), Some(15));
+        let [plus, minus] = [1, -1].map(|strand| built(strand, cds, &records).unwrap());
+        let g = AskedG { start: 12, end: 14, missing: 0 };
+        let joined = |source: &Source, reference: &str, alternative: &str| {
+            let given = [reference.as_bytes(), alternative.as_bytes()];
+            let Both { answer, removed: [prefix, suffix], left } =
+                source.g_to_c_alleles(g, true, given, [9, 9]).unwrap();
+            assert_eq!(Ok(answer), source.g_to_c(g, true));
+            let [reference, alternative] = left.map(|allele| String::from_utf8(allele).unwrap());
+            format!("{prefix} {suffix} {reference}>{alternative}")
+        };
+        for (reference, alternative, on_plus, on_minus) in [
+            ("CAC", "C", "1 0 AC>", "1 0 TG>"),
+            ("CAG", "CTG", "1 1 A>T", "1 1 T>A"),
+            ("CAA", "CA", "2 0 A>", "1 1 T>"),
+            ("AAC", "AC", "1 1 A>", "2 0 T>"),
+            ("CCC", "CCC", "3 0 >", "3 0 >"),
+            ("acg", "ACG", "0 0 acg>ACG", "0 0 cgt>CGT"),
+            ("", "NR", "0 0 >NR", "0 0 >YN"),
+            ("", "", "0 0 >", "0 0 >"),
+        ] {
+            assert_eq!(joined(&plus, reference, alternative), on_plus, "{reference} {alternative}");
+            assert_eq!(joined(&minus, reference, alternative), on_minus, "{reference} {alternative}, strand -1");
+        }
+    }
+
+    #[test]
+    fn refusals_of_the_join_have_their_order() {
+        let one = [([10, 20], "10M")];
+        let coding = built(-1, Cds::new(Some(3), Some(7)), &one).unwrap();
+        let plain = built(1, Cds::new(None, None), &one).unwrap();
+        let length = Source::Length(10, None);
+        let g = |start, missing| AskedG { start, end: start, missing };
+        let number = |source: &Source, g, given: [&str; 2], rooms| {
+            source.g_to_c_alleles(g, true, given.map(str::as_bytes), rooms).err().map_or(0, Refusal::number)
+        };
+        for source in [&coding, &plain, &length] {
+            assert_eq!(number(source, g(99, 1), ["U", "A"], [0, 0]), 34);
+            assert_eq!(number(source, g(99, 1), ["A", "u"], [0, 0]), 34);
+            assert_eq!(number(source, g(99, 1), ["AG", "A"], [0, 0]), 20);
+            assert_eq!(number(source, g(99, 1), ["A", "AG"], [0, 0]), 20);
+        }
+        assert_eq!(number(&length, g(99, 1), ["AG", "A"], [1, 0]), 18);
+        assert_eq!(number(&coding, g(99, 1), ["AG", "A"], [1, 0]), 19);
+        assert_eq!(number(&coding, g(99, 0), ["AG", "A"], [1, 0]), 14);
+        assert_eq!(number(&plain, g(11, 0), ["AG", "A"], [1, 0]), 13);
+        assert_eq!(number(&coding, g(11, 0), ["AG", "A"], [1, 0]), 0);
     }
 
     #[test]

@@ -3,8 +3,9 @@
 //! `host/compare/README.md` describes the layout, for readers in other languages too.
 
 use pulindraxi::{
-    boundary::{self, Answer, Asked, Cds, Counts, Head, Laid, Length, Letters, Part, Slot, Steps},
+    boundary::{self, Answer, Asked, Cds, Counts, Head, Joined, Laid, Length, Letters, Part, Slot, Steps},
     limits::MOST_SEGMENTS,
+    Refusal::NotTogether,
 };
 
 use crate::{paper, Kind, Lent, Place, Question};
@@ -407,6 +408,57 @@ fn list(recorded: &mut [(i32, Words)], lent: &Lent) -> Result<(), String> {
         }
     }
     Ok(())
+}
+
+/// Joins two alleles to a recorded question, and compares with its recorded answer and with the alleles as the transcript reads them;
+/// then what comes between 23 and the mapping's own refusals.
+fn join(row: &Row, lent: &Lent) -> Result<(), String> {
+    let question = row.question(Kind::GToC);
+    let ask = |alternative: &[u8], [mut front, mut back]: [Vec<u8>; 2]| {
+        let (of, g, strict) = (lent.reading(), question.g(), question.strict);
+        let joined = boundary::g_to_c_alleles(of, g, strict, b"CACG", alternative, &mut front, &mut back);
+        let Joined { answer, prefix, suffix, reference, alternative } = joined;
+        (words(answer), [prefix, suffix, reference, alternative], [front, back])
+    };
+    let painted = |length: usize| vec![b'.'; length];
+    let number = row.answer[0];
+    // The reference is CACG, or CGTG.
+    let (lengths, front) = match lent.head.strand {
+        _ if number != 0 => ([0; 4], &b"..."[..]),
+        1 => ([1, 1, 2, 0], &b"AC."[..]),
+        _ => ([2, 0, 2, 0], &b"TG."[..]),
+    };
+    let answered = (row.answer, lengths, [front.to_vec(), Vec::new()]);
+    let refused = |with: i32| if number == NotTogether.number() as i32 { number } else { with };
+    let before = |with, rooms| (self::front([refused(with)]), [0; 4], rooms);
+    for (alternative, rooms, expected) in [
+        (&b"CG"[..], [painted(3), painted(0)], answered),
+        (b"CU", [painted(3), painted(0)], before(34, [painted(3), painted(0)])),
+        (b"CG", [painted(1), painted(2)], before(20, [painted(1), painted(2)])),
+    ] {
+        let got = ask(alternative, rooms);
+        if got != expected {
+            return Err(format!("{question:?} with CACG and {alternative:?}: {got:?}, expected {expected:?}"));
+        }
+    }
+    Ok(())
+}
+
+/// Puts the g. to c. answers that a file records to the join with two alleles. Gives the number of rows, or what is wrong first.
+pub fn replay_joins(file: &[u8]) -> Result<usize, String> {
+    let mut lent = Lent::filled(0);
+    let mut joined = 0;
+    for row in rows(file)? {
+        match row.call {
+            Call::GToC => {
+                join(&row, &lent)?;
+                joined += 1;
+            }
+            Call::BuildCard | Call::Build | Call::BuildLength | Call::Damage => drop(call(&row, &mut lent)?),
+            _ => (),
+        }
+    }
+    Ok(joined)
 }
 
 /// Puts the strict g. to n. answers of one base that a file records to worklists, one for each state of the lent memory. Gives the

@@ -17,3 +17,8 @@ fn the_port_answers_as_recorded() {
 fn a_worklist_answers_as_recorded() {
     assert!(recorded::replay_lists(&file()).unwrap() > 80);
 }
+
+#[test]
+fn the_join_answers_as_recorded() {
+    assert!(recorded::replay_joins(&file()).unwrap() > 300);
+}

@@ -153,6 +153,16 @@ fn measure(count: usize) -> BTreeMap<&'static str, usize> {
         measure!(deepest, stack, "txc_c_to_g", boundary::c_to_g(of, a, b, strict));
         let mut slots: Vec<_> = (0..rng.gen_range(0..40)).map(|step| Slot::new(a.base + 2 * step)).collect();
         measure!(deepest, stack, "txc_worklist", boundary::worklist(of, &mut slots));
+        let ([reference, alternative], _) = draw::alleles(&mut rng);
+        let (front, back) = buffer.split_at_mut(1_000);
+        measure!(
+            deepest,
+            stack,
+            "txc_g_to_c_alleles",
+            boundary::g_to_c_alleles(of, g, strict, &reference, &alternative, front, back)
+        );
+        let allele = draw::allele(&mut rng).0;
+        measure!(deepest, stack, "txc_turn", boundary::turn(&allele, &mut buffer));
         measure!(deepest, stack, "txc_in_bounds", boundary::in_bounds(of, g));
         measure!(deepest, stack, "txc_is_coding", boundary::is_coding(of));
         measure!(deepest, stack, "txc_trim_prefix", boundary::trim_prefix(&bytes, &card));

@@ -1,0 +1,2 @@
+-- What the proof of the join uses.
+pub mod Parts
