@@ -7,7 +7,7 @@ ghost use Rattle.refusals.specs.Numbers.{mostSegments};
 ghost use Rattle.whole.specs.Whole.{Within};
 ghost use Rattle.numbering.specs.Numbers.{placeOfN};
 ghost use Rattle.segments.specs.Tables.{tables};
-ghost use Rattle.segments.specs.Paper.{Small, spotSaid};
+ghost use Rattle.segments.specs.Paper.{Small, endSaid, spotSaid, toTranscript, toGenome};
 ghost use Rattle.segments.specs.Places.{stopOf};
 ghost use Rattle.segments.specs.Exons.{lastNumber};
 ghost use Rattle.positions.specs.Answers.{gFits, fitting};
@@ -132,6 +132,38 @@ fn g_of_place(forward: bool, first: u32, p: Place, offset: i32) -> GEnd
     fitting::g_end(g)
 }
 
+// The spot of a place of the genome, which begins an interval or ends it.
+fn spot_of_g(
+    at: Alignment,
+    genome: &[u32; MOST_STARTS],
+    transcript: &[u32; MOST_STARTS],
+    letters: &[u8; MOST_SEGMENTS],
+    p: Place,
+    end: End,
+) -> Spot
+    requires { ⌜ Aligns at (tables (now genome) (now transcript) (now letters)) × Within 36 (p .0) ⌝ }
+    ensures said { λ r. ⌜ spotSaid r ≡ toTranscript (tables (now (genome .entry)) (now (transcript .entry)) (now (letters .entry))) (at .count) (p .0) (endSaid end) (at .forward) ⌝ }
+    ensures small { λ r. ⌜ Small 37 r × (r .number < at .count) ⌝ }
+{
+    segments::genome_to_transcript(genome, transcript, letters, at.count, p, end, at.forward)
+}
+
+// The spot of a place of the transcript.
+fn spot_of_n(
+    at: Alignment,
+    genome: &[u32; MOST_STARTS],
+    transcript: &[u32; MOST_STARTS],
+    letters: &[u8; MOST_SEGMENTS],
+    p: Place,
+    end: End,
+) -> Spot
+    requires { ⌜ Aligns at (tables (now genome) (now transcript) (now letters)) × Within 36 (p .0) ⌝ }
+    ensures said { λ r. ⌜ spotSaid r ≡ toGenome (tables (now (genome .entry)) (now (transcript .entry)) (now (letters .entry))) (at .count) (p .0) (endSaid end) ⌝ }
+    ensures small { λ r. ⌜ Small 37 r × (r .number < at .count) ⌝ }
+{
+    segments::transcript_to_genome(genome, transcript, letters, at.count, p, end)
+}
+
 // What stands behind the last segment's exon number.
 fn behind(at: Alignment) -> u16
     ensures { λ r. ⌜ r ≡ lastNumber (at .forward) (at .records) ⌝ }
@@ -223,15 +255,7 @@ fn one_to_n(
     let count = at.count;
     let p = place_of_g(at.first, g);
     if is_inside(strict, last(genome, count), p) {
-        let start = segments::genome_to_transcript(
-            genome,
-            transcript,
-            letters,
-            count,
-            p,
-            End::Start,
-            forward,
-        );
+        let start = spot_of_g(at, genome, transcript, letters, p, End::Start);
         let exon = exons::found(exons, count, behind(at), start);
         return n_of_one(forward, last(transcript, count), exon, start);
     }
@@ -293,24 +317,8 @@ pub fn to_n(
     let p = place_of_g(at.first, from);
     let q = place_of_g(at.first, to);
     if are_inside(strict, last(genome, count), p, q) {
-        let a = segments::genome_to_transcript(
-            genome,
-            transcript,
-            letters,
-            count,
-            p,
-            End::Start,
-            forward,
-        );
-        let b = segments::genome_to_transcript(
-            genome,
-            transcript,
-            letters,
-            count,
-            q,
-            End::Stop,
-            forward,
-        );
+        let a = spot_of_g(at, genome, transcript, letters, p, End::Start);
+        let b = spot_of_g(at, genome, transcript, letters, q, End::Stop);
         let numbers = found_exons(at, exons, a, b);
         return n_answer(forward, last(transcript, count), numbers, a, b);
     }
@@ -351,14 +359,7 @@ fn g_of_one(
     let len = last(transcript, count);
     let p = place_of_n(forward, len, base);
     if is_inside(strict, len, p) {
-        let start = segments::transcript_to_genome(
-            genome,
-            transcript,
-            letters,
-            count,
-            p,
-            End::Start,
-        );
+        let start = spot_of_n(at, genome, transcript, letters, p, End::Start);
         let number = exons::chosen(forward, exons, count, behind(at), start);
         let both = Exons {
             from: number,
@@ -412,15 +413,8 @@ fn g_of_ends(
     let p = place_of_n(forward, len, x);
     let q = place_of_n(forward, len, y);
     if are_inside(strict, len, p, q) {
-        let start = segments::transcript_to_genome(
-            genome,
-            transcript,
-            letters,
-            count,
-            p,
-            End::Start,
-        );
-        let stop = segments::transcript_to_genome(genome, transcript, letters, count, q, End::Stop);
+        let start = spot_of_n(at, genome, transcript, letters, p, End::Start);
+        let stop = spot_of_n(at, genome, transcript, letters, q, End::Stop);
         let numbers = chosen_exons(at, exons, start, stop);
         return g_answer(forward, at.first, numbers, start, stop, a.offset, b.offset);
     }

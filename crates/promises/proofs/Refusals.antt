@@ -39,11 +39,13 @@ use Rattle.card.specs.laws.RoundTrips.{IsCard, read-means}
 use Rattle.card.specs.declared.ReadCard.{ReadCard}
 use Rattle.card.specs.declared.ReadCard.the-variants as read
 use Rattle.worklist.specs.laws.Refusing.{worklist-refuses}
-use Rattle.holding.specs.Holding.{Lent, holds, sourceOf, checked}
-use Rattle.positions.specs.Positions.{Interval, GAsked}
+use Rattle.holding.specs.Holding.{Lent}
+use Rattle.positions.specs.Positions.{Interval, GAsked, CPosition}
+use Rattle.positions.specs.Answers.{Answer}
 use Rattle.mapper.specs.Asking.{askGToC}
+use Rattle.mapper.specs.laws.Refusing.{checked-only}
 use Rattle.sequences.specs.Turned.{areBases, onStrand, readOn, fitting, turning}
-use Rattle.alleles.specs.Joining.{Alleles, alleles, Rooms, readBoth, Trimmed, trimmed, fittingBoth, beside, readsBack, askJoined, joined}
+use Rattle.alleles.specs.Joining.{Alleles, alleles, Rooms, readBoth, trimmed, fittingBoth, beside, joinedWith, readsBack, askJoined, joined}
 use Rattle.alleles.specs.laws.Refusing.{plainRefusals, plain-only}
 use Rattle.promises.specs.Refusals.{Refusals, readingRefusals, writingRefusals, readingWordsRefusals, writingWordsRefusals, recordsRefusals, buildingRefusals, cardRefusals, lengthRefusals, cardWritingRefusals, turningRefusals, joiningRefusals}
 
@@ -358,19 +360,19 @@ turning-only allele room = only-then turningRefusals (readOn true allele) (fitti
 abbrev J : List ℕ
 J = joiningRefusals
 
-join-only : (x : Lent) (strict : Bool) (q : Interval GAsked) (s : Alleles) (room : Rooms) → Only joiningRefusals (joined x strict q s room)
-unfolding checked askJoined
-join-only x strict q s room =
-    let back = readsBack (sourceOf x) in
-    let plain = askGToC strict q (sourceOf x) in
-    only-if J (holds x) notTogether _
-    (only-then J (andThen (readBoth back s) (λ (read : Alleles). fittingBoth room (trimmed read))) _
+joined-only : (back : Bool) (s : Alleles) (room : Rooms) (plain : Answer CPosition) → Only J plain → Only J (joinedWith back s room plain)
+joined-only back s room plain h =
+    only-then J (andThen (readBoth back s) (λ (read : Alleles). fittingBoth room (trimmed read))) _
     (only-then J (readBoth back s) _ (only-both J alleles _ _ (letters-only J refl back (s .reference)) (letters-only J refl back (s .alternative)))
     (λ read e.
     let t = trimmed read in
     only-both J (λ (r a : List ℕ). t) _ _ (room-only J refl (room .reference) (t .left .reference)) (room-only J refl (room .alternative) (t .left .alternative))))
-    (λ t e. only-through J (beside t) plain (wider plainRefusals J plain refl (plain-only strict q (sourceOf x)))))
-    (λ e. refl)
+    (λ t e. only-through J (beside t) plain h)
+
+join-only : (x : Lent) (strict : Bool) (q : Interval GAsked) (s : Alleles) (room : Rooms) → Only joiningRefusals (joined x strict q s room)
+unfolding askJoined
+join-only x strict q s room =
+    checked-only J x (askJoined strict q s room) refl (λ y. joined-only (readsBack y) s room (askGToC strict q y) (wider plainRefusals J (askGToC strict q y) refl (plain-only strict q y)))
 
 pub refusals : Refusals
 refusals = record {

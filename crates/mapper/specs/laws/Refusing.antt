@@ -81,7 +81,7 @@ module _ (ks : List ℕ) where
     unfolding askCToN
     ask-c-to-n d o q x = c-to-n-only ks strict d o w (lengthOf x) (codingOf x) q
 
-    ask-g-to-c : oneOf notCoding ks ≡ true → (strict ≡ true → oneOf outside ks ≡ true) → (strict ≡ true → oneOf nOutside ks ≡ true) → oneOf noGenome ks ≡ true → oneOf missingEnd ks ≡ true → (q : Interval GAsked) (x : Source) → Only ks (askGToC strict q x)
+    pub ask-g-to-c : oneOf notCoding ks ≡ true → (strict ≡ true → oneOf outside ks ≡ true) → (strict ≡ true → oneOf nOutside ks ≡ true) → oneOf noGenome ks ≡ true → oneOf missingEnd ks ≡ true → (q : Interval GAsked) (x : Source) → Only ks (askGToC strict q x)
     unfolding askGToC
     ask-g-to-c d o u n m q x = only-chain ks asksN (askGToN strict q x) (λ (i : Interval NAsked). askNToC strict i x) (ask-g-to-n o n m q x) (λ a e. ask-n-to-c d u (each asksN (a .interval)) x)
 
@@ -102,7 +102,7 @@ module _ (ks : List ℕ) where
   ask-in-bounds n m q (lengthOnly len c) = record { only = n }
 
   -- 23 comes before the question's own
-  checked-only : {A : Type 0} (x : Lent) (ask : Source → Outcome A) → oneOf notTogether ks ≡ true → ((y : Source) → Only ks (ask y)) → Only ks (checked x ask)
+  pub checked-only : {A : Type 0} (x : Lent) (ask : Source → Outcome A) → oneOf notTogether ks ≡ true → ((y : Source) → Only ks (ask y)) → Only ks (checked x ask)
   unfolding checked
   checked-only x ask r o = only-if ks (holds x) notTogether (ask (sourceOf x)) (o (sourceOf x)) (λ e. r)
 

@@ -1,5 +1,4 @@
 -- `places::g_of_ends` meets its contract: where both numbers are one, `g_of_one` answers for them. Otherwise `place_of_n` gives the turned places, so that the test made is 14's; by it the answer is `gJoined` of the two spots (`g-answered`) or 14 (`g-refused`). Assumes nothing.
-use mathlib.Core.List.{[]}
 use mathlib.Core.Path.{_≡_, sym, _∙_}
 use lib.ListN.{getD}
 use mir.Syntax.{w32}
@@ -7,7 +6,7 @@ use Rattle.whole.specs.laws.Whole.{told}
 use Rattle.numbering.specs.Numbers.{placeOfN}
 use Rattle.places.specs.Mapping.{turned}
 use Rattle.positions.specs.Paper.{paperNAsked}
-use Rattle.places.proofs.Spans.{g-answered, g-refused, t-inside, on-genome, same-number}
+use Rattle.places.proofs.Spans.{g-answered, g-refused, t-inside}
 use Rattle.segments.specs.Tables.{tables}
 use Rattle.segments.specs.laws.Sizes.{wider}
 use borrow.Author.Needs.{needs}
@@ -58,8 +57,7 @@ chosen-exons-requires : tie.Need-chosen-exons-requires
 chosen-exons-requires c κs =
     let x = c .before in
     let s = x .before .before .before .before .before .before .before .before .before in
-    let below = on-genome (s .args .at) _ [] (s .pre) in
-    (same-number (x .transcript-to-genome .ensures .0) (below _ _), same-number (c .transcript-to-genome2 .ensures .0) (below _ _), s .pre .count-to)
+    (x .spot-of-n .ensures .1 .1, c .spot-of-n2 .ensures .1 .1, s .pre .count-to)
 
 returns-2 : tie.Need-returns-2
 returns-2 c =
@@ -71,8 +69,8 @@ returns-2 c =
     let p = q .before in
     let s = p .before .before .before .before .before in
     let a = s .args in
-    let from = rw (from-is p) at (x .transcript-to-genome .ensures .0) in
-    let to = rw (to-is q) at (y .transcript-to-genome2 .ensures .0) in
+    let from = rw (from-is p) at (x .spot-of-n .ensures .0) in
+    let to = rw (to-is q) at (y .spot-of-n2 .ensures .0) in
     let o = told w32 (a .a .offset) (c .before .before .struct-told5 .given .1 .0 .1) in
     let u = told w32 (a .b .offset) (c .before .struct-told6 .given .1 .0 .1) in
     rw (g-answered (a .at) _ _ (s .pre) (a .strict) (paperNAsked (a .a)) (paperNAsked (a .b)) (test-is (t .before) ∙ t .if2 .taken))
@@ -97,6 +95,6 @@ g-of-ends-spec =
     (λ c κs. search needs)
     (λ c κs. search needs)
     chosen-exons-requires
-    (λ c κs. let y = c .before .before .before in (wider (y .before .transcript-to-genome .ensures .1), wider (y .transcript-to-genome2 .ensures .1)))
+    (λ c κs. let y = c .before .before .before in (wider (y .before .spot-of-n .ensures .1 .0), wider (y .spot-of-n2 .ensures .1 .0)))
     returns-2
     returns-3)

@@ -1,12 +1,11 @@
 -- `places::g_of_one` meets its contract: `place_of_n` gives the turned place, so that the test made is 14's; by it the answer is that of the one spot (`one-back`) or 14 (`one-back-refused`). Assumes nothing.
-use mathlib.Core.List.{[]}
 use mathlib.Core.Path.{_≡_, sym, _∙_}
 use lib.ListN.{getD}
 use Rattle.whole.specs.laws.Whole.{read}
 use Rattle.numbering.specs.Numbers.{placeOfN}
 use Rattle.segments.specs.laws.Sizes.{wider}
 use Rattle.places.specs.Mapping.{inside, turned}
-use Rattle.places.proofs.Spans.{one-back, one-back-refused, on-genome, same-number}
+use Rattle.places.proofs.Spans.{one-back, one-back-refused}
 use borrow.Author.Needs.{needs}
 use Rattle.places.proofs.g_of_one.Statement.{statement}
 use Rattle.places.proofs.g_of_one.Tie as tie
@@ -27,7 +26,7 @@ chosen-requires : tie.Need-chosen-requires
 chosen-requires c κs =
     let x = c .before in
     let s = x .before .before .before .before .before in
-    (same-number (x .transcript-to-genome .ensures .0) (on-genome (s .args .at) _ [] (s .pre) _ _), s .pre .count-to)
+    (x .spot-of-n .ensures .1 .1, s .pre .count-to)
 
 returns : tie.Need-returns
 returns c =
@@ -37,7 +36,7 @@ returns c =
     let p = t .before .before in
     let s = p .before .before in
     let a = s .args in
-    let start = rw (place-is p) at (x .transcript-to-genome .ensures .0) in
+    let start = rw (place-is p) at (x .spot-of-n .ensures .0) in
     simp (n .chosen .ensures, n .before .behind .ensures, c .before .stop-of .ensures .0, start, read (s .fits .o), read (s .fits .u)) at (c .g-answer .ensures)
     ∙ sym (one-back (a .at) _ _ (s .pre) (a .strict) (a .base) (a .o) (a .u) (test-is (t .before) ∙ t .if1 .taken))
 
@@ -58,6 +57,6 @@ g-of-one-spec =
     (λ c κs. search needs)
     chosen-requires
     (λ c κs. search needs)
-    (λ c κs. (wider (c .before .before .before .transcript-to-genome .ensures .1), c .stop-of .ensures .1))
+    (λ c κs. (wider (c .before .before .before .spot-of-n .ensures .1 .0), c .stop-of .ensures .1))
     returns
     returns-2)

@@ -1,9 +1,8 @@
 -- `places::one_to_n` meets its contract: `place_of_g` gives the place, so that the test made is 14's; by it the answer is that of the one spot (`one-answered`) or 14 (`one-refused`). Assumes nothing.
-use mathlib.Core.List.{[]}
 use mathlib.Core.Path.{_≡_, sym, _∙_}
 use lib.ListN.{getD}
 use Rattle.whole.specs.laws.Whole.{read}
-use Rattle.places.proofs.Spans.{one-answered, one-refused, on-transcript, same-number}
+use Rattle.places.proofs.Spans.{one-answered, one-refused}
 use Rattle.places.specs.Mapping.{inside, placeOfG}
 use borrow.Author.Needs.{needs}
 use Rattle.places.proofs.one_to_n.Statement.{statement}
@@ -22,7 +21,7 @@ found-requires : tie.Need-found-requires
 found-requires c κs =
     let x = c .before in
     let s = x .before .before .before .before .before in
-    (same-number (x .genome-to-transcript .ensures .0) (on-transcript (s .args .at) _ [] (s .pre) _ _ _), s .pre .count-to)
+    (x .spot-of-g .ensures .1 .1, s .pre .count-to)
 
 returns : tie.Need-returns
 returns c =
@@ -32,7 +31,7 @@ returns c =
     let p = t .before .before .before in
     let s = p .before in
     let a = s .args in
-    let start = rw (place-is p) at (x .genome-to-transcript .ensures .0) in
+    let start = rw (place-is p) at (x .spot-of-g .ensures .0) in
     simp (f .found .ensures, f .before .behind .ensures, start, c .before .last2 .ensures) at (c .n-of-one .ensures)
     ∙ sym (one-answered (a .at) _ _ (s .pre) (a .strict) (a .g) (test-is (t .before) ∙ t .if1 .taken))
 
@@ -53,6 +52,6 @@ one-to-n-spec =
     (λ c κs. search needs)
     found-requires
     (λ c κs. c .before .before .before .before .before .before .before .pre .count-to)
-    (λ c κs. c .before .before .before .genome-to-transcript .ensures .1)
+    (λ c κs. c .before .before .before .spot-of-g .ensures .1 .0)
     returns
     returns-2)

@@ -1,8 +1,7 @@
 -- `places::to_n` meets its contract: where both numbers are one, `one_to_n` answers for them. Otherwise `place_of_g` gives the places, so that the test made is 14's; by it the answer is `nJoined` of the two spots (`n-answered`) or 14 (`n-refused`). Assumes nothing.
-use mathlib.Core.List.{[]}
 use mathlib.Core.Path.{_≡_, sym, _∙_}
 use Rattle.whole.specs.laws.Whole.{read}
-use Rattle.places.proofs.Spans.{n-answered, n-refused, g-inside, on-transcript, same-number}
+use Rattle.places.proofs.Spans.{n-answered, n-refused, g-inside}
 use Rattle.places.specs.Mapping.{placeOfG}
 use Rattle.segments.specs.Tables.{tables}
 use Rattle.segments.specs.laws.Sizes.{wider}
@@ -40,8 +39,7 @@ found-exons-requires : tie.Need-found-exons-requires
 found-exons-requires c κs =
     let x = c .before in
     let s = x .before .before .before .before .before .before .before in
-    let below = on-transcript (s .args .at) _ [] (s .pre) in
-    (same-number (x .genome-to-transcript .ensures .0) (below _ _ _), same-number (c .genome-to-transcript2 .ensures .0) (below _ _ _), s .pre .count-to)
+    (x .spot-of-g .ensures .1 .1, c .spot-of-g2 .ensures .1 .1, s .pre .count-to)
 
 returns-2 : tie.Need-returns-2
 returns-2 c =
@@ -52,8 +50,8 @@ returns-2 c =
     let q = t .before .before .before in
     let s = q .before .before .before in
     let a = s .args in
-    let from = rw (from-is (q .before)) at (x .genome-to-transcript .ensures .0) in
-    let to = rw (to-is q) at (y .genome-to-transcript2 .ensures .0) in
+    let from = rw (from-is (q .before)) at (x .spot-of-g .ensures .0) in
+    let to = rw (to-is q) at (y .spot-of-g2 .ensures .0) in
     rw (n-answered (a .at) _ _ (s .pre) (a .strict) (a .from) (a .to) (test-is (t .before) ∙ t .if2 .taken))
     (simp (from, to, f .found-exons .ensures, c .before .last2 .ensures) at (c .n-answer .ensures))
 
@@ -77,6 +75,6 @@ to-n-spec =
     (λ c κs. search needs)
     found-exons-requires
     (λ c κs. c .before .before .before .before .before .before .before .before .before .pre .count-to)
-    (λ c κs. let y = c .before .before in (wider (y .before .genome-to-transcript .ensures .1), wider (y .genome-to-transcript2 .ensures .1)))
+    (λ c κs. let y = c .before .before in (wider (y .before .spot-of-g .ensures .1 .0), wider (y .spot-of-g2 .ensures .1 .0)))
     returns-2
     returns-3)
