@@ -6,11 +6,16 @@ use Prim.Native.Nat.{ℕ}
 use Rattle.sequences.specs.Alleles.{bytesBefore, after}
 use Rattle.sequences.specs.Slices.{sliceOf}
 use Rattle.sequences.specs.Turned.{turned}
+use Rattle.sequences.specs.Trimmed.{removedOf}
 use Rattle.sequences.specs.laws.Strands.{suffix-turned, after-turned}
 use Rattle.sequences.proofs.Standing.{after-rests, prefix-fronts}
 use borrow.Author.Needs.{needs}
 use Rattle.sequences.proofs.strand.trim.Statement.{statement}
 use Rattle.sequences.proofs.strand.trim.Tie as tie
+
+-- what goes, by its two numbers
+told : (r a : List ℕ) (p q : ℕ) → p ≡ bytesBefore r a → q ≡ after r a → record { prefix = p; suffix = q } ≡ removedOf r a
+told r a p q front back = rw (front, back)
 
 returns : tie.Need-returns
 returns c =
@@ -24,7 +29,7 @@ returns c =
     ∙ prefix-fronts (sliceOf (a .reference)) (sliceOf (a .alternative)) _ _ _ (f .before .trim-common-suffixes .ensures) (f .front .ensures) (c .before .front2 .ensures)
     ∙ sym (after-turned r s)
     in
-    rw (f .before .before .if1 .taken) (cc (first, then))
+    rw (f .before .before .if1 .taken) (told (turned r) (turned s) _ _ first then)
 
 returns-2 : tie.Need-returns-2
 returns-2 c =
@@ -34,7 +39,7 @@ returns-2 c =
     let then : c .trim-common-suffixes2 .result ≡ after (a .reference .now) (a .alternative .now) =
     c .trim-common-suffixes2 .ensures ∙ after-rests (sliceOf (a .reference)) (sliceOf (a .alternative)) _ _ _ first (f .rest .ensures) (c .before .rest2 .ensures)
     in
-    rw (f .before .before .if1 .left) (cc (first, then))
+    rw (f .before .before .if1 .left) (told (a .reference .now) (a .alternative .now) _ _ first then)
 
 pub trim-spec : {M : Type 1} → statement M
 trim-spec =
