@@ -10,8 +10,8 @@ use lib.ListN.{length}
 use borrow.Author.Tests.{le-ltb, lt-ltb}
 use Rattle.sequences.specs.Alleles.{bytesBefore, after, changedPart}
 use Rattle.sequences.specs.Slices.{sliceOf}
-use Rattle.sequences.proofs.Standing.{after-rests}
-use Rattle.sequences.proofs.Remaining.{apart}
+use Rattle.sequences.specs.laws.Parts.{after-rests}
+use Rattle.sequences.specs.laws.Remaining.{apart}
 use borrow.Author.Needs.{needs}
 use Rattle.sequences.proofs.changed_part.Statement.{statement}
 use Rattle.sequences.proofs.changed_part.Tie as tie
