@@ -75,8 +75,8 @@ fn known_in(letters: &[u8; MOST_SEGMENTS], first: usize, to: usize) -> bool
     ok
 }
 
-// Whether the first count letters are known. The compiler makes straight code of whole blocks, so the last block overlaps the others; from 16 to 31
-// letters two blocks of 16 do, from 8 to 15 two of 8, and from 4 to 7 two of 4.
+// Whether the first count letters are known. The compiler makes straight code of whole blocks, so the last block overlaps the others; below 64
+// letters two blocks do, of 32, 16, 8 or 4.
 fn all_known(letters: &[u8; MOST_SEGMENTS], count: usize) -> bool
     requires { ⌜ count ≤ mostSegments ⌝ }
     ensures { λ r. ⌜ r ≡ allBelow (knownAt (now (letters .entry))) count ⌝ }
@@ -97,6 +97,11 @@ fn all_known(letters: &[u8; MOST_SEGMENTS], count: usize) -> bool
     if count < 32 {
         let front = known_in(letters, 0, 16);
         let back = known_in(letters, count - 16, count);
+        return front & back;
+    }
+    if count < 64 {
+        let front = known_in(letters, 0, 32);
+        let back = known_in(letters, count - 32, count);
         return front & back;
     }
     let front = known_in(letters, 0, count - count % 16);
@@ -323,6 +328,11 @@ fn all_common(letters: &[u8; MOST_SEGMENTS], count: usize) -> bool
     if count < 32 {
         let front = common_in(letters, 0, 16);
         let back = common_in(letters, count - 16, count);
+        return front & back;
+    }
+    if count < 64 {
+        let front = common_in(letters, 0, 32);
+        let back = common_in(letters, count - 32, count);
         return front & back;
     }
     if all_plain(letters, count) {

@@ -22,6 +22,9 @@ returns-4 c = ap₂ _&&_ (c .before .known-in6 .ensures) (c .known-in7 .ensures)
 returns-5 : tie.Need-returns-5
 returns-5 c = ap₂ _&&_ (c .before .known-in8 .ensures) (c .known-in9 .ensures) ∙ stretched _ _ _ _ (omega arith) (omega arith)
 
+returns-6 : tie.Need-returns-6
+returns-6 c = ap₂ _&&_ (c .before .known-in10 .ensures) (c .known-in11 .ensures) ∙ stretched _ _ _ _ (omega arith) (omega arith)
+
 pub all-known-spec : {M : Type 1} → statement M
 all-known-spec =
     tie.close
@@ -37,7 +40,10 @@ all-known-spec =
     (λ c κs. search needs)
     (λ c κs. search needs)
     returns-4
+    (λ c κs. search needs)
+    (λ c κs. search needs)
+    returns-5
     (λ c. search needs)
     (λ c κs. search needs)
     (λ c κs. search needs)
-    returns-5)
+    returns-6)
