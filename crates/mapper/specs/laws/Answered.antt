@@ -1,10 +1,10 @@
 -- What is known where a question to what is lent is answered: across the genome each end has the number of an exon, in 1 to 512, between n. and c. there is no mark, and every number fits. Assumes nothing.
-use Prim.Native.Nat.{ℕ, _≤_}
+use Prim.Native.Nat.{ℕ}
 use native.Mathlib.Omega.{arith}
 use mathlib.Core.Bool.{Bool, true}
-use mathlib.Core.Path.{_≡_, refl}
+use mathlib.Core.Path.{_≡_}
 use Rattle.refusals.specs.Numbers.{mostRecords}
-use Rattle.refusals.specs.Outcome.{Outcome, answered}
+use Rattle.refusals.specs.Outcome.{answered}
 use Rattle.refusals.specs.laws.Outcomes.{clash, then-tells}
 use Rattle.whole.specs.laws.Whole.{by-test}
 use Rattle.segments.specs.Exons.{IsExon}
@@ -13,7 +13,7 @@ use Rattle.transcript.specs.Transcript.Source.{aligned, lengthOnly}
 use Rattle.holding.specs.Holding.{Lent, ofRecords, holds, sourceOf, checked}
 use Rattle.holding.specs.laws.Held.{together, source-of-records, source-of-length, held-exons, checked-answered}
 use Rattle.positions.specs.Positions.{Interval, GAsked, NAsked, CAsked, GPosition, NPosition, CPosition, asksN}
-use Rattle.positions.specs.Answers.{Mark, unmarked, Marked, gFits, nFits, cFits, Fitted}
+use Rattle.positions.specs.Answers.{unmarked, Marked, gFits, nFits, cFits, Fitted}
 use Rattle.positions.specs.laws.Ends.{row-plain, chain-tells}
 use Rattle.coding.specs.laws.Answered.{c-to-n-fits, n-to-c-fits, c-to-n-plain, n-to-c-plain}
 use Rattle.places.specs.Mapping.{gToN}
@@ -39,9 +39,9 @@ Numbered (lengthOnly n c) = Unit {0}
 module _ (strict : Bool) where
   ask-g-to-n : (q : Interval GAsked) (y : Source) → Numbered y → (a : Marked NPosition) → askGToN strict q y ≡ answered a → AnsweredAcross nFits a
   unfolding askGToN
-  ask-g-to-n q (aligned t) numbered =
+  ask-g-to-n q (aligned t) numbered a h =
       then-tells (given q) (gToN strict t) (AnsweredAcross nFits)
-      (λ i a e h. record { mark = g-to-n-across strict t mostRecords numbered i a h; fitted = g-to-n-fits strict t i a h })
+      (λ i b e s. record { mark = g-to-n-across strict t mostRecords numbered i b s; fitted = g-to-n-fits strict t i b s }) a h
   ask-g-to-n q (lengthOnly n c) numbered a h = absurd (clash h)
 
   ask-n-to-g : (q : Interval NAsked) (y : Source) → Numbered y → (a : Marked GPosition) → askNToG strict q y ≡ answered a → AnsweredAcross gFits a

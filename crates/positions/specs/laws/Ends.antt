@@ -1,6 +1,6 @@
 -- An answer and its parts: 17 of an interval is 17 of its ends, the first one's first; an interval that is answered has both its ends answered, and they fit; and its mark. Assumes nothing.
 use Prim.Native.Nat.{ℕ}
-use mathlib.Core.Path.{_≡_, refl, sym, ap, _∙_, subst}
+use mathlib.Core.Path.{_≡_, refl, ap, subst}
 use mathlib.Core.Bool.{Bool, true, false, _&&_}
 use Rattle.refusals.specs.Numbers.{tooWide}
 use Rattle.refusals.specs.Outcome.{Outcome, answered, refused, through}
