@@ -1,0 +1,3 @@
+-- The root of the crate's specs.
+--     Asking    what is said to a question as one value
+pub mod Asking
