@@ -1,8 +1,10 @@
--- An entry of a log: its bytes, and the entry that bytes are. Assumes nothing.
-use Prim.Native.Nat.{ℕ, _+_}
+-- An entry of a log: its bytes, the entry that bytes are, and which numbers its bytes have room for. Assumes nothing.
+use Prim.Native.Nat.{ℕ, _+_, _<_}
 use mathlib.Core.List.{List, _++_}
 use lib.IntN.{ℤ}
 use lib.ListN.{getD}
+use mir.Syntax.{w32}
+use mir.Val.{SFits}
 use Rattle.fields.specs.Fields.{bytes, bytes16, bytes32, bits32, le16, le32, signed32}
 use Rattle.layout.specs.declared.question.Question.{Question}
 use Rattle.layout.specs.declared.lay.Position.{Position}
@@ -73,3 +75,31 @@ entryAt s at = record { question = questionAt s at; answer = answerAt s (at + qu
 -- the entry that 44 bytes are
 abbrev pub entryOf : List ℕ → Entry
 entryOf s = entryAt s 0
+
+-- ---- numbers that the bytes have room for: a byte each, 16 bits for an exon, and 32 signed bits
+
+pub record QuestionFits (q : Question) : Type 0 where
+  pub kind-fits : q .kind < 256
+  pub strict-fits : q .strict < 256
+  pub start-marks-fit : q .«start_marks» < 256
+  pub end-marks-fit : q .«end_marks» < 256
+  pub start-fits : SFits w32 (q .start)
+  pub start-offset-fits : SFits w32 (q .«start_offset»)
+  pub end-fits : SFits w32 (q .end)
+  pub end-offset-fits : SFits w32 (q .«end_offset»)
+
+pub record PositionFits (p : Position) : Type 0 where
+  pub base-fits : SFits w32 (p .base)
+  pub offset-fits : SFits w32 (p .offset)
+  pub star-fits : p .star < 256
+  pub exon-fits : p .exon < 65536
+
+pub record AnswerFits (a : Answer) : Type 0 where
+  pub number-fits : a .number < 256
+  pub mark-fits : a .mark < 256
+  pub start-fits : PositionFits (a .start)
+  pub end-fits : PositionFits (a .end)
+
+pub record EntryFits (e : Entry) : Type 0 where
+  pub question-fits : QuestionFits (e .question)
+  pub answer-fits : AnswerFits (e .answer)

@@ -10,6 +10,7 @@ use layout::lay::Position;
 use layout::question::Question;
 
 pub mod canonical;
+pub mod logs;
 
 // The bytes of an entry: a question's, and behind them an answer's.
 pub const ENTRY_SIZE: usize = 44;

@@ -1,7 +1,7 @@
 -- There and back: reading what was written gives the number, and writing what was read gives the bytes.
 --     Any width     little-bytes, bytes-little; little-below
 --     Signed        signed-bits, bits-signed, signed-back; bits-fit, signed-fits
---     In a text     le16-stored, le32-stored, signed-stored; bytes16-le, bytes32-le, field-laid; le16-below, le32-below
+--     In a text     le16-stored, le32-stored, signed-stored; byte-laid, bytes16-le, bytes32-le, field-laid; le16-below, le32-below
 --     Runs          beside: a run of bytes and the run behind it
 -- Assumes nothing.
 use mathlib.Core.Path.{_≡_, refl, sym, ap, ap₂, _∙_}
@@ -12,7 +12,7 @@ use native.Mathlib.Decide.{decLt}
 use native.Mathlib.Omega.{arith}
 use lib.IntN.{ℤ, pos, negsuc}
 use lib.ListN.{length, getD, take, drop, length-drop, List·getD-eq-default}
-use lib.Seq.{sets, sets-eq, length-take-le, take-add, take-at, drop-at, drop-drop, getD-take, getD-drop}
+use lib.Seq.{sets, sets-eq, length-take-le, take-add, take-at, drop-at, drop-drop, drop-cons, getD-take, getD-drop}
 use borrow.Author.Tests.{lt-ltb, le-ltb}
 use mir.Syntax.{w32}
 use mir.Val.{SFits}
@@ -125,6 +125,11 @@ module _ (k at : ℕ) (s : List ℕ) (h : at + k ≤ length s) (t : Bytes s) whe
 
 -- a number that was read: its bytes are those that stand there
 module _ (s : List ℕ) (at : ℕ) (t : Bytes s) where
+  pub byte-laid : at + 1 ≤ length s → bytes 1 (getD s at 0) ≡ take 1 (drop at s)
+  byte-laid h =
+      let same : getD s at 0 % 256 ≡ getD s at 0 = omega (arith, t .below at) in
+      rw (drop-cons s at 0 (omega arith), same)
+
   pub bytes16-le : at + 2 ≤ length s → bytes16 (le16 s at) ≡ take 2 (drop at s)
   unfolding le16
   bytes16-le h = part-back 2 at s h t
