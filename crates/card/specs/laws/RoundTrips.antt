@@ -23,7 +23,7 @@ use Rattle.refusals.specs.Outcome.{answered}
 use Rattle.whole.specs.Whole.{eqZ}
 use Rattle.whole.specs.laws.Whole.{by-test, eq-by, eq-yes-by, eq-yes-says, both}
 use Rattle.fields.specs.Fields.{le16, le32, bytes16, bytes32, bits32}
-use Rattle.fields.specs.laws.RoundTrips.{Bytes, little-bytes, bytes16-le}
+use Rattle.fields.specs.laws.RoundTrips.{Bytes, little-bytes, signed-back, bytes16-le, field-laid, beside}
 use Rattle.records.specs.Records.{Record, fieldAt, exactly, recordsFrom}
 use Rattle.records.specs.laws.Walk.{records-length}
 use Rattle.transcript.specs.Heads.{bothBits, startOf, endOf, strandOf, numberOf}
@@ -32,7 +32,7 @@ use Rattle.transcript.specs.declared.Bound.{Bound}
 use Rattle.transcript.specs.declared.Bound.the-variants.{Given, Absent}
 use Rattle.card.specs.Layout.{mark, version, versionAt, strandAt, cdsAt, startAt, endAt, countAt, recordsAt}
 use Rattle.card.specs.Card.{strandByte, cdsByte, recordsText, headerText, cardText, isMarked, numbersIn, arePlain, isCard, readCard, inputIn, said, cardSays}
-use Rattle.card.specs.laws.Records.{AllFit, signed-back, from-laid, exactly-laid, field-laid, beside, laid-from}
+use Rattle.card.specs.laws.Records.{AllFit, from-laid, exactly-laid, laid-from}
 use Rattle.transcript.specs.declared.Numbers.{Numbers}
 use Rattle.card.specs.declared.ReadCard.{ReadCard}
 use Rattle.card.specs.declared.ReadCard.the-variants as read
