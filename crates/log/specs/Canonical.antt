@@ -1,7 +1,7 @@
 -- The questions and answers that an entry can hold. Every other entry is 35: `holdable` and `sayable` have the reasons one by one, and there is no other.
 -- Assumes nothing.
 use Prim.Native.Nat.{ℕ}
-use mathlib.Core.Bool.{Bool, true, false, _&&_, _||_}
+use mathlib.Core.Bool.{Bool, true, _&&_, _||_}
 use mathlib.Core.List.{List, [], _∷_}
 use lib.Dec.{eqb, ltb, leb}
 use lib.IntN.{ℤ, pos}

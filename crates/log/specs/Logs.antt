@@ -1,5 +1,6 @@
 -- A log: what entries are written as, what bytes read as, and what an entry more is written as behind them. Assumes nothing.
 use Prim.Native.Nat.{ℕ, zero, suc, _+_, _-_, _/_, _%_}
+use mathlib.Core.Path.{_≡_}
 use mathlib.Core.Bool.{Bool, true, false, _&&_, not}
 use mathlib.Core.List.{List, [], _∷_, _++_}
 use lib.Dec.{eqb, ltb}
@@ -67,6 +68,11 @@ readLog s =
     else if not (isHeaded s (length s)) then refused noLog
     else if not (allCanonical (entriesIn s)) then refused noLog
     else answered (entriesIn s)
+
+-- what bytes in use hold: nothing, in a log that is not begun, or the entries that they read as
+pub data Holds : List ℕ → List Entry → Type 0 where
+  not-begun : Holds [] []
+  begun : {s : List ℕ} {es : List Entry} → readLog s ≡ answered es → Holds s es
 
 -- what the code says of it: how many entries there are
 abbrev pub answerOf : Outcome (List Entry) → ReadLog

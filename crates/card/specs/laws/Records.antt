@@ -3,7 +3,7 @@
 --     exactly-laid, from-laid          bytes that records were laid out as are just these records
 --     laid-from, from-fit              bytes that are just n records are what those lay out, and they fit
 -- Assumes nothing.
-use mathlib.Core.Path.{_≡_, refl, sym, ap, ap₂, _∙_}
+use mathlib.Core.Path.{_≡_, refl, sym, ap, _∙_}
 use mathlib.Core.Bool.{true}
 use mathlib.Core.List.{List, [], _∷_, _++_}
 use Prim.Native.Nat.{ℕ, zero, suc, _+_, _-_, _<_, _≤_}
@@ -12,7 +12,7 @@ use native.Mathlib.Omega.{arith}
 use borrow.Author.Tests.{eq-eqb, eqb-true, le-leb}
 use lib.IntN.{ℤ}
 use lib.ListN.{length, take, drop, length-append, length-drop, take-append-drop, drop-of-length-le}
-use lib.Seq.{drop-drop, take-add, take-at, drop-at, length-take-le}
+use lib.Seq.{drop-drop, take-at, drop-at, length-take-le}
 use mir.Syntax.{w32}
 use mir.Val.{SFits}
 use Rattle.fields.specs.Fields.{little, le16, le32, bytes16, bytes32, signed32, bits32}

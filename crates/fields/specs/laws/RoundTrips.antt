@@ -1,5 +1,5 @@
 -- There and back: reading what was written gives the number, and writing what was read gives the bytes.
---     Any width     little-bytes, bytes-little; little-below
+--     Any width     little-bytes, bytes-little; little-below; drop-bytes, take-bytes
 --     Signed        signed-bits, bits-signed, signed-back; bits-fit, signed-fits
 --     In a text     le16-stored, le32-stored, signed-stored; byte-laid, bytes16-le, bytes32-le, field-laid; le16-below, le32-below
 --     Runs          beside: a run of bytes and the run behind it
@@ -11,8 +11,8 @@ use native.Mathlib.Nat.{pow-succ'}
 use native.Mathlib.Decide.{decLt}
 use native.Mathlib.Omega.{arith}
 use lib.IntN.{ℤ, pos, negsuc}
-use lib.ListN.{length, getD, take, drop, length-drop, List·getD-eq-default}
-use lib.Seq.{sets, sets-eq, length-take-le, take-add, take-at, drop-at, drop-drop, drop-cons, getD-take, getD-drop}
+use lib.ListN.{length, getD, take, drop, length-drop}
+use lib.Seq.{sets, sets-eq, length-take-le, take-add, take-at, drop-at, drop-drop, drop-cons, getD-drop}
 use borrow.Author.Tests.{lt-ltb, le-ltb}
 use mir.Syntax.{w32}
 use mir.Val.{SFits}
@@ -42,6 +42,22 @@ bytes-little (b ∷ s) t =
     let low : (b + 256 * little s) % 256 ≡ b = omega arith in
     let high : (b + 256 * little s) / 256 ≡ little s = omega arith in
     rw (low, high, bytes-little s (tail-bytes t))
+
+-- the last and the first bytes
+no-bytes : Bytes []
+no-bytes = record { below = λ i. omega arith }
+
+one-more : {b : ℕ} {s : List ℕ} → b < 256 → Bytes s → (i : ℕ) → getD (b ∷ s) i 0 < 256
+one-more h t zero = h
+one-more h t (suc i) = t .below i
+
+pub drop-bytes : (k : ℕ) (s : List ℕ) → Bytes s → Bytes (drop k s)
+drop-bytes k s t = record { below = λ i. rw getD-drop (t .below (k + i)) }
+
+pub take-bytes : (k : ℕ) (s : List ℕ) → Bytes s → Bytes (take k s)
+take-bytes zero s t = no-bytes
+take-bytes (suc k) [] t = no-bytes
+take-bytes (suc k) (b ∷ s) t = record { below = one-more (t .below 0) (take-bytes k s (tail-bytes t)) }
 
 -- how large they are as a number
 pub little-below : (s : List ℕ) → Bytes s → little s < 256 ^ length s
@@ -109,13 +125,7 @@ module _ (k at : ℕ) (s : List ℕ) (h : at + k ≤ length s) (t : Bytes s) whe
   part-length = length-take-le k (drop at s) (rw length-drop (omega arith))
 
   part-bytes : Bytes (take k (drop at s))
-  part-bytes = record {
-    below = λ i.
-        elim (decLt i k) [
-          | yes l ↦ rw (getD-take k (drop at s) i 0 l, getD-drop) (t .below (at + i))
-          | no m ↦ rw (List·getD-eq-default (take k (drop at s)) 0 {n = i} (omega (arith, part-length))) (omega arith)
-        ];
-  }
+  part-bytes = take-bytes k (drop at s) (drop-bytes at s t)
 
   part-back : bytes k (little (take k (drop at s))) ≡ take k (drop at s)
   part-back = ap (λ (n : ℕ). bytes n (little (take k (drop at s)))) (sym part-length) ∙ bytes-little (take k (drop at s)) part-bytes
