@@ -1,0 +1,50 @@
+-- A log that was made on what is lent holds each question with what was said to it, and reads back as just these entries, whatever was asked. Assumes nothing.
+use Prim.Native.Nat.{ℕ, _+_}
+use mathlib.Core.Bool.{true}
+use mathlib.Core.List.{List, [], _∷_, _++_, map}
+use mathlib.Core.Path.{_≡_, refl, sym, ap, subst, _∙_}
+use lib.ListN.{length, take}
+use lib.Seq.{sets}
+use Rattle.refusals.specs.Outcome.{answered}
+use Rattle.refusals.specs.laws.Outcomes.{clash}
+use Rattle.whole.specs.laws.Whole.{by-test}
+use Rattle.fields.specs.laws.RoundTrips.{Bytes}
+use Rattle.holding.specs.Holding.{Lent}
+use Rattle.layout.specs.declared.question.Question.{Question}
+use Rattle.log.specs.Entries.{QuestionFits}
+use Rattle.log.specs.Canonical.{holdable}
+use Rattle.log.specs.Logs.{logBytes, readLog, appending, Holds, not-begun, begun}
+use Rattle.log.specs.laws.Appending.{grown, grown-reads}
+use Rattle.log.specs.declared.Entry.{Entry}
+use Rattle.asking.specs.Asking.{recorded, recording}
+use Rattle.asking.specs.Making.{Made, none-yet, one-more}
+use Rattle.asking.specs.laws.Saying.{recorded-canonical, recorded-fits}
+
+module _ (x : Lent) where
+  -- the entries of questions
+  abbrev pub allRecorded : List Question → List Entry
+  allRecorded qs = map (recorded x) qs
+
+  recorded-more : (qs : List Question) (q : Question) → allRecorded (qs ++ q ∷ []) ≡ allRecorded qs ++ recorded x q ∷ []
+  recorded-more [] q = refl
+  recorded-more (p ∷ qs) q = ap (λ (es : List Entry). recorded x p ∷ es) (recorded-more qs q)
+
+  -- what is recorded can be held, and is the log's own
+  pub recording-means : (q : Question) (s : List ℕ) (used : ℕ) (text : List ℕ) → recording x q s used ≡ answered text → (holdable q ≡ true) × (appending s used (recorded x q) ≡ answered text)
+  unfolding recording
+  recording-means q s used text h = by-test (holdable q) (λ e. (e, rw e at h)) (λ e. absurd (clash (rw e at h)))
+
+  -- the bytes in use, with one question more
+  module _ (s : List ℕ) (used : ℕ) (qs : List Question) (q : Question) (text : List ℕ) (held : Holds (take used s) (allRecorded qs)) (bs : Bytes s) (h : recording x q s used ≡ answered text) where
+    pub grows : take (used + length text) (sets s used text) ≡ logBytes (allRecorded (qs ++ q ∷ []))
+    grows = grown s used (recorded x q) text (recording-means q s used text h .1) bs (allRecorded qs) held ∙ ap logBytes (sym (recorded-more qs q))
+
+    pub grows-reads : QuestionFits q → readLog (take (used + length text) (sets s used text)) ≡ answered (allRecorded (qs ++ q ∷ []))
+    grows-reads f =
+        let (can, put) = recording-means q s used text h in
+        grown-reads s used (recorded x q) text put bs (allRecorded qs) held (recorded-fits x q f can) (recorded-canonical x q can)
+        ∙ ap answered (sym (recorded-more qs q))
+
+  pub made-holds : {s : List ℕ} {used : ℕ} {qs : List Question} → Made x s used qs → Holds (take used s) (allRecorded qs)
+  made-holds none-yet = not-begun
+  made-holds (one-more {s} {used} {qs} {q} {text} made bs f h) = begun (grows-reads s used qs q text (made-holds made) bs h f)
