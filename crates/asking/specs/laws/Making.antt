@@ -2,7 +2,8 @@
 use Prim.Native.Nat.{ℕ, _+_}
 use mathlib.Core.Bool.{true}
 use mathlib.Core.List.{List, [], _∷_, _++_, map}
-use mathlib.Core.Path.{_≡_, refl, sym, ap, subst, _∙_}
+use mathlib.Core.Logic.{_⊎_, inl, inr}
+use mathlib.Core.Path.{_≡_, refl, sym, ap, _∙_}
 use lib.ListN.{length, take}
 use lib.Seq.{sets}
 use Rattle.refusals.specs.Outcome.{answered}
@@ -36,10 +37,10 @@ module _ (x : Lent) where
 
   -- the bytes in use, with one question more
   module _ (s : List ℕ) (used : ℕ) (qs : List Question) (q : Question) (text : List ℕ) (held : Holds (take used s) (allRecorded qs)) (bs : Bytes s) (h : recording x q s used ≡ answered text) where
-    pub grows : take (used + length text) (sets s used text) ≡ logBytes (allRecorded (qs ++ q ∷ []))
+    grows : take (used + length text) (sets s used text) ≡ logBytes (allRecorded (qs ++ q ∷ []))
     grows = grown s used (recorded x q) text (recording-means q s used text h .1) bs (allRecorded qs) held ∙ ap logBytes (sym (recorded-more qs q))
 
-    pub grows-reads : QuestionFits q → readLog (take (used + length text) (sets s used text)) ≡ answered (allRecorded (qs ++ q ∷ []))
+    grows-reads : QuestionFits q → readLog (take (used + length text) (sets s used text)) ≡ answered (allRecorded (qs ++ q ∷ []))
     grows-reads f =
         let (can, put) = recording-means q s used text h in
         grown-reads s used (recorded x q) text put bs (allRecorded qs) held (recorded-fits x q f can) (recorded-canonical x q can)
@@ -48,3 +49,9 @@ module _ (x : Lent) where
   pub made-holds : {s : List ℕ} {used : ℕ} {qs : List Question} → Made x s used qs → Holds (take used s) (allRecorded qs)
   made-holds none-yet = not-begun
   made-holds (one-more {s} {used} {qs} {q} {text} made bs f h) = begun (grows-reads s used qs q text (made-holds made) bs h f)
+
+  -- before the first question nothing is in use; then the bytes in use are the log of the entries, and read back as them
+  pub made-is : {s : List ℕ} {used : ℕ} {qs : List Question} → Made x s used qs
+      → ((used ≡ 0) × (qs ≡ [])) ⊎ ((take used s ≡ logBytes (allRecorded qs)) × (readLog (take used s) ≡ answered (allRecorded qs)))
+  made-is none-yet = inl (refl, refl)
+  made-is (one-more {s} {used} {qs} {q} {text} made bs f h) = inr (grows s used qs q text (made-holds made) bs h, grows-reads s used qs q text (made-holds made) bs h f)
