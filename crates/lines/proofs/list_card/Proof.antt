@@ -134,8 +134,9 @@ returns-2 c =
     let b = c .before .before .before .before .before .before .before .build-card .ensures in
     let e = ap judgmentText (refuses (judgeCard (entry (c .before .before .before .before .before .before .before) .args .card .now)) (k .0 .0) (sym (b .0) ∙ k .1)) in
     let p = c .before .before .put-refusal .ensures in
-    let w = in-front (put-as (sym e) (p .0)) (p .1) (entry (c .before .before .before .before .before .before .before) .pre) in
-    (w .0, (p .1, (w .1, b .1)))
+    let short : c .before .before .put-refusal .result ≤ mostListing = omega (arith, p .1) in
+    let w = in-front (put-as (sym e) (p .0)) short (entry (c .before .before .before .before .before .before .before) .pre) in
+    (w .0, (short, (w .1, b .1)))
 
 pub list-card-spec : {M : Type 1} → statement M
 list-card-spec =
