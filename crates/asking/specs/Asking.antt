@@ -1,9 +1,11 @@
 -- A question of one of the six mappings as one value, asked of what is lent. Assumes nothing.
 use Prim.Native.Nat.{ℕ, _/_, _%_}
 use mathlib.Core.Bool.{Bool, false, cond}
+use mathlib.Core.List.{List}
 use lib.Dec.{eqb}
 use lib.IntN.{ℤ, pos}
 use Rattle.refusals.specs.Numbers.{noLog}
+use Rattle.refusals.specs.Outcome.{Outcome, refused}
 use Rattle.whole.specs.Whole.{if_then_else_}
 use Rattle.holding.specs.Holding.{Lent, checked}
 use Rattle.mapper.specs.Asking.{askGToN, askNToG, askNToC, askCToN, askGToC, askCToG}
@@ -12,7 +14,11 @@ use Rattle.layout.specs.Questions.{gToN, nToG, nToC, cToN, gToC, isStrict, gOf,
 use Rattle.layout.specs.declared.lay.Answer.{Answer}
 use Rattle.layout.specs.declared.question.Question.{Question}
 use Rattle.log.specs.Canonical.{holdable}
+use Rattle.log.specs.Logs.{appending}
 use Rattle.log.specs.declared.Entry.{Entry}
+use Rattle.log.specs.declared.logs.Appended.{Appended}
+use Rattle.log.specs.declared.logs.Appended.the-variants as appended
+use Rattle.asking.specs.declared.Recorded.{Recorded}
 
 module _ (x : Lent) where
   -- the mapping that a question names, laid out; a kind above 5 names none and is refused before
@@ -32,6 +38,15 @@ module _ (x : Lent) where
   -- the question and what is said to it
   abbrev pub recorded : Question → Entry
   recorded q = record { question = q; answer = asked q }
+
+  -- what is put behind the bytes in use: 35 for such a question, then the log's own 35, 3 and 20
+  unfoldable pub recording : Question → List ℕ → ℕ → Outcome (List ℕ)
+  recording q s used = if holdable q then appending s used (recorded q) else refused noLog
+
+-- as the boundary has it: where it is refused, all else is 0
+abbrev pub recordedLaid : Answer → Appended → Recorded
+recordedLaid a (appended.Length n) = record { number = 0; length = n; answer = a }
+recordedLaid a (appended.Refused k) = record { number = k; length = 0; answer = refusal 0 }
 
 -- ---- the question that the arguments of an entry of the boundary make: kind, interval, strictness
 
