@@ -78,7 +78,8 @@ pub fn is_held(question: &Numbers) -> bool {
 }
 
 impl Question {
-    /// The question as one value, if it is one of the six mappings. A number under a missing mark is 0.
+    /// The question as one value, if it is one of the six mappings. What its entry does not look at is 0: a number under a missing mark,
+    /// an offset on g.
     pub fn numbers(&self) -> Option<Numbers> {
         let kind = MAPPINGS.iter().position(|mapping| mapping.kind == self.kind)? as u32;
         let marks = |end: Asked, bit: u32| match self.kind {
@@ -88,15 +89,16 @@ impl Question {
         };
         let (start_marks, end_marks) = (marks(self.start, 1), marks(self.end, 2));
         let number = |end: Asked, marks: u32| if marks == Numbers::MISSING { 0 } else { end.base };
+        let offset = |end: Asked| if self.kind.is_about_g() { 0 } else { end.offset };
         Some(Numbers {
             kind,
             strict: self.strict.into(),
             start_marks,
             end_marks,
             start: number(self.start, start_marks),
-            start_offset: self.start.offset,
+            start_offset: offset(self.start),
             end: number(self.end, end_marks),
-            end_offset: self.end.offset,
+            end_offset: offset(self.end),
         })
     }
 
