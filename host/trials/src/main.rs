@@ -187,7 +187,7 @@ impl Trial {
         let (log, used) = draw::recording(&mut self.rng, drawn_from);
         let expected = logs::record(source, &question, &log, used);
         let number = number_of(&expected);
-        let mut lent = [&[b'<'], &log[..], b">"].concat();
+        let mut lent = [b"<", &log[..], b">"].concat();
         let mut after = lent.clone();
         let expected = expected.map_or(Recorded { number, ..Recorded::default() }, |(written, answer)| {
             after[1 + used..][..written.len()].copy_from_slice(&written);
