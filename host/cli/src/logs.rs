@@ -42,7 +42,7 @@ fn fault(bytes: &[u8]) -> String {
     }
     let behind = entries.len() % ENTRY;
     if behind != 0 {
-        return format!("behind its last whole entry stand {behind} bytes more");
+        return format!("bytes behind its last whole entry: {behind}");
     }
     let is_wrong = |entry: &[u8]| Log::read(&[head, entry].concat()).is_err();
     match entries.chunks(ENTRY).position(is_wrong) {
