@@ -182,3 +182,33 @@ impl Recording {
         })
     }
 }
+
+#[cfg(test)]
+mod tests {
+    use super::*;
+    use pulindraxi::{
+        asked::{NInterval, NPosition},
+        Bounds,
+    };
+    use std::{env, process};
+
+    #[test]
+    fn a_log_that_something_else_writes_to_is_left_alone() {
+        let log = env::temp_dir().join(format!("pulindraxi-{}-shared.log", process::id()));
+        let transcript = Transcript::of_length(18, Some(3), Some(15)).unwrap();
+        let question = Question::NToC(NInterval::at(NPosition::new(4, 0)), Bounds::Strict);
+        let [mut one, mut other] = [(); 2].map(|()| Recording::open(&log).unwrap());
+        for recording in [&mut one, &mut other] {
+            recording.record(&transcript, question).unwrap();
+        }
+        one.write().unwrap();
+        let whole = fs::read(&log).unwrap();
+        let error = other.write().unwrap_err().to_string();
+        assert!(error.ends_with("something else has written to the log"), "{error}");
+        assert_eq!(fs::read(&log).unwrap(), whole);
+        one.record(&transcript, question).unwrap();
+        one.write().unwrap();
+        assert_eq!(read_all(&log).unwrap()[0].1.len(), 2);
+        fs::remove_file(log).unwrap();
+    }
+}
