@@ -3,7 +3,7 @@
 use pulindraxi::{
     boundary::{Answer, Asked, Cds, Head, Laid, Question as Numbers},
     limits::{ENTRY, LOG_HEAD, MOST_ENTRIES, MOST_LOG, MOST_SEGMENTS, MOST_TEXT, MOST_WORD_COUNT},
-    Element, Refusal,
+    Element,
 };
 use rand::{seq::SliceRandom, Rng};
 
@@ -620,16 +620,12 @@ fn said<R: Rng>(rng: &mut R, question: Numbers, of: &[Option<&Source>]) -> Answe
     if rng.gen_ratio(1, 6) {
         match rng.gen_range(0..8) {
             0 => answer.start.exon ^= 1,
-            1 => answer.end.exon += 1,
+            1 => answer.end.exon ^= 1,
             2 => answer.start.base ^= 1,
             3 => answer.end.offset = number(rng),
             4 => answer.end.star ^= 1,
             5 => answer.mark = rng.gen_range(0..4),
-            6 => {
-                answer = paper::refused(
-                    *[Refusal::NotCoding, Refusal::Outside, Refusal::TooWide].choose(rng).expect("not empty"),
-                )
-            }
+            6 => answer = Answer { number: rng.gen_range(12..25), ..Answer::default() },
             _ => answer.number = rng.gen_range(0..40),
         }
     }
@@ -670,7 +666,7 @@ pub fn log<R: Rng>(rng: &mut R, source: &Source, of: &[Option<&Source>]) -> Vec<
         let question = held(rng, source);
         let entry = Entry { question, answer: said(rng, question, of) };
         // Each wrong field would refuse the log, so that most would be: few are kept.
-        if logs::is_entry(&entry) || rng.gen_ratio(1, 40) {
+        if logs::is_entry(&entry) || rng.gen_ratio(1, 6) {
             entries.push(entry);
         }
     }
