@@ -12,12 +12,12 @@ use native.Mathlib.Omega.{arith}
 use lib.ListN.{length}
 use borrow.Author.Tests.{lt-ltb}
 use Rattle.whole.specs.laws.Whole.{both}
-use Rattle.sequences.specs.declared.strand.Removed.{Removed}
+use Rattle.strands.specs.declared.Removed.{Removed}
 use Rattle.sequences.specs.Slices.{Slice}
-use Rattle.sequences.specs.Turned.{areBases, onStrand}
-use Rattle.sequences.specs.Trimmed.{removedOf, leftOf, leftAt}
-use Rattle.sequences.specs.laws.Turning.{on-strand-length}
-use Rattle.sequences.specs.laws.Trimming.{left-read, left-bases}
+use Rattle.strands.specs.Turned.{areBases, onStrand}
+use Rattle.strands.specs.Trimmed.{removedOf, leftOf, leftAt}
+use Rattle.strands.specs.laws.Turning.{on-strand-length}
+use Rattle.strands.specs.laws.Trimming.{left-read, left-bases}
 use Rattle.alleles.specs.Joining.{Rooms, Trimmed}
 use Rattle.alleles.specs.Deciding.{enough}
 use Rattle.alleles.specs.laws.Ordering.{haveRoom}

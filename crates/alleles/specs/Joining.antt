@@ -11,9 +11,9 @@ use Rattle.positions.specs.Positions.{Interval, GAsked, CPosition}
 use Rattle.positions.specs.Answers.{Marked, Answer}
 use Rattle.mapper.specs.Asking.{askGToC}
 use Rattle.layout.specs.Layout.{cLaid, refusal, laid}
-use Rattle.sequences.specs.Turned.{readOn, fitting, turnedInto}
-use Rattle.sequences.specs.Trimmed.{removedOf, leftOf}
-use Rattle.sequences.specs.declared.strand.Removed.{Removed}
+use Rattle.strands.specs.Turned.{readOn, fitting, turnedInto}
+use Rattle.strands.specs.Trimmed.{removedOf, leftOf}
+use Rattle.strands.specs.declared.Removed.{Removed}
 use Rattle.alleles.specs.declared.Joined.{Joined}
 
 -- ---- what is asked

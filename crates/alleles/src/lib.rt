@@ -5,7 +5,7 @@ ghost use lib.ListN.{length};
 ghost use Rattle.refusals.specs.Outcome.{numberOf, Outcome.refused};
 ghost use Rattle.holding.specs.Holding.{lent};
 ghost use Rattle.positions.specs.Paper.{paperGQuestion, paperC};
-ghost use Rattle.sequences.specs.Turned.{areBases};
+ghost use Rattle.strands.specs.Turned.{areBases};
 ghost use Rattle.alleles.specs.Joining.{alleles, rooms, joined, joinedLaid, laidWith, referenceAfter, alternativeAfter};
 ghost use Rattle.alleles.specs.Deciding.{headReadsBack, enough, firstRefusal};
 use layout::lay;
@@ -17,9 +17,8 @@ use refusals::MOST_STARTS;
 use refusals::NO_BASE;
 use refusals::NO_ROOM;
 use refusals::NOT_TOGETHER;
-use sequences::strand;
-use sequences::strand::Removed;
-use sequences::turn;
+use strands::Removed;
+use strands::turn;
 use transcript::Head;
 use transcript::OF_RECORDS;
 
@@ -152,9 +151,9 @@ pub fn join(
 {
     let told = mapper::g_to_c(head, genome, transcript, letters, exons, q, strict);
     let back = reads_back(head);
-    let gone = strand::trim(reference, alternative, back);
-    let r = strand::left(reference, back, gone);
-    let a = strand::left(alternative, back, gone);
+    let gone = strands::trim(reference, alternative, back);
+    let r = strands::left(reference, back, gone);
+    let a = strands::left(alternative, back, gone);
     let bases = are_both_bases(reference, alternative);
     let room = have_room(r.len(), reference_out.len(), a.len(), alternative_out.len());
     let number = first_refusal(number_of(told), bases, room);

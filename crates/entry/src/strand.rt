@@ -1,7 +1,7 @@
 // Alleles on the reverse strand for the host: an allele turned, and a g. interval with two alleles as the transcript reads them.
 ghost use mathlib.Core.Path.{_≡_};
 ghost use lib.ListN.{length};
-ghost use Rattle.sequences.specs.Turned.{turning, turnedInto};
+ghost use Rattle.strands.specs.Turned.{turning, turnedInto};
 ghost use Rattle.layout.specs.Layout.{lentAt};
 ghost use Rattle.alleles.specs.Joining.{alleles, rooms, joinedLaid, referenceAfter, alternativeAfter};
 ghost use Rattle.entry.specs.Boundary.{numberLaid, textLaid};
@@ -31,7 +31,7 @@ pub extern "C" fn txc_turn(allele: &[u8], buffer: &mut [u8]) -> Length
     ensures { λ r. ⌜ r ≡ textLaid (turning (now (allele .entry)) (length (now (buffer .entry)))) ⌝ }
     ensures { λ _. ⌜ now (buffer .exit) ≡ turnedInto (now (buffer .entry)) (turning (now (allele .entry)) (length (now (buffer .entry)))) ⌝ }
 {
-    let number = sequences::turn::turn(allele, buffer);
+    let number = strands::turn::turn(allele, buffer);
     number_laid(number, allele.len())
 }
 

@@ -7,7 +7,7 @@
 --     Demand3                       demand 3 over records whose CIGARs were read
 --     Rooms, Built, Counting        what is known of an input that builds, and its exon numbers
 --     Promises, Table               the promises
---     Refusals, Occurring           which refusals there are, and that each occurs
+--     Refusals                      which refusals there are
 --     Questions                     which a question gives in strict mode
 --     Host                          what a host sees
 --     Covers                        each place lies in an element
@@ -32,7 +32,6 @@ pub mod Counting
 pub mod Promises
 pub mod Table
 pub mod Refusals
-pub mod Occurring
 pub mod Questions
 pub mod Host
 pub mod Covers

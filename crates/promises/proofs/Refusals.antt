@@ -44,7 +44,7 @@ use Rattle.positions.specs.Positions.{Interval, GAsked, CPosition}
 use Rattle.positions.specs.Answers.{Answer}
 use Rattle.mapper.specs.Asking.{askGToC}
 use Rattle.mapper.specs.laws.Refusing.{checked-only}
-use Rattle.sequences.specs.Turned.{areBases, onStrand, readOn, fitting, turning}
+use Rattle.strands.specs.Turned.{areBases, onStrand, readOn, fitting, turning}
 use Rattle.alleles.specs.Joining.{Alleles, alleles, Rooms, readBoth, trimmed, fittingBoth, beside, joinedWith, readsBack, askJoined, joined}
 use Rattle.alleles.specs.laws.Refusing.{plainRefusals, plain-only}
 use Rattle.promises.specs.Refusals.{Refusals, readingRefusals, writingRefusals, readingWordsRefusals, writingWordsRefusals, recordsRefusals, buildingRefusals, cardRefusals, lengthRefusals, cardWritingRefusals, turningRefusals, joiningRefusals}

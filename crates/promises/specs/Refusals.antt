@@ -16,7 +16,7 @@ use Rattle.worklist.specs.Worklist.{listed}
 use Rattle.worklist.specs.laws.Refusing.{worklistRefusals}
 use Rattle.worklist.specs.declared.Slot.{Slot}
 use Rattle.positions.specs.Positions.{Interval, GAsked}
-use Rattle.sequences.specs.Turned.{turning}
+use Rattle.strands.specs.Turned.{turning}
 use Rattle.alleles.specs.Joining.{Alleles, Rooms, joined}
 use Rattle.alleles.specs.laws.Refusing.{plainRefusals}
 

@@ -1,13 +1,7 @@
--- What is shown of the definitions of Slices, Turned and Trimmed.
---     Parts      what a slice holds without its first bytes, and without its last
---     Letters    a letter and its complement
---     Turning    a turned allele, and an allele turned into a lent buffer
---     Strands    what two alleles have in common, and what changed, before turning and after it
---     Trimming   what is left of an allele, before turning and after it
---     Worked     worked examples, computed
+-- What is shown of the definitions of Alleles and Slices.
+--     InCommon    what two lists have in common, from the front and from the back
+--     Remaining   what remains of two alleles, by what is around it and by its bounds
+--     Parts       what a slice holds without its first bytes, and without its last
+pub mod InCommon
+pub mod Remaining
 pub mod Parts
-pub mod Letters
-pub mod Turning
-pub mod Strands
-pub mod Trimming
-pub mod Worked

@@ -5,11 +5,8 @@ ghost use lib.ListN.{length, getD};
 ghost use Rattle.sequences.specs.Alleles.{prefixLen, suffixLen, along, changedPart};
 ghost use Rattle.sequences.specs.Slices.{sliceOf, partBetween, restOf, frontOf, partOf};
 
-pub mod strand;
-pub mod turn;
-
 // The i-th byte from the back, or from the front.
-fn byte_along(s: &[u8], back: bool, i: usize) -> u8
+pub fn byte_along(s: &[u8], back: bool, i: usize) -> u8
     requires { ⌜ i < length (now s) ⌝ }
     ensures { λ r. ⌜ r ≡ getD (along back (now (s .entry))) i 0 ⌝ }
 {

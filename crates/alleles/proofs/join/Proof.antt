@@ -10,10 +10,10 @@ use Rattle.holding.specs.Holding.{Lent, lent}
 use Rattle.positions.specs.Positions.{Interval, GAsked, CPosition}
 use Rattle.positions.specs.Answers.{Answer}
 use Rattle.positions.specs.Paper.{paperGQuestion, paperC}
-use Rattle.sequences.specs.declared.strand.Removed.{Removed}
+use Rattle.strands.specs.declared.Removed.{Removed}
 use Rattle.sequences.specs.Slices.{sliceOf}
-use Rattle.sequences.specs.Turned.{areBases, onStrand}
-use Rattle.sequences.specs.Trimmed.{removedOf}
+use Rattle.strands.specs.Turned.{areBases, onStrand}
+use Rattle.strands.specs.Trimmed.{removedOf}
 use Rattle.alleles.specs.Joining.{Alleles, alleles, Rooms, rooms, Trimmed, beside, joined, joinedLaid, laidWith}
 use Rattle.alleles.specs.Deciding.{enough, firstRefusal}
 use Rattle.alleles.specs.laws.Ordering as order

@@ -22,7 +22,7 @@ use Rattle.positions.specs.Positions.{Interval, GAsked, CPosition}
 use Rattle.positions.specs.Answers.{Answer}
 use Rattle.mapper.specs.Asking.{askGToC}
 use Rattle.mapper.specs.laws.Refusing.{gToCRefusals, inMode, g-to-c-refuses}
-use Rattle.sequences.specs.Turned.{areBases, onStrand}
+use Rattle.strands.specs.Turned.{areBases, onStrand}
 use Rattle.alleles.specs.Joining.{Alleles, alleles, Rooms, Trimmed, trimmed, fittingBoth, Joining, beside, joinedWith, readsBack, askJoined, joined, laidWith, joinedLaid, referenceAfter, alternativeAfter}
 use Rattle.alleles.specs.Deciding.{headReadsBack, enough, firstRefusal}
 use Rattle.alleles.specs.laws.Refusing.{plainRefusals, plain-only}

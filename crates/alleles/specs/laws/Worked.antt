@@ -20,7 +20,7 @@ use Rattle.coding.specs.Coding.{beyond, cPosition, cOfInterval, nToC}
 use Rattle.places.specs.Mapping.{inside, turned, nOfSpot, wholeN, gToN}
 use Rattle.mapper.specs.Asking.{askGToN, askNToC, askGToC}
 use Rattle.sequences.specs.Alleles.{prefixLen, suffixLen}
-use Rattle.sequences.specs.Turned as turn
+use Rattle.strands.specs.Turned as turn
 use Rattle.alleles.specs.Joining.{Alleles, alleles, rooms, Trimmed, beside, askJoined, joined, referenceAfter, alternativeAfter}
 
 abbrev lentOf : ℤ → ℤ → List ℕ → Lent

@@ -1,7 +1,7 @@
 -- Counting from the back is counting along the list turned round.
 -- Assumes nothing.
 use mathlib.Core.Path.{refl, sym}
-use Rattle.sequences.proofs.InCommon.{getD-reverse}
+use Rattle.sequences.specs.laws.InCommon.{getD-reverse}
 use borrow.Author.Needs.{needs}
 use Rattle.sequences.proofs.byte_along.Statement.{statement}
 use Rattle.sequences.proofs.byte_along.Tie as tie

@@ -4,7 +4,7 @@ use mathlib.Core.Path.{_≡_, _∙_}
 use native.Mathlib.Omega.{arith}
 use Rattle.sequences.specs.Alleles.{changedPart}
 use Rattle.sequences.specs.Slices.{sliceOf, partOf}
-use Rattle.sequences.proofs.Remaining.{Inside, inside}
+use Rattle.sequences.specs.laws.Remaining.{Inside, inside}
 use borrow.Author.Needs.{needs}
 use Rattle.sequences.proofs.changed.Statement.{statement}
 use Rattle.sequences.proofs.changed.Tie as tie

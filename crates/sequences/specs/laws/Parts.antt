@@ -8,7 +8,7 @@ use native.Mathlib.Omega.{arith}
 use lib.ListN.{length, take, drop, length-drop, drop-of-length-le}
 use lib.Seq.{drop-length}
 use borrow.Rule.Slice.PartAt.{part-to-end}
-use Rattle.sequences.specs.Alleles.{stretch}
+use Rattle.sequences.specs.Alleles.{suffixLen, stretch, bytesBefore, after}
 use Rattle.sequences.specs.Slices.{Slice, size, restOf, frontOf}
 
 pub rest-bytes : (s : Slice) (p : ℕ) → restOf s p .bytes ≡ drop p (s .bytes)
@@ -30,3 +30,7 @@ front-first p q s = ap (λ (n : ℕ). take n (drop p s)) (let h : length (drop p
 
 pub between-bytes : (s : Slice) (p q : ℕ) → frontOf (restOf s p) q .bytes ≡ stretch (s .bytes) p (size s - q)
 between-bytes s p q = front-bytes (restOf s p) q ∙ ap (λ (t : List ℕ). take (length t - q) t) (rest-bytes s p) ∙ front-first p q (s .bytes)
+
+-- the bytes that go at the back of two alleles are counted in what is left of them behind their common prefix
+pub after-rests : (r a x y : Slice) (p : ℕ) → p ≡ bytesBefore (r .bytes) (a .bytes) → x ≡ restOf r p → y ≡ restOf a p → suffixLen (x .bytes) (y .bytes) ≡ after (r .bytes) (a .bytes)
+after-rests r a x y p e ex ey = rw (ex, ey, e, rest-bytes r (bytesBefore (r .bytes) (a .bytes)), rest-bytes a (bytesBefore (r .bytes) (a .bytes)))

@@ -7,8 +7,8 @@ use native.Mathlib.Omega.{arith}
 use lib.ListN.{length}
 use Rattle.refusals.specs.Outcome.{numberOf}
 use Rattle.whole.specs.laws.Whole.{by-test}
-use Rattle.sequences.specs.Turned.{areBases, turning}
-use Rattle.sequences.specs.laws.Turning.{turned-length, turning-other, turning-long, turning-fits}
+use Rattle.strands.specs.Turned.{areBases, turning}
+use Rattle.strands.specs.laws.Turning.{turned-length, turning-other, turning-long, turning-fits}
 use Rattle.entry.specs.Boundary.{lengthLaid, numberLaid, textLaid}
 use borrow.Author.Needs.{needs}
 use Rattle.entry.proofs.strand.txc_turn.Statement.{statement}

@@ -1,0 +1,1 @@
+// That each refusal of the table occurs is computed in proofs/; this crate has no code.

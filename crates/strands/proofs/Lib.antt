@@ -1,0 +1,2 @@
+-- What is shown of the definitions, and no function's proof uses.
+pub mod EitherOrder
