@@ -13,7 +13,7 @@ use Rattle.whole.specs.laws.Whole.{by-test, both, both-of}
 use Rattle.cigar.specs.Elements.{isLetter, letterD, letterEqual, letterI, letterM, letterN, letterX}
 use Rattle.segments.specs.Tables.{Tables, allBelow, knownAt, segmentsHold, Rising, Holds}
 use Rattle.segments.specs.laws.Meaning.{all-at, all-of, rising, holds-means, holds-where}
-use Rattle.together.specs.Steps.{wrapped, within, same, stepsWithin, isCommon, isPlain, commonSame, commonWithin, sameAt, withinAt, endWithinAt, commonAt, plainAt, commonSameAt, commonWithinAt, begin, LowEnds}
+use Rattle.together.specs.Steps.{wrapped, within, same, stepsWithin, isCommon, isPlain, commonSame, commonWithin, sameAt, withinAt, endsWithinAt, commonAt, plainAt, commonSameAt, commonWithinAt, begin, LowEnds}
 use Rattle.together.proofs.All.{equal-where}
 use Rattle.together.proofs.OneStep.{masked}
 
@@ -191,7 +191,7 @@ module _ (a : Tables) (n : ℕ) where
 
   -- no end has the highest bit
   abbrev pub lowEnds : Bool
-  lowEnds = allBelow (endWithinAt 31 (a .genome)) n && allBelow (endWithinAt 31 (a .transcript)) n
+  lowEnds = allBelow (endsWithinAt 31 (a .genome) (a .transcript)) n
 
   module _ (few : n ≤ 2048) (ends : LowEnds (a .genome) (a .transcript) n) where
     pub decided : (begin (a .genome) (a .transcript) && (allBelow (knownAt (a .letters)) n && (allBelow (sameAt a) n && (allBelow (withinAt 21 a) n || (allBelow (withinAt 31 a) n && lowEnds))))) ≡ segmentsHold a n
@@ -210,11 +210,11 @@ module _ (a : Tables) (n : ℕ) where
             holds (short-rises (a .genome) n g-begins few (λ i l. each i l .0)) (short-rises (a .transcript) n t-begins few (λ i l. each i l .1)))
             (λ long.
             let (lows, both-ends) = both (allBelow (withinAt 31 a) n) lowEnds (rw long at fine) in
-            let (g-ends, t-ends) = both (allBelow (endWithinAt 31 (a .genome)) n) (allBelow (endWithinAt 31 (a .transcript)) n) both-ends in
+            let each-end : (i : ℕ) → i < n → (within 31 (g (i + 1)) ≡ true) × (within 31 (t (i + 1)) ≡ true) = λ i l. both (within 31 (g (i + 1))) (within 31 (t (i + 1))) (all-at (endsWithinAt 31 (a .genome) (a .transcript)) n both-ends i l) in
             let each : (i : ℕ) → i < n → (wrapped (g (i + 1)) (g i) < 2 ^ 31) × (wrapped (t (i + 1)) (t i) < 2 ^ 31) = λ i l. within-parts 31 i (all-at (withinAt 31 a) n lows i l) in
             holds
-            (low-rises (a .genome) n g-begins (λ i l. each i l .0) (λ i l. within-says 31 (g (i + 1)) (all-at (endWithinAt 31 (a .genome)) n g-ends i l)))
-            (low-rises (a .transcript) n t-begins (λ i l. each i l .1) (λ i l. within-says 31 (t (i + 1)) (all-at (endWithinAt 31 (a .transcript)) n t-ends i l))))
+            (low-rises (a .genome) n g-begins (λ i l. each i l .0) (λ i l. within-says 31 (g (i + 1)) (each-end i l .0)))
+            (low-rises (a .transcript) n t-begins (λ i l. each i l .1) (λ i l. within-says 31 (t (i + 1)) (each-end i l .1))))
 
         or-true : (b : Bool) {d : Bool} → d ≡ true → (b || d) ≡ true
         or-true true h = refl
@@ -225,43 +225,35 @@ module _ (a : Tables) (n : ℕ) where
             let x = holds-means a n h in
             let g-end = ends .genome-low in
             let t-end = ends .transcript-low in
-            let g-ends = all-of (endWithinAt 31 (a .genome)) n (λ i l. within-by 31 (g (i + 1)) (g-low x g-end t-end (i + 1) (omega arith))) in
-            let t-ends = all-of (endWithinAt 31 (a .transcript)) n (λ i l. within-by 31 (t (i + 1)) (t-low x g-end t-end (i + 1) (omega arith))) in
+            let low-ends = all-of (endsWithinAt 31 (a .genome) (a .transcript)) n (λ i l. both-of (within-by 31 (g (i + 1)) (g-low x g-end t-end (i + 1) (omega arith))) (within-by 31 (t (i + 1)) (t-low x g-end t-end (i + 1) (omega arith)))) in
             both-of (begin-of (x .genome-from-0) (x .transcript-from-0))
             (both-of (all-of _ n (x .letters))
             (both-of (all-of _ n (same-seen x g-end t-end))
-            (or-true (allBelow (withinAt 21 a) n) (both-of (all-of _ n (low-seen x g-end t-end)) (both-of g-ends t-ends)))))
+            (or-true (allBelow (withinAt 21 a) n) (both-of (all-of _ n (low-seen x g-end t-end)) low-ends))))
 
-    -- ---- common letters
+  -- ---- common letters
 
-    module _ (commons : allBelow (commonAt (a .letters)) n ≡ true) where
-      common : (i : ℕ) → i < n → isCommon (c i) ≡ true
-      common i l = all-at (commonAt (a .letters)) n commons i l
+  module _ (commons : allBelow (commonAt (a .letters)) n ≡ true) where
+    common : (i : ℕ) → i < n → isCommon (c i) ≡ true
+    common i l = all-at (commonAt (a .letters)) n commons i l
 
-      known : allBelow (knownAt (a .letters)) n ≡ true
-      known = all-of _ n (λ i l. common-known (c i) (common i l))
+    known : allBelow (knownAt (a .letters)) n ≡ true
+    known = all-of _ n (λ i l. common-known (c i) (common i l))
 
-      alike : (i : ℕ) → i < n → commonSameAt a i ≡ sameAt a i
-      alike i l = common-alike (c i) (g i) (g (i + 1)) (t i) (t (i + 1)) (common i l)
+    alike : (i : ℕ) → i < n → commonSameAt a i ≡ sameAt a i
+    alike i l = common-alike (c i) (g i) (g (i + 1)) (t i) (t (i + 1)) (common i l)
 
-      sames : allBelow (commonSameAt a) n ≡ allBelow (sameAt a) n
-      sames =
-          equal-where _ _
-          (λ h. all-of (sameAt a) n (λ i l. sym (alike i l) ∙ all-at (commonSameAt a) n h i l))
-          (λ h. all-of (commonSameAt a) n (λ i l. alike i l ∙ all-at (sameAt a) n h i l))
+    -- they are known, and their own test of the steps is the test of all letters
+    pub common-sames : allBelow (commonSameAt a) n ≡ (allBelow (knownAt (a .letters)) n && allBelow (sameAt a) n)
+    common-sames =
+        rw known
+        (equal-where _ _
+        (λ h. all-of (sameAt a) n (λ i l. sym (alike i l) ∙ all-at (commonSameAt a) n h i l))
+        (λ h. all-of (commonSameAt a) n (λ i l. alike i l ∙ all-at (sameAt a) n h i l)))
 
-      -- where steps are the same, the genome's have as many bits as both
-      withins : (k : ℕ) → allBelow (commonSameAt a) n ≡ true → allBelow (commonWithinAt k a) n ≡ allBelow (withinAt k a) n
-      withins k same-all =
-          equal-where _ _
-          (λ h. all-of (withinAt k a) n (λ i l. common-both k (c i) (g i) (g (i + 1)) (t i) (t (i + 1)) (all-at (commonSameAt a) n same-all i l) (all-at (commonWithinAt k a) n h i l)))
-          (λ h. all-of (commonWithinAt k a) n (λ i l. common-lower k (g i) (g (i + 1)) (t i) (t (i + 1)) (all-at (withinAt k a) n h i l)))
-
-      alike-all : (allBelow (commonSameAt a) n && (allBelow (commonWithinAt 21 a) n || (allBelow (commonWithinAt 31 a) n && lowEnds))) ≡ (allBelow (knownAt (a .letters)) n && (allBelow (sameAt a) n && (allBelow (withinAt 21 a) n || (allBelow (withinAt 31 a) n && lowEnds))))
-      alike-all =
-          by-test (allBelow (commonSameAt a) n)
-          (λ h. rw (known, sym sames, withins 21 h, withins 31 h))
-          (λ h. rw (known, sym sames, h))
-
-      pub decided-common : (begin (a .genome) (a .transcript) && (allBelow (commonSameAt a) n && (allBelow (commonWithinAt 21 a) n || (allBelow (commonWithinAt 31 a) n && lowEnds)))) ≡ segmentsHold a n
-      decided-common = ap (λ (b : Bool). begin (a .genome) (a .transcript) && b) alike-all ∙ decided
+    -- where steps are the same, the genome's have as many bits as both
+    pub common-withins : (k : ℕ) → allBelow (commonSameAt a) n ≡ true → allBelow (commonWithinAt k a) n ≡ allBelow (withinAt k a) n
+    common-withins k same-all =
+        equal-where _ _
+        (λ h. all-of (withinAt k a) n (λ i l. common-both k (c i) (g i) (g (i + 1)) (t i) (t (i + 1)) (all-at (commonSameAt a) n same-all i l) (all-at (commonWithinAt k a) n h i l)))
+        (λ h. all-of (commonWithinAt k a) n (λ i l. common-lower k (g i) (g (i + 1)) (t i) (t (i + 1)) (all-at (withinAt k a) n h i l)))

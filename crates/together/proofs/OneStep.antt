@@ -2,16 +2,16 @@
 use Prim.Native.Nat.{ℕ, _+_, _%_, _^_, _≤_, _<_}
 use native.Mathlib.Nat.{lt-of-le-of-lt}
 use native.Mathlib.Omega.{arith}
-use mathlib.Core.Bool.{true, cond, _&&_, _||_}
-use mathlib.Core.Path.{_≡_, sym}
+use mathlib.Core.Bool.{Bool, true, false, cond, _&&_, _||_}
+use mathlib.Core.Path.{_≡_, refl, sym, _∙_}
 use lib.Bits.{bitOr, or-add-and, and-le-l, and-le-r, or-lt}
 use lib.Dec.{leb, ltb, eqb}
 use lib.Pow.{pow-pos}
 use borrow.Author.Tests.{leb-true, leb-false, ltb-true, lt-ltb, eqb-true, eqb-false, eq-eqb, ne-eqb}
 use Rattle.whole.specs.laws.Whole.{by-test, both, both-of}
-use Rattle.cigar.specs.Elements.{kindOf, letterD, letterI, letterM, letterN}
+use Rattle.cigar.specs.Elements.{kindOf, letterD, letterEqual, letterI, letterM, letterN, letterX}
 use Rattle.segments.specs.Tables.{stepsOf}
-use Rattle.together.specs.Steps.{wrapped, within, isPlain}
+use Rattle.together.specs.Steps.{wrapped, within, isCommon, isPlain}
 use Rattle.together.proofs.All.{equal-where}
 
 -- the order of two numbers does not matter to the test that they are equal
@@ -79,3 +79,24 @@ plain-is c d c< d< e =
   where
     other-n : (c ≡ letterM → ⊥) → d < 2 → c ≡ letterN
     other-n other l = omega (arith, other, l, e)
+
+-- the same where = and X count as an M: 0 or 1 for a common letter, else more
+pub common-is : (c d : ℕ) → c < 2 ^ 8 → d < 2 ^ 8 → (d + letterM) % 2 ^ 8 ≡ c → within 1 (cond (eqb c letterEqual || eqb c letterX) 0 d) ≡ isCommon c
+unfolding isPlain isCommon
+common-is c d c< d< e =
+    by-test (eqb c letterEqual)
+    (λ is. rw is (within-none 1))
+    (λ no.
+    by-test (eqb c letterX)
+    (λ is. rw (no, is) (within-none 1 ∙ sym (last-of-three (eqb c letterM) (eqb c letterN))))
+    (λ not. rw (no, not) (plain-is c d c< d< e ∙ two-of-three (eqb c letterM) (eqb c letterN))))
+  where
+    last-of-three : (m n : Bool) → (m || n || true) ≡ true
+    last-of-three true n = refl
+    last-of-three false true = refl
+    last-of-three false false = refl
+
+    two-of-three : (m n : Bool) → (m || n) ≡ (m || n || false)
+    two-of-three true n = refl
+    two-of-three false true = refl
+    two-of-three false false = refl

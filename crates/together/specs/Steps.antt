@@ -52,8 +52,8 @@ sameAt a i = at same a i
 abbrev pub withinAt : ℕ → Tables → ℕ → Bool
 withinAt k a i = at (λ c g₀ g₁ t₀ t₁. stepsWithin k g₀ g₁ t₀ t₁) a i
 
-abbrev pub endWithinAt : ℕ → List ℕ → ℕ → Bool
-endWithinAt k entries i = within k (getD entries (i + 1) 0)
+abbrev pub endsWithinAt : ℕ → List ℕ → List ℕ → ℕ → Bool
+endsWithinAt k genome transcript i = within k (getD genome (i + 1) 0) && within k (getD transcript (i + 1) 0)
 
 abbrev pub plainAt : List ℕ → ℕ → Bool
 plainAt letters i = isPlain (getD letters i 0)

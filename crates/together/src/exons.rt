@@ -63,8 +63,8 @@ fn steps_in(
     wrong
 }
 
-// What is above in so many steps from the first segment on. The compiler makes straight code of whole blocks, so the last block overlaps the others; from 8 to 15
-// steps two blocks of 8 do, and from 4 to 7 two of 4.
+// What is above in so many steps from the first segment on. The compiler makes straight code of whole blocks, so the last block overlaps the others; from 16 to 31
+// steps two blocks of 16 do, from 8 to 15 two of 8, and from 4 to 7 two of 4.
 fn steps_above(
     letters: &[u8; MOST_SEGMENTS],
     exons: &[u16; MOST_SEGMENTS],
@@ -86,6 +86,11 @@ fn steps_above(
     if to < 16 {
         let front = steps_in(letters, exons, low, high, 0, 8);
         let back = steps_in(letters, exons, low, high, to - 8, to);
+        return with_bits(front, back);
+    }
+    if to < 32 {
+        let front = steps_in(letters, exons, low, high, 0, 16);
+        let back = steps_in(letters, exons, low, high, to - 16, to);
         return with_bits(front, back);
     }
     let front = steps_in(letters, exons, low, high, 0, to - to % 16);

@@ -3,13 +3,13 @@
 // no entry has the highest bit of 32, none has wrapped; and where the last entries lack it, any entry that has it makes a table fall later. So one pass that gathers
 // bits and compares steps decides, with no early way out, and is vectorised.
 ghost use mathlib.Core.Path.{_≡_};
-ghost use mathlib.Core.Bool.{cond, _&&_, _||_};
+ghost use mathlib.Core.Bool.{true, cond, _&&_, _||_};
 ghost use Prim.Native.Nat.{ℕ, _≤_};
 ghost use lib.Dec.{leb};
 ghost use Rattle.refusals.specs.Numbers.{mostSegments};
 ghost use Rattle.cigar.specs.Elements.{isLetter};
 ghost use Rattle.segments.specs.Tables.{tables, allBelow, knownAt, segmentsHold};
-ghost use Rattle.together.specs.Steps.{within, same, stepsWithin, isCommon, isPlain, commonSame, commonWithin, sameAt, withinAt, endWithinAt, commonAt, plainAt, commonSameAt, commonWithinAt, from, begin, LowEnds};
+ghost use Rattle.together.specs.Steps.{within, same, stepsWithin, isCommon, isPlain, commonSame, commonWithin, sameAt, withinAt, endsWithinAt, commonAt, plainAt, commonSameAt, commonWithinAt, from, begin, LowEnds};
 use refusals::MOST_SEGMENTS;
 use refusals::MOST_STARTS;
 
@@ -75,8 +75,8 @@ fn known_in(letters: &[u8; MOST_SEGMENTS], first: usize, to: usize) -> bool
     ok
 }
 
-// Whether the first count letters are known. The compiler makes straight code of whole blocks, so the last block overlaps the others; from 8 to 15
-// letters two blocks of 8 do, and from 4 to 7 two of 4.
+// Whether the first count letters are known. The compiler makes straight code of whole blocks, so the last block overlaps the others; below 64
+// letters two blocks do, of 32, 16, 8 or 4.
 fn all_known(letters: &[u8; MOST_SEGMENTS], count: usize) -> bool
     requires { ⌜ count ≤ mostSegments ⌝ }
     ensures { λ r. ⌜ r ≡ allBelow (knownAt (now (letters .entry))) count ⌝ }
@@ -92,6 +92,16 @@ fn all_known(letters: &[u8; MOST_SEGMENTS], count: usize) -> bool
     if count < 16 {
         let front = known_in(letters, 0, 8);
         let back = known_in(letters, count - 8, count);
+        return front & back;
+    }
+    if count < 32 {
+        let front = known_in(letters, 0, 16);
+        let back = known_in(letters, count - 16, count);
+        return front & back;
+    }
+    if count < 64 {
+        let front = known_in(letters, 0, 32);
+        let back = known_in(letters, count - 32, count);
         return front & back;
     }
     let front = known_in(letters, 0, count - count % 16);
@@ -113,23 +123,24 @@ fn one_on(seen: Seen, letter: u8, g0: u32, g1: u32, t0: u32, t1: u32) -> Seen
     Seen { same, bits }
 }
 
-// What the first count segments show.
-fn steps(
+// What the segments from one up to another show.
+fn steps_in(
     genome: &[u32; MOST_STARTS],
     transcript: &[u32; MOST_STARTS],
     letters: &[u8; MOST_SEGMENTS],
-    count: usize,
+    first: usize,
+    to: usize,
 ) -> Seen
-    requires { ⌜ count ≤ mostSegments ⌝ }
-    ensures { λ r. ⌜ r .same ≡ allBelow (sameAt (tables (now (genome .entry)) (now (transcript .entry)) (now (letters .entry)))) count ⌝ }
-    ensures { λ r. ⌜ ((k : ℕ) → within k (r .bits) ≡ allBelow (withinAt k (tables (now (genome .entry)) (now (transcript .entry)) (now (letters .entry)))) count) ⌝ }
+    requires { ⌜ (first ≤ to) × (to ≤ mostSegments) ⌝ }
+    ensures { λ r. ⌜ r .same ≡ allBelow (from first (sameAt (tables (now (genome .entry)) (now (transcript .entry)) (now (letters .entry))))) to ⌝ }
+    ensures { λ r. ⌜ ((k : ℕ) → within k (r .bits) ≡ allBelow (from first (withinAt k (tables (now (genome .entry)) (now (transcript .entry)) (now (letters .entry))))) to) ⌝ }
 {
     let mut seen = Seen {
         same: true,
         bits: 0,
     };
-    let mut i = 0;
-    while i < count {
+    let mut i = first;
+    while i < to {
         seen = one_on(
             seen,
             letters[i],
@@ -141,6 +152,45 @@ fn steps(
         i += 1;
     }
     seen
+}
+
+// What two stretches showed.
+fn both_seen(a: Seen, b: Seen) -> Seen
+    ensures { λ r. ⌜ r .same ≡ (a .same && b .same) ⌝ }
+    ensures { λ r. ⌜ ((k : ℕ) → within k (r .bits) ≡ (within k (a .bits) && within k (b .bits))) ⌝ }
+{
+    let same = a.same & b.same;
+    let bits = with_bits(a.bits, b.bits);
+    Seen { same, bits }
+}
+
+// What the first count segments show, by blocks too.
+fn steps(
+    genome: &[u32; MOST_STARTS],
+    transcript: &[u32; MOST_STARTS],
+    letters: &[u8; MOST_SEGMENTS],
+    count: usize,
+) -> Seen
+    requires { ⌜ count ≤ mostSegments ⌝ }
+    ensures { λ r. ⌜ r .same ≡ allBelow (sameAt (tables (now (genome .entry)) (now (transcript .entry)) (now (letters .entry)))) count ⌝ }
+    ensures { λ r. ⌜ ((k : ℕ) → within k (r .bits) ≡ allBelow (withinAt k (tables (now (genome .entry)) (now (transcript .entry)) (now (letters .entry)))) count) ⌝ }
+{
+    if count < 4 {
+        return steps_in(genome, transcript, letters, 0, count);
+    }
+    if count < 8 {
+        let front = steps_in(genome, transcript, letters, 0, 4);
+        let back = steps_in(genome, transcript, letters, count - 4, count);
+        return both_seen(front, back);
+    }
+    if count < 16 {
+        let front = steps_in(genome, transcript, letters, 0, 8);
+        let back = steps_in(genome, transcript, letters, count - 8, count);
+        return both_seen(front, back);
+    }
+    let front = steps_in(genome, transcript, letters, 0, count - count % 8);
+    let back = steps_in(genome, transcript, letters, count - 8, count);
+    both_seen(front, back)
 }
 
 // Whether the letters from one segment up to another are common.
@@ -201,16 +251,6 @@ fn common_steps_in(
     seen
 }
 
-// What two stretches showed.
-fn both_seen(a: Seen, b: Seen) -> Seen
-    ensures { λ r. ⌜ r .same ≡ (a .same && b .same) ⌝ }
-    ensures { λ r. ⌜ ((k : ℕ) → within k (r .bits) ≡ (within k (a .bits) && within k (b .bits))) ⌝ }
-{
-    let same = a.same & b.same;
-    let bits = with_bits(a.bits, b.bits);
-    Seen { same, bits }
-}
-
 // The bits that letters have above an M's number, with one letter more: an N has the lowest, and any other letter has more.
 fn plain_on(bits: u8, letter: u8) -> u8
     ensures { λ r. ⌜ within 1 r ≡ (within 1 bits && isPlain letter) ⌝ }
@@ -227,6 +267,35 @@ fn plain_in(letters: &[u8; MOST_SEGMENTS], first: usize, to: usize) -> bool
     let mut i = first;
     while i < to {
         bits = plain_on(bits, letters[i]);
+        i += 1;
+    }
+    bits < 2
+}
+
+// 0 where the flag is true, else x.
+fn unless_byte(flag: bool, x: u8) -> u8
+    ensures { λ r. ⌜ r ≡ cond flag 0 x ⌝ }
+{
+    if flag { 0 } else { x }
+}
+
+// The same bits where = and X count as an M.
+fn common_letter_on(bits: u8, letter: u8) -> u8
+    ensures { λ r. ⌜ within 1 r ≡ (within 1 bits && isCommon letter) ⌝ }
+{
+    let above = std::num::wrapping_sub_u8(letter, b'M');
+    bits | unless_byte((letter == b'=') | (letter == b'X'), above)
+}
+
+// Whether many letters, from one segment up to another, are common: over whole blocks, bits are gathered at less cost than the letters' tests.
+fn many_common_in(letters: &[u8; MOST_SEGMENTS], first: usize, to: usize) -> bool
+    requires { ⌜ (first ≤ to) × (to ≤ mostSegments) ⌝ }
+    ensures { λ r. ⌜ r ≡ allBelow (from first (commonAt (now (letters .entry)))) to ⌝ }
+{
+    let mut bits = 0;
+    let mut i = first;
+    while i < to {
+        bits = common_letter_on(bits, letters[i]);
         i += 1;
     }
     bits < 2
@@ -256,11 +325,21 @@ fn all_common(letters: &[u8; MOST_SEGMENTS], count: usize) -> bool
         let back = common_in(letters, count - 8, count);
         return front & back;
     }
+    if count < 32 {
+        let front = common_in(letters, 0, 16);
+        let back = common_in(letters, count - 16, count);
+        return front & back;
+    }
+    if count < 64 {
+        let front = common_in(letters, 0, 32);
+        let back = common_in(letters, count - 32, count);
+        return front & back;
+    }
     if all_plain(letters, count) {
         return true;
     }
-    if common_in(letters, count - 16, count) {
-        return common_in(letters, 0, count - count % 16);
+    if many_common_in(letters, count - 16, count) {
+        return many_common_in(letters, 0, count - count % 16);
     }
     false
 }
@@ -293,18 +372,42 @@ fn begins(genome: &[u32; MOST_STARTS], transcript: &[u32; MOST_STARTS]) -> bool
     (genome[0] == 0) & (transcript[0] == 0)
 }
 
-// All bits of the ends of the first count segments together.
-fn ends_of(entries: &[u32; MOST_STARTS], count: usize) -> u32
-    requires { ⌜ count ≤ mostSegments ⌝ }
-    ensures { λ r. ⌜ ((k : ℕ) → within k r ≡ allBelow (endWithinAt k (now (entries .entry))) count) ⌝ }
+// All bits of both ends of the segments from one up to another together.
+fn ends_in(
+    genome: &[u32; MOST_STARTS],
+    transcript: &[u32; MOST_STARTS],
+    first: usize,
+    to: usize,
+) -> u32
+    requires { ⌜ (first ≤ to) × (to ≤ mostSegments) ⌝ }
+    ensures { λ r. ⌜ ((k : ℕ) → within k r ≡ allBelow (from first (endsWithinAt k (now (genome .entry)) (now (transcript .entry)))) to) ⌝ }
 {
     let mut bits = 0;
-    let mut i = 0;
-    while i < count {
-        bits = with_bits(bits, entries[i + 1]);
+    let mut i = first;
+    while i < to {
+        let ends = with_bits(genome[i + 1], transcript[i + 1]);
+        bits = with_bits(bits, ends);
         i += 1;
     }
     bits
+}
+
+// All bits of both ends of the first count segments together, by blocks too.
+fn ends_of(genome: &[u32; MOST_STARTS], transcript: &[u32; MOST_STARTS], count: usize) -> u32
+    requires { ⌜ count ≤ mostSegments ⌝ }
+    ensures { λ r. ⌜ ((k : ℕ) → within k r ≡ allBelow (endsWithinAt k (now (genome .entry)) (now (transcript .entry))) count) ⌝ }
+{
+    if count < 4 {
+        return ends_in(genome, transcript, 0, count);
+    }
+    if count < 8 {
+        let front = ends_in(genome, transcript, 0, 4);
+        let back = ends_in(genome, transcript, count - 4, count);
+        return with_bits(front, back);
+    }
+    let front = ends_in(genome, transcript, 0, count - count % 8);
+    let back = ends_in(genome, transcript, count - 8, count);
+    with_bits(front, back)
 }
 
 // Whether steps are the same and none has wrapped: all are short, or no step and no end has the highest bit.
@@ -315,16 +418,36 @@ fn is_fine(
     count: usize,
 ) -> bool
     requires { ⌜ count ≤ mostSegments ⌝ }
-    ensures { λ r. ⌜ r ≡ (seen .same && (within 21 (seen .bits) || (within 31 (seen .bits) && (allBelow (endWithinAt 31 (now (genome .entry))) count && allBelow (endWithinAt 31 (now (transcript .entry))) count)))) ⌝ }
+    ensures { λ r. ⌜ r ≡ (seen .same && (within 21 (seen .bits) || (within 31 (seen .bits) && allBelow (endsWithinAt 31 (now (genome .entry)) (now (transcript .entry))) count))) ⌝ }
 {
     let same = seen.same;
     let bits = seen.bits;
     if bits < SHORT {
         return same;
     }
-    let ends = with_bits(ends_of(genome, count), ends_of(transcript, count));
-    let all = with_bits(bits, ends);
+    let all = with_bits(bits, ends_of(genome, transcript, count));
     same & (all < HIGH)
+}
+
+// What all segments show: whether their letters are known and their steps the same, and where they are, the bits of the steps.
+fn shown(
+    genome: &[u32; MOST_STARTS],
+    transcript: &[u32; MOST_STARTS],
+    letters: &[u8; MOST_SEGMENTS],
+    count: usize,
+) -> Seen
+    requires { ⌜ count ≤ mostSegments ⌝ }
+    ensures { λ r. ⌜ r .same ≡ (allBelow (knownAt (now (letters .entry))) count && allBelow (sameAt (tables (now (genome .entry)) (now (transcript .entry)) (now (letters .entry)))) count) ⌝ }
+    ensures { λ r. ⌜ (r .same ≡ true → (k : ℕ) → within k (r .bits) ≡ allBelow (withinAt k (tables (now (genome .entry)) (now (transcript .entry)) (now (letters .entry)))) count) ⌝ }
+{
+    if all_common(letters, count) {
+        return common_steps(genome, transcript, letters, count);
+    }
+    let known = all_known(letters, count);
+    let seen = steps(genome, transcript, letters, count);
+    let same = known & seen.same;
+    let bits = seen.bits;
+    Seen { same, bits }
 }
 
 // Whether count segments hold together, where no table goes as far as the highest bit: the caller has longer ones refused in any case.
@@ -337,13 +460,7 @@ pub fn segments_hold(
     requires { ⌜ count ≤ mostSegments ⌝ }
     ensures { λ r. ⌜ (LowEnds (now (genome .entry)) (now (transcript .entry)) count → r ≡ segmentsHold (tables (now (genome .entry)) (now (transcript .entry)) (now (letters .entry))) count) ⌝ }
 {
-    if all_common(letters, count) {
-        let seen = common_steps(genome, transcript, letters, count);
-        let fine = is_fine(seen, genome, transcript, count);
-        return begins(genome, transcript) & fine;
-    }
-    let known = all_known(letters, count);
-    let seen = steps(genome, transcript, letters, count);
+    let seen = shown(genome, transcript, letters, count);
     let fine = is_fine(seen, genome, transcript, count);
-    begins(genome, transcript) & (known & fine)
+    begins(genome, transcript) & fine
 }

@@ -1,4 +1,4 @@
--- Two stretches that overlap make one (`stretched`), for the two lengths of a block alike. Assumes nothing.
+-- Two stretches that overlap make one (`stretched`), for each length of a block alike. Assumes nothing.
 use native.Mathlib.Omega.{arith}
 use mathlib.Core.Bool.{_&&_}
 use Prim.Native.Nat.{_-_, _%_}
@@ -17,23 +17,29 @@ returns-2 : tie.Need-returns-2
 returns-2 c = rw (le-leb 8 (c .before .before .before .before .args .count) (omega arith)) (ap₂ _&&_ (c .before .common-in .ensures) (c .common-in2 .ensures) ∙ stretched _ _ _ _ (omega arith) (omega arith))
 
 returns-3 : tie.Need-returns-3
-returns-3 c =
-    let a = c .before .before .before .before .args in
-    rw (le-leb 8 (a .count) (omega arith))
-    (sym (plains-common (a .letters .now) (a .count) (sym (c .before .all-plain .ensures) ∙ c .if3 .taken)))
+returns-3 c = rw (le-leb 8 (c .before .before .before .before .before .args .count) (omega arith)) (ap₂ _&&_ (c .before .common-in3 .ensures) (c .common-in4 .ensures) ∙ stretched _ _ _ _ (omega arith) (omega arith))
 
--- the last block decides whether the others are looked at
 returns-4 : tie.Need-returns-4
-returns-4 c =
-    let back = sym (c .before .before .common-in3 .ensures) ∙ c .before .if4 .taken in
-    rw (le-leb 8 (c .before .before .before .before .before .before .before .args .count) (omega arith))
-    (c .common-in4 .ensures ∙ later-passes _ _ _ _ (omega arith) (omega arith) back)
+returns-4 c = rw (le-leb 8 (c .before .before .before .before .before .before .args .count) (omega arith)) (ap₂ _&&_ (c .before .common-in5 .ensures) (c .common-in6 .ensures) ∙ stretched _ _ _ _ (omega arith) (omega arith))
 
 returns-5 : tie.Need-returns-5
 returns-5 c =
-    let n = c .before .before .before .before .before .before .args .count in
+    let a = c .before .before .before .before .before .before .args in
+    rw (le-leb 8 (a .count) (omega arith))
+    (sym (plains-common (a .letters .now) (a .count) (sym (c .before .all-plain .ensures) ∙ c .if5 .taken)))
+
+-- the last block decides whether the others are looked at
+returns-6 : tie.Need-returns-6
+returns-6 c =
+    let back = sym (c .before .before .many-common-in .ensures) ∙ c .before .if6 .taken in
+    rw (le-leb 8 (c .before .before .before .before .before .before .before .before .before .args .count) (omega arith))
+    (c .many-common-in2 .ensures ∙ later-passes _ _ _ _ (omega arith) (omega arith) back)
+
+returns-7 : tie.Need-returns-7
+returns-7 c =
+    let n = c .before .before .before .before .before .before .before .before .args .count in
     rw (le-leb 8 n (omega arith))
-    (later-fails _ (n - n % 16) (n - 16) n (omega arith) (omega arith) (sym (c .before .common-in3 .ensures) ∙ c .if4 .left))
+    (later-fails _ (n - n % 16) (n - 16) n (omega arith) (omega arith) (sym (c .before .many-common-in .ensures) ∙ c .if6 .left))
 
 pub all-common-spec : {M : Type 1} → statement M
 all-common-spec =
@@ -44,9 +50,15 @@ all-common-spec =
     (λ c κs. search needs)
     returns-2
     (λ c κs. search needs)
+    (λ c κs. search needs)
     returns-3
+    (λ c κs. search needs)
+    (λ c κs. search needs)
+    returns-4
+    (λ c κs. search needs)
+    returns-5
     (λ c κs. search needs)
     (λ c. search needs)
     (λ c κs. search needs)
-    returns-4
-    returns-5)
+    returns-6
+    returns-7)

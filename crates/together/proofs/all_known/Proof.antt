@@ -19,6 +19,12 @@ returns-3 c = ap₂ _&&_ (c .before .known-in4 .ensures) (c .known-in5 .ensures)
 returns-4 : tie.Need-returns-4
 returns-4 c = ap₂ _&&_ (c .before .known-in6 .ensures) (c .known-in7 .ensures) ∙ stretched _ _ _ _ (omega arith) (omega arith)
 
+returns-5 : tie.Need-returns-5
+returns-5 c = ap₂ _&&_ (c .before .known-in8 .ensures) (c .known-in9 .ensures) ∙ stretched _ _ _ _ (omega arith) (omega arith)
+
+returns-6 : tie.Need-returns-6
+returns-6 c = ap₂ _&&_ (c .before .known-in10 .ensures) (c .known-in11 .ensures) ∙ stretched _ _ _ _ (omega arith) (omega arith)
+
 pub all-known-spec : {M : Type 1} → statement M
 all-known-spec =
     tie.close
@@ -31,7 +37,13 @@ all-known-spec =
     (λ c κs. search needs)
     (λ c κs. search needs)
     returns-3
+    (λ c κs. search needs)
+    (λ c κs. search needs)
+    returns-4
+    (λ c κs. search needs)
+    (λ c κs. search needs)
+    returns-5
     (λ c. search needs)
     (λ c κs. search needs)
     (λ c κs. search needs)
-    returns-4)
+    returns-6)

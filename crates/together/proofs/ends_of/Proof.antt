@@ -1,43 +1,33 @@
--- After each turn the bits are what `allBelow` says of the ends passed. Assumes nothing.
-use Prim.Native.Nat.{ℕ, _≤_, _-_}
-use mathlib.Core.Path.{_≡_, refl, _∙_}
+-- Two stretches that overlap make one (`stretched`). Assumes nothing.
+use native.Mathlib.Omega.{arith}
+use mathlib.Core.Bool.{_&&_}
+use mathlib.Core.Path.{ap₂, _∙_}
 use borrow.Author.Needs.{needs}
-use Rattle.segments.specs.Tables.{allBelow}
-use Rattle.segments.specs.laws.Gathering.{all-none, all-more, all-done}
-use Rattle.together.specs.Steps.{within, endWithinAt}
-use Rattle.together.proofs.OneStep.{within-none}
+use Rattle.together.proofs.All.{from-start, stretched}
 use Rattle.together.proofs.ends_of.Statement.{statement}
 use Rattle.together.proofs.ends_of.Tie as tie
 
-abbrev Inv-loop : tie.InvT-loop
-Inv-loop entries count bits₀ i₀ bits i = (i ≤ count) × ((k : ℕ) → within k bits ≡ allBelow (endWithinAt k entries) i)
+returns : tie.Need-returns
+returns c = λ k. c .ends-in .ensures k ∙ from-start _ _
 
-abbrev μ-loop : tie.MeasureT-loop
-μ-loop entries count bits₀ i₀ bits i = count - i
+returns-2 : tie.Need-returns-2
+returns-2 c = λ k. c .with-bits .ensures k ∙ ap₂ _&&_ (c .before .before .ends-in2 .ensures k) (c .before .ends-in3 .ensures k) ∙ stretched _ _ _ _ (omega arith) (omega arith)
 
-loop-holds : tie.Need-loop-holds Inv-loop μ-loop
-loop-holds c = (search needs, λ k. within-none k ∙ all-none _)
-
-loop-again : tie.Need-loop-again Inv-loop μ-loop
-loop-again c =
-    let kept = c .before .before .before .loop .inv in
-    (search needs, λ k. c .with-bits .ensures k ∙ all-more _ _ (kept .1 k) refl)
-
-returns : tie.Need-returns Inv-loop μ-loop
-returns c = λ k. all-done _ _ _ (c .before .loop .inv .1 k) (c .before .loop .inv .0) (c .loop-test .left)
+returns-3 : tie.Need-returns-3
+returns-3 c = λ k. c .with-bits2 .ensures k ∙ ap₂ _&&_ (c .before .before .ends-in4 .ensures k) (c .before .ends-in5 .ensures k) ∙ stretched _ _ _ _ (omega arith) (omega arith)
 
 pub ends-of-spec : {M : Type 1} → statement M
 ends-of-spec =
     tie.close
     (tie.spec
-    Inv-loop
-    μ-loop
-    loop-holds
-    (λ c. search needs)
-    (λ c. search needs)
+    (λ c κs. search needs)
+    returns
+    (λ c κs. search needs)
+    (λ c κs. search needs)
+    (λ c κs. search needs)
+    returns-2
     (λ c. search needs)
     (λ c κs. search needs)
-    (λ c. search needs)
-    (λ c. search needs)
-    loop-again
-    returns)
+    (λ c κs. search needs)
+    (λ c κs. search needs)
+    returns-3)

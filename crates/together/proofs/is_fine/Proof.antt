@@ -1,6 +1,6 @@
 -- Short bits are seen at once; of others and of the ends' bits the test is that of `within 31`. Assumes nothing.
 use mathlib.Core.Bool.{Bool, true, false, _&&_}
-use mathlib.Core.Path.{_≡_, refl, ap, ap₂, _∙_}
+use mathlib.Core.Path.{_≡_, refl, ap, _∙_}
 use borrow.Author.Needs.{needs}
 use borrow.Author.Tests.{lt-ltb, le-ltb}
 use Rattle.together.specs.Steps.{within}
@@ -18,21 +18,18 @@ returns c = rw (lt-ltb (c .before .args .seen .bits) 2097152 (c .if1 .taken)) (a
 returns-2 : tie.Need-returns-2
 unfolding within
 returns-2 c =
-    let at-genome = c .before .before .before in
-    let seen = at-genome .before .before .args .seen in
-    rw (le-ltb (seen .bits) 2097152 (at-genome .before .if1 .left))
+    let at-ends = c .before in
+    let seen = at-ends .before .before .args .seen in
+    rw (le-ltb (seen .bits) 2097152 (at-ends .before .if1 .left))
     (ap (λ (b : Bool). seen .same && b)
-    (c .with-bits2 .ensures 31
-    ∙ ap (λ (b : Bool). within 31 (seen .bits) && b)
-    (c .before .with-bits .ensures 31 ∙ ap₂ _&&_ (at-genome .ends-of .ensures 31) (c .before .before .ends-of2 .ensures 31))))
+    (c .with-bits .ensures 31
+    ∙ ap (λ (b : Bool). within 31 (seen .bits) && b) (at-ends .ends-of .ensures 31)))
 
 pub is-fine-spec : {M : Type 1} → statement M
 is-fine-spec =
     tie.close
     (tie.spec
     returns
-    (λ c κs. search needs)
-    (λ c κs. search needs)
     (λ c κs. search needs)
     (λ c κs. search needs)
     returns-2)

@@ -1,58 +1,38 @@
--- One pass decides where the last entries are low: for common letters `decided-common`, for all six `decided`. Assumes nothing.
-use mathlib.Core.Bool.{Bool, true, _&&_, _||_}
-use mathlib.Core.Path.{_≡_, sym, ap, ap₂, _∙_}
-use lib.Dec.{leb}
+-- What the passes show decides where the last entries are low (`decided`). Assumes nothing.
+use mathlib.Core.Bool.{Bool, true, false, _&&_, _||_}
+use mathlib.Core.Path.{_≡_, refl, sym, ap, ap₂, _∙_}
 use borrow.Author.Needs.{needs}
-use borrow.Author.Tests.{leb-true}
-use Rattle.whole.specs.laws.Whole.{both}
-use Rattle.segments.specs.Tables.{tables, allBelow}
-use Rattle.together.specs.Steps.{commonAt}
-use Rattle.together.proofs.Deciding.{lowEnds, decided, decided-common}
+use Rattle.segments.specs.Tables.{tables, allBelow, knownAt}
+use Rattle.together.specs.Steps.{sameAt, withinAt}
+use Rattle.together.proofs.Deciding.{lowEnds, decided}
 use Rattle.together.proofs.segments_hold.Statement.{statement}
 use Rattle.together.proofs.segments_hold.Tie as tie
 
--- what it says that all letters are common
-commons : (c : tie.Then1) → let a = c .before .before .args in
-    (leb 8 (a .count) ≡ true) × (allBelow (commonAt (a .letters .now)) (a .count) ≡ true)
-commons c = both _ _ (sym (c .before .all-common .ensures) ∙ c .if1 .taken)
-
-common-steps-requires : tie.Need-common-steps-requires
-common-steps-requires c κs = (leb-true 8 _ (commons c .0), search needs)
-
--- what is fine of what a pass showed is fine of what it stands for
-fine : (ends : Bool) {same same′ short short′ low low′ : Bool} → same ≡ same′ → short ≡ short′ → low ≡ low′ → (same && (short || (low && ends))) ≡ (same′ && (short′ || (low′ && ends)))
-fine ends p q r = ap₂ _&&_ p (ap₂ _||_ q (ap (λ (b : Bool). b && ends) r))
+-- what is fine counts only where letters are known and steps the same
+fine : (known same fine₁ fine₂ : Bool) {seen : Bool} → seen ≡ (known && same) → (seen ≡ true → fine₁ ≡ fine₂) → (seen && fine₁) ≡ (known && (same && fine₂))
+fine true true f₁ f₂ e h = rw e (h e)
+fine true false f₁ f₂ e h = rw e
+fine false same f₁ f₂ e h = rw e
 
 returns : tie.Need-returns
 returns c =
-    let at-steps = c .before .before in
-    let shown = at-steps .common-steps .ensures in
-    let start = at-steps .before .before .before in
-    λ ends.
-    ap₂ _&&_ (c .begins .ensures) (c .before .is-fine .ensures ∙ fine (lowEnds (tables (start .args .genome .now) (start .args .transcript .now) (start .args .letters .now)) (start .args .count)) (shown .0) (shown .1 21) (shown .1 31))
-    ∙ decided-common _ _ (start .pre) ends (commons (at-steps .before) .1)
-
-returns-2 : tie.Need-returns-2
-returns-2 c =
-    let at-steps = c .before .before in
-    let shown = at-steps .steps .ensures in
-    let start = at-steps .before .before .before .before in
-    λ ends.
-    ap₂ _&&_ (c .begins2 .ensures)
-    (ap₂ _&&_ (at-steps .before .all-known .ensures) (c .before .is-fine2 .ensures ∙ fine (lowEnds (tables (start .args .genome .now) (start .args .transcript .now) (start .args .letters .now)) (start .args .count)) (shown .0) (shown .1 21) (shown .1 31)))
-    ∙ decided _ _ (start .pre) ends
+    let at-shown = c .before .before in
+    let start = at-shown .before in
+    let a = tables (start .args .genome .now) (start .args .transcript .now) (start .args .letters .now) in
+    let shows = at-shown .shown .ensures in
+    let n = start .args .count in
+    let ends = lowEnds a n in
+    λ low.
+    ap₂ _&&_ (c .begins .ensures)
+    (c .before .is-fine .ensures
+    ∙ fine (allBelow (knownAt (a .letters)) n) (allBelow (sameAt a) n) _ (allBelow (withinAt 21 a) n || (allBelow (withinAt 31 a) n && ends)) (shows .0) (λ e. ap₂ _||_ (shows .1 e 21) (ap (λ (b : Bool). b && ends) (shows .1 e 31))))
+    ∙ decided _ _ (start .pre) low
 
 pub segments-hold-spec : {M : Type 1} → statement M
 segments-hold-spec =
     tie.close
     (tie.spec
     (λ c κs. search needs)
-    common-steps-requires
     (λ c κs. search needs)
     (λ c κs. search needs)
-    returns
-    (λ c κs. search needs)
-    (λ c κs. search needs)
-    (λ c κs. search needs)
-    (λ c κs. search needs)
-    returns-2)
+    returns)

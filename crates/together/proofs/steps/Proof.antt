@@ -1,53 +1,55 @@
--- After each turn the flag and the bits are what `allBelow` says of the segments passed. Assumes nothing.
-use Prim.Native.Nat.{ℕ, _≤_, _-_}
-use mathlib.Core.Path.{_≡_, refl, _∙_}
+-- Two stretches that overlap make one (`stretched`), of the flag and of the bits alike. Assumes nothing.
+use native.Mathlib.Omega.{arith}
+use mathlib.Core.Bool.{_&&_}
+use mathlib.Core.Path.{_≡_, ap₂, _∙_}
 use borrow.Author.Needs.{needs}
-use Rattle.segments.specs.Tables.{tables, allBelow}
-use Rattle.together.specs.Steps.{sameAt, withinAt, within}
-use Rattle.segments.specs.laws.Gathering.{all-none, all-more, all-done}
-use Rattle.together.proofs.OneStep.{within-none}
+use Rattle.together.proofs.All.{from-start, stretched}
 use Rattle.together.proofs.steps.Statement.{statement}
 use Rattle.together.proofs.steps.Tie as tie
 
-abbrev Inv-loop : tie.InvT-loop
-Inv-loop genome transcript letters count seen₀ i₀ seen i = (i ≤ count) × (seen .same ≡ allBelow (sameAt (tables genome transcript letters)) i) × ((k : ℕ) → within k (seen .bits) ≡ allBelow (withinAt k (tables genome transcript letters)) i)
+returns : tie.Need-returns
+returns c = let all = c .steps-in .ensures in (all .0 ∙ from-start _ _, λ k. all .1 k ∙ from-start _ _)
 
-abbrev μ-loop : tie.MeasureT-loop
-μ-loop genome transcript letters count seen₀ i₀ seen i = count - i
+returns-2 : tie.Need-returns-2
+returns-2 c =
+    let front = c .before .before .steps-in2 .ensures in
+    let back = c .before .steps-in3 .ensures in (
+      c .both-seen .ensures .0 ∙ ap₂ _&&_ (front .0) (back .0) ∙ stretched _ _ _ _ (omega arith) (omega arith),
+      λ k. c .both-seen .ensures .1 k ∙ ap₂ _&&_ (front .1 k) (back .1 k) ∙ stretched _ _ _ _ (omega arith) (omega arith),
+    )
 
-loop-holds : tie.Need-loop-holds Inv-loop μ-loop
-loop-holds c = (search needs, all-none _, λ k. within-none k ∙ all-none _)
+returns-3 : tie.Need-returns-3
+returns-3 c =
+    let front = c .before .before .steps-in4 .ensures in
+    let back = c .before .steps-in5 .ensures in (
+      c .both-seen2 .ensures .0 ∙ ap₂ _&&_ (front .0) (back .0) ∙ stretched _ _ _ _ (omega arith) (omega arith),
+      λ k. c .both-seen2 .ensures .1 k ∙ ap₂ _&&_ (front .1 k) (back .1 k) ∙ stretched _ _ _ _ (omega arith) (omega arith),
+    )
 
-loop-again : tie.Need-loop-again Inv-loop μ-loop
-loop-again c =
-    let kept = c .before .before .before .before .before .before .before .loop .inv in
-    (search needs, c .one-on .ensures .0 ∙ all-more _ _ (kept .1) refl, λ k. c .one-on .ensures .1 k ∙ all-more _ _ (kept .2 k) refl)
-
-returns : tie.Need-returns Inv-loop μ-loop
-returns c =
-    let kept = c .before .loop .inv in
-    (all-done _ _ _ (kept .1) (kept .0) (c .loop-test .left), λ k. all-done _ _ _ (kept .2 k) (kept .0) (c .loop-test .left))
+returns-4 : tie.Need-returns-4
+returns-4 c =
+    let front = c .before .before .steps-in6 .ensures in
+    let back = c .before .steps-in7 .ensures in (
+      c .both-seen3 .ensures .0 ∙ ap₂ _&&_ (front .0) (back .0) ∙ stretched _ _ _ _ (omega arith) (omega arith),
+      λ k. c .both-seen3 .ensures .1 k ∙ ap₂ _&&_ (front .1 k) (back .1 k) ∙ stretched _ _ _ _ (omega arith) (omega arith),
+    )
 
 pub steps-spec : {M : Type 1} → statement M
 steps-spec =
     tie.close
     (tie.spec
-    Inv-loop
-    μ-loop
-    loop-holds
-    (λ c. search needs)
-    (λ c. search needs)
-    (λ c. search needs)
-    (λ c. search needs)
-    (λ c. search needs)
-    (λ c. search needs)
-    (λ c. search needs)
-    (λ c. search needs)
-    (λ c. search needs)
-    (λ c. search needs)
+    (λ c κs. search needs)
+    returns
+    (λ c κs. search needs)
+    (λ c κs. search needs)
+    (λ c κs. search needs)
+    returns-2
+    (λ c κs. search needs)
+    (λ c κs. search needs)
+    (λ c κs. search needs)
+    returns-3
     (λ c. search needs)
     (λ c κs. search needs)
-    (λ c. search needs)
-    (λ c. search needs)
-    loop-again
-    returns)
+    (λ c κs. search needs)
+    (λ c κs. search needs)
+    returns-4)

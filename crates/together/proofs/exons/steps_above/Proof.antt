@@ -19,6 +19,9 @@ returns-3 c = c .with-bits2 .ensures ∙ ap₂ _&&_ (c .before .before .steps-in
 returns-4 : tie.Need-returns-4
 returns-4 c = c .with-bits3 .ensures ∙ ap₂ _&&_ (c .before .before .steps-in6 .ensures) (c .before .steps-in7 .ensures) ∙ stretched _ _ _ _ (omega arith) (omega arith)
 
+returns-5 : tie.Need-returns-5
+returns-5 c = c .with-bits4 .ensures ∙ ap₂ _&&_ (c .before .before .steps-in8 .ensures) (c .before .steps-in9 .ensures) ∙ stretched _ _ _ _ (omega arith) (omega arith)
+
 pub steps-above-spec : {M : Type 1} → statement M
 steps-above-spec =
     tie.close
@@ -33,8 +36,12 @@ steps-above-spec =
     (λ c κs. search needs)
     (λ c κs. search needs)
     returns-3
+    (λ c κs. search needs)
+    (λ c κs. search needs)
+    (λ c κs. search needs)
+    returns-4
     (λ c. search needs)
     (λ c κs. search needs)
     (λ c κs. search needs)
     (λ c κs. search needs)
-    returns-4)
+    returns-5)
