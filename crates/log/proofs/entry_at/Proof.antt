@@ -1,4 +1,5 @@
 -- `log::entry_at` meets its contract: the answer stands behind the question. Assumes nothing.
+use native.Mathlib.Omega.{arith}
 use borrow.Author.Needs.{needs}
 use Rattle.log.specs.Entries.{entryAt}
 use Rattle.log.proofs.entry_at.Statement.{statement}
@@ -9,4 +10,4 @@ unfolding entryAt
 returns c = rw (c .before .question-at .ensures, c .answer-at .ensures)
 
 pub entry-at-spec : {M : Type 1} → statement M
-entry-at-spec = tie.close (tie.spec (λ c κs. search needs) (λ c. search needs) (λ c κs. search needs) returns)
+entry-at-spec = tie.close (tie.spec (λ c κs. search needs) (λ c. omega arith) (λ c κs. search needs) returns)

@@ -1,5 +1,6 @@
 -- `log::put_answer` meets its contract: the numbers of the positions are stored behind the four bytes, and the exons behind them. Assumes nothing.
 use mathlib.Core.List.{_++_}
+use native.Mathlib.Omega.{arith}
 use borrow.Author.Needs.{needs}
 use mir.Syntax.{w32}
 use Rattle.fields.specs.Fields.{bytes16}
@@ -36,11 +37,11 @@ put-answer-spec =
     tie.close
     (tie.spec
     (λ c κs. search needs)
-    (λ c. search needs)
+    (λ c. omega arith)
     (λ c κs. search needs)
-    (λ c. search needs)
+    (λ c. omega arith)
     (λ c κs. search needs)
-    (λ c. search needs)
+    (λ c. omega arith)
     (λ c κs. search needs)
-    (λ c. search needs)
+    (λ c. omega arith)
     returns)

@@ -1,5 +1,6 @@
 -- `log::put_bytes` meets its contract: each byte is stored once, in order. Assumes nothing.
 use native.Mathlib.Numerals.{add-one, add-two, add-three}
+use native.Mathlib.Omega.{arith}
 use borrow.Author.Needs.{needs}
 use Rattle.log.specs.Entries.{fourBytes}
 use Rattle.log.proofs.put_bytes.Statement.{statement}
@@ -18,11 +19,11 @@ put-bytes-spec =
     tie.close
     (tie.spec
     (λ c κs. search needs)
-    (λ c. search needs)
+    (λ c. omega arith)
     (λ c κs. search needs)
-    (λ c. search needs)
+    (λ c. omega arith)
     (λ c κs. search needs)
-    (λ c. search needs)
+    (λ c. omega arith)
     (λ c κs. search needs)
-    (λ c. search needs)
+    (λ c. omega arith)
     returns)

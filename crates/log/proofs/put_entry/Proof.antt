@@ -1,4 +1,5 @@
 -- `log::put_entry` meets its contract: the answer is stored behind the question. Assumes nothing.
+use native.Mathlib.Omega.{arith}
 use borrow.Author.Needs.{needs}
 use Rattle.log.specs.Entries.{fourBytes, fourNumbers, questionBytes, answerBytes, entryBytes}
 use Rattle.log.proofs.Stores.{then-stored}
@@ -18,7 +19,7 @@ put-entry-spec =
     tie.close
     (tie.spec
     (λ c κs. search needs)
-    (λ c. search needs)
+    (λ c. omega arith)
     (λ c κs. search needs)
-    (λ c. search needs)
+    (λ c. omega arith)
     returns)

@@ -1,4 +1,5 @@
 -- `log::put_question` meets its contract: the numbers of the positions are stored behind the four bytes. Assumes nothing.
+use native.Mathlib.Omega.{arith}
 use borrow.Author.Needs.{needs}
 use mir.Syntax.{w32}
 use Rattle.whole.specs.laws.Whole.{told}
@@ -24,7 +25,7 @@ put-question-spec =
     tie.close
     (tie.spec
     (λ c κs. search needs)
-    (λ c. search needs)
+    (λ c. omega arith)
     (λ c κs. search needs)
-    (λ c. search needs)
+    (λ c. omega arith)
     returns)

@@ -1,4 +1,5 @@
 -- `log::canonical::can_refuse` meets its contract: the list is the one that the tests of the kind led to. Assumes nothing.
+use native.Mathlib.Omega.{arith}
 use borrow.Author.Tests.{eq-eqb, ne-eqb}
 use borrow.Author.Needs.{needs}
 use Rattle.log.specs.Canonical.{refusalsOf}
@@ -33,21 +34,21 @@ pub can-refuse-spec : {M : Type 1} → statement M
 can-refuse-spec =
     tie.close
     (tie.spec
-    (λ c. search needs)
+    (λ c. omega arith)
     (λ c κs. search needs)
     returns
-    (λ c. search needs)
+    (λ c. omega arith)
     (λ c κs. search needs)
     returns-2
-    (λ c. search needs)
+    (λ c. omega arith)
     (λ c κs. search needs)
     returns-3
-    (λ c. search needs)
+    (λ c. omega arith)
     (λ c κs. search needs)
     returns-4
-    (λ c. search needs)
+    (λ c. omega arith)
     (λ c κs. search needs)
     returns-5
-    (λ c. search needs)
+    (λ c. omega arith)
     (λ c κs. search needs)
     returns-6)

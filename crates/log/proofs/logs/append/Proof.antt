@@ -1,5 +1,6 @@
 -- `log::logs::append` meets its contract: the tests that led to each `return` are those of `appending`, in order. Assumes nothing.
 use mathlib.Core.Path.{refl, sym, _∙_}
+use native.Mathlib.Omega.{arith}
 use borrow.Author.Tests.{lt-ltb, le-ltb, ne-eqb}
 use borrow.Author.Needs.{needs}
 use Rattle.log.specs.Logs.{appending}
@@ -33,11 +34,11 @@ append-spec =
     (tie.spec
     returns
     (λ c κs. search needs)
-    (λ c. search needs)
+    (λ c. omega arith)
     returns-2
     (λ c κs. search needs)
     (λ c κs. search needs)
-    (λ c. search needs)
+    (λ c. omega arith)
     returns-3
-    (λ c. search needs)
+    (λ c. omega arith)
     returns-4)

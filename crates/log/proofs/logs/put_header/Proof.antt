@@ -21,9 +21,9 @@ pub put-header-spec : {M : Type 1} → statement M
 put-header-spec =
     tie.close
     (tie.spec
-    (λ c. search needs)
+    (λ c. omega arith)
     slice-write-log-2
     slice-write-log-3
     (λ c κs. search needs)
     same-length
-    (λ c. search needs))
+    (λ c. c .before .before .put-u16 .ensures))

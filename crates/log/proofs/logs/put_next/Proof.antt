@@ -33,10 +33,10 @@ pub put-next-spec : {M : Type 1} → statement M
 put-next-spec =
     tie.close
     (tie.spec
-    (λ c. search needs)
+    (λ c. omega arith)
     returns
-    (λ c. search needs)
+    (λ c. omega arith)
     returns-2
     (λ c κs. search needs)
-    (λ c. search needs)
+    (λ c. omega arith)
     returns-3)
