@@ -5,7 +5,7 @@ use std::fmt;
 use crate::{
     answered::{self, Mapped},
     asked::{CInterval, CPosition, GInterval, NInterval, NPosition},
-    boundary::{self, Asked, AskedG},
+    boundary::{self, Asked},
     Bounds, Refusal,
 };
 
@@ -75,22 +75,21 @@ impl Question {
     /// The question of numbers that some question has.
     pub(crate) fn of(numbers: boundary::Question) -> Question {
         let bounds = if numbers.strict == 0 { Bounds::Lenient } else { Bounds::Strict };
-        let bit = |marks: u32, mark: u32, bit: u32| if marks & mark == 0 { 0 } else { bit };
-        let missing = bit(numbers.start_marks, boundary::Question::MISSING, AskedG::START)
-            | bit(numbers.end_marks, boundary::Question::MISSING, AskedG::END);
-        let g = || AskedG { start: numbers.start, end: numbers.end, missing }.into();
+        let given = |marks: u32, base: i32| (marks & boundary::Question::MISSING == 0).then_some(base);
+        let (start, end) = (given(numbers.start_marks, numbers.start), given(numbers.end_marks, numbers.end));
+        let g = GInterval { start, end };
         let star = |marks: u32| marks & boundary::Question::STAR != 0;
         let start = Asked { base: numbers.start, offset: numbers.start_offset, star: star(numbers.start_marks) };
         let end = Asked { base: numbers.end, offset: numbers.end_offset, star: star(numbers.end_marks) };
-        let n = || NInterval::new(start.into(), end.into());
-        let c = || CInterval::new(start.into(), end.into());
+        let n = NInterval::new(start.into(), end.into());
+        let c = CInterval::new(start.into(), end.into());
         match numbers.kind {
-            boundary::Question::G_TO_N => Question::GToN(g(), bounds),
-            boundary::Question::N_TO_G => Question::NToG(n(), bounds),
-            boundary::Question::N_TO_C => Question::NToC(n(), bounds),
-            boundary::Question::C_TO_N => Question::CToN(c(), bounds),
-            boundary::Question::G_TO_C => Question::GToC(g(), bounds),
-            _ => Question::CToG(c(), bounds),
+            boundary::Question::G_TO_N => Question::GToN(g, bounds),
+            boundary::Question::N_TO_G => Question::NToG(n, bounds),
+            boundary::Question::N_TO_C => Question::NToC(n, bounds),
+            boundary::Question::C_TO_N => Question::CToN(c, bounds),
+            boundary::Question::G_TO_C => Question::GToC(g, bounds),
+            _ => Question::CToG(c, bounds),
         }
     }
 }
