@@ -75,8 +75,8 @@ returns c =
         omega (arith, t .size),
         (
           r .1
-          ∙ ap (bufferAfter (text h)) (played-is h ∙ t .outcome)
-          ∙ sym (ap (λ (o : Outcome (List ℕ)). atFront (playedText o) (text h)) (t .outcome)),
+              ∙ ap (bufferAfter (text h)) (played-is h ∙ t .outcome)
+              ∙ sym (ap (λ (o : Outcome (List ℕ)). atFront (playedText o) (text h)) (t .outcome)),
           call h .build-card .ensures .1,
         ),
       ),

@@ -15,7 +15,7 @@ use Rattle.card.specs.Writing.{judgeCard}
 use Rattle.card.specs.laws.Putting.{put-as, put-front}
 use Rattle.playback.specs.Played.{played, playedText, cardTo, inputMade, inputPlayed}
 use Rattle.playback.specs.laws.Played.{input-made, input-played, no-input-made, no-input-played}
-use Rattle.playback.proofs.Input.{Ends, ends, cut}
+use Rattle.playback.proofs.CardEnds.{Ends, ends, cut}
 use borrow.Author.Needs.{needs}
 use Rattle.playback.proofs.input.play_input.Statement.{statement}
 use Rattle.playback.proofs.input.play_input.Tie as tie
