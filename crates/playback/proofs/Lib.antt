@@ -2,3 +2,4 @@
 pub mod Walk
 pub mod Reading
 pub mod Written
+pub mod CardEnds

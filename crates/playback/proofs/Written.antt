@@ -35,7 +35,7 @@ refused-is (refused l) k e = let is : l ≡ k = cc in ap refused is
 
 -- ---- by what building left
 
-module _ {j : Outcome Made} {h : Head} (k : Makes j h) {g t l e : List ℕ} {was : Tables} {numbers : List ℕ} where
+module _ {j : Outcome Made} {h : Head} (k : Makes j h) (was : Tables) (numbers : List ℕ) {g t l e : List ℕ} where
   pub lent-made : tables g t l ≡ tablesAfter j was → e ≡ exonsAfter j numbers → lent h g t l e ≡ lentBy (k .made)
   lent-made a b =
       ap (λ (head : Head). beside head (tables g t l) e) (k .head-is)

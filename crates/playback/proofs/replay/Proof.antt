@@ -1,58 +1,77 @@
+-- `playback::replay` meets its contract: 23, then what the log is refused for, then the text and its 20.
+-- Assumes nothing.
+use mathlib.Core.Path.{_≡_, refl, sym, ap, _∙_}
+use mathlib.Core.Bool.{true}
+use mathlib.Core.List.{List}
+use Prim.Native.Nat.{ℕ}
+use lib.ListN.{length}
+use Rattle.cigar.specs.Write.{writtenAnswer, bufferAfter}
+use Rattle.holding.specs.Holding.{Lent, lent, holds}
+use Rattle.log.specs.Layout.{entriesAt}
+use Rattle.log.specs.Logs.{entriesFrom}
+use Rattle.playback.specs.laws.Replay.{replay-broken, replay-answered, replay-refused}
+use Rattle.playback.proofs.Reading.{Reads, reads, refuses}
 use borrow.Author.Needs.{needs}
 use Rattle.playback.proofs.replay.Statement.{statement}
 use Rattle.playback.proofs.replay.Tie as tie
-use Rattle.playback.proofs.replay.Reads as reads
-use Rattle.playback.proofs.replay.Lts as lts
-use Rattle.holding.proofs.check.Reads as check-reads
-use Rattle.log.proofs.logs.read_log.Reads as read-log-reads
-use Rattle.playback.proofs.differing.list.Reads as list-reads
 
--- src/lib.rt:32:8
-check-requires : tie.Need-check-requires
-check-requires c κs = search needs
+abbrev lentAt : tie.Start → Lent
+lentAt s = lent (s .args .head) (s .args .genome .now) (s .args .transcript .now) (s .args .letters .now) (s .args .exons .now)
 
--- src/lib.rt:33:15
-read-log-requires : tie.Need-read-log-requires
-read-log-requires c κs = search needs
+-- the transcript holds together
+module _ (c : tie.After-read-log) where
+  abbrev start : tie.Start
+  start = c .before .before .before .before .before
 
--- src/lib.rt:34:30
-enum-known-count : tie.Need-enum-known-count
-enum-known-count c = search needs
+  abbrev log : List ℕ
+  log = start .args .log .now
 
--- src/lib.rt:35:17
+  held : holds (lentAt start) ≡ true
+  held = sym (c .before .before .check .ensures) ∙ c .before .if1 .taken
+
+-- the log is read
+module _ (c : tie.After-count) where
+  abbrev at-log : tie.After-read-log
+  at-log = c .before .before
+
+  known : Reads (log at-log) (c .count .given .0 .0)
+  known = reads (log at-log) (c .count .given .0 .0) (sym (at-log .read-log .ensures) ∙ c .count .given .1)
+
 list-requires : tie.Need-list-requires
-list-requires c κs = search needs
+list-requires c κs = (known (c .before .before) .few, known (c .before .before) .within)
 
--- src/lib.rt:37:30
-enum-known-k : tie.Need-enum-known-k
-enum-known-k c = search needs
-
--- src/lib.rt:20:1
-same-length : tie.Need-same-length
-same-length c = search needs
-
--- src/lib.rt:20:1
 returns : tie.Need-returns
-returns c = search needs
+returns c =
+    let k = c .before .before .before .before .before in
+    let l = at-log k in
+    let s = start l in
+    let e = c .before .before .list .ensures in
+    let room = length (s .args .buffer .now) in
+    let same = replay-answered (lentAt s) (log l) (held l) room (entriesFrom (k .count .given .0 .0) (log l) entriesAt) (known k .read) in
+    (e .0 ∙ sym (ap writtenAnswer same), e .1 ∙ sym (ap (bufferAfter (s .args .buffer .now)) same))
 
--- src/lib.rt:20:1
 returns-2 : tie.Need-returns-2
-returns-2 c = search needs
+returns-2 c =
+    let k = c .before .k .given in
+    let l = c .before .before .before in
+    let s = start l in
+    rw (replay-refused (lentAt s) (log l) (held l) (length (s .args .buffer .now)) (k .0 .0) (refuses (log l) (k .0 .0) (sym (l .read-log .ensures) ∙ k .1))) (refl, refl)
 
--- src/lib.rt:20:1
 returns-3 : tie.Need-returns-3
-returns-3 c = search needs
+returns-3 c =
+    let s = c .before .before .before .before in
+    rw (replay-broken (lentAt s) (s .args .log .now) (length (s .args .buffer .now)) (sym (c .before .check .ensures) ∙ c .if1 .left)) (refl, refl)
 
 pub replay-spec : {M : Type 1} → statement M
 replay-spec =
     tie.close
     (tie.spec
-    check-requires
-    read-log-requires
-    enum-known-count
+    (λ c κs. search needs)
+    (λ c κs. search needs)
+    (λ c. search needs)
     list-requires
-    enum-known-k
-    same-length
+    (λ c. search needs)
+    (λ c. search needs)
     returns
     returns-2
     returns-3)

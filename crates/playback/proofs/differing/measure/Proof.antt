@@ -57,7 +57,7 @@ loop-again c =
 returns : tie.Need-returns Inv-loop μ-loop
 returns c =
     let all : c .before .loop .i ≡ c .before .before .before .args .count = omega arith in
-    (rw all at (c .before .loop .inv .0 .1), rw all at (c .before .loop .inv .1))
+    (rw all at (c .before .loop .inv .3), rw all at (c .before .loop .inv .4))
 
 pub measure-spec : {M : Type 1} → statement M
 measure-spec =
