@@ -48,7 +48,16 @@ pub extern "C" fn txc_record(
     ensures { λ _. ⌜ now (log .exit) ≡ logAfter (now (log .entry)) «log_len» (recording (lentAt (now (head .entry)) (now (genome .entry)) (now (transcript .entry)) (now (letters .entry)) (now (exons .entry))) question (now (log .entry)) «log_len») ⌝ }
 {
     let known = take::head_of(head);
-    asking::record(known, genome, transcript, letters, exons, question, log, log_len)
+    asking::record(
+        known,
+        genome,
+        transcript,
+        letters,
+        exons,
+        question,
+        log,
+        log_len,
+    )
 }
 
 // The index of each entry of a log whose answer differs, a line each, then the total.
@@ -66,13 +75,5 @@ pub extern "C" fn txc_replay<'a>(
     ensures { λ _. ⌜ now (buffer .exit) ≡ bufferAfter (now (buffer .entry)) (replaying (lentAt (now (head .entry)) (now (genome .entry)) (now (transcript .entry)) (now (letters .entry)) (now (exons .entry))) (now (log .entry)) (length (now (buffer .entry)))) ⌝ }
 {
     let known = take::head_of(head);
-    text::written_laid(playback::replay(
-        known,
-        genome,
-        transcript,
-        letters,
-        exons,
-        log,
-        buffer,
-    ))
+    text::written_laid(playback::replay(known, genome, transcript, letters, exons, log, buffer))
 }

@@ -17,7 +17,7 @@ handed c =
 
 returns : tie.Need-returns
 returns c =
-    let w = c .before in
+    let w = c .before .before .before in
     let r = simp (handed (w .before .before)) at (w .write-card .ensures) in
     (c .written-laid .ensures ∙ ap writtenLaid (r .0), r .1)
 

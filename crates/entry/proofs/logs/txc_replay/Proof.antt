@@ -7,9 +7,9 @@ use Rattle.entry.proofs.logs.txc_replay.Tie as tie
 
 returns : tie.Need-returns
 returns c =
-    let p = c .before in
-    let r = simp (p .before .head-of .ensures) at (p .replay .ensures) in
+    let p = c .before .before .before in
+    let r = simp (p .before .before .head-of .ensures) at (p .replay .ensures) in
     (c .written-laid .ensures ∙ ap writtenLaid (r .0), r .1)
 
 pub txc-replay-spec : {M : Type 1} → statement M
-txc-replay-spec = tie.close (tie.spec (λ c κs. search needs) (λ c κs. search needs) (λ c κs. search needs) returns)
+txc-replay-spec = tie.close (tie.spec (λ c κs. search needs) (λ c κs. search needs) (λ c κs. search needs) (λ c. search needs) returns)

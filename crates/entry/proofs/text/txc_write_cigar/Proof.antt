@@ -7,8 +7,8 @@ use Rattle.entry.proofs.text.txc_write_cigar.Tie as tie
 
 returns : tie.Need-returns
 returns c =
-    let r = c .before .write-cigar in
+    let r = c .before .before .before .write-cigar in
     (c .written-laid .ensures ∙ ap writtenLaid (r .ensures .0), r .ensures .1)
 
 pub txc-write-cigar-spec : {M : Type 1} → statement M
-txc-write-cigar-spec = tie.close (tie.spec (λ c κs. search needs) (λ c κs. search needs) returns)
+txc-write-cigar-spec = tie.close (tie.spec (λ c κs. search needs) (λ c κs. search needs) (λ c. search needs) returns)
