@@ -335,7 +335,8 @@ def recorded(data):
 
 
 def check_differences(entries, differing):
-    """A base, an offset, a star, the certainty and the exons each differ alone somewhere, an answer stands against a refusal both ways, and every refusal of a built transcript is there."""
+    """A base, an offset, a star, the certainty and the exons each differ alone somewhere, an answer stands against a refusal both ways, and
+    every refusal of a built transcript is there."""
     now = Transcript(CARD)
     told = [(entries[i][1], ask(now, entries[i][0])) for i in differing]
     for fields in ((0,), (4, 6), (5, 7), (2, 3, 4, 6), (8, 9)):

@@ -1,11 +1,12 @@
 -- What a replay tells.
 --     differs-not, differs-says   an entry differs exactly where its answer is not what is said now
---     listed-where                an index is listed exactly where its entry differs
---     indices-rise                indices rise, each below the number of entries
---     nothing-differs, nothing-written   on the transcript that recorded every entry the text is `0` and a newline
 --     indices-append              entries, one after the other
---     replay-broken, replay-answered, replay-refused   by what is lent and what is read
---     replay-short, replay-roomy  no text is longer than the most, so a buffer of that length is never too short
+--     indices-rise                indices rise, each below the number of entries
+--     listed-where                an index is listed exactly where its entry differs
+--     nothing-differs, nothing-written   on the transcript that recorded every entry the text is `0` and a newline
+--     replay-broken, replayed-answered, replay-answered, replay-refused   by what is lent and what is read
+--     text-length, replay-short, replayed-short   no text is longer than the most
+--     replay-roomy                so a buffer of that length is never too short
 -- Assumes nothing.
 use Prim.Native.Nat.{ℕ, zero, suc, _+_, _*_, _-_, _/_, _≤_, _<_}
 use native.Mathlib.Nat.{add-zero, zero-add}
@@ -177,7 +178,7 @@ module _ (x : Lent) where
 
 pub nothing-written : (x : Lent) {es : List Entry} → AllRecorded x es → replayText (differing x es) ≡ 48 ∷ 10 ∷ []
 unfolding replayText linesOf lineOf decimal digitsBy
-nothing-written x r = rw (nothing-differs x 0 r)
+nothing-written x r = ap replayText (nothing-differs x _ r)
 
 -- ---- by what is lent and what is read
 

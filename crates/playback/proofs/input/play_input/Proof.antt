@@ -49,10 +49,10 @@ part-play-end : tie.Need-part-play-end
 part-play-end c = omega (arith, there (c .before) .after, there (c .before) .within)
 
 sub-play-2 : tie.Need-sub-play-2
-sub-play-2 c = omega (arith, there (c .before .before) .within)
+sub-play-2 c = omega (arith, there (c .before .before) .after, there (c .before .before) .within)
 
 part-play-start-2 : tie.Need-part-play-start-2
-part-play-start-2 c = omega (arith, there (c .before .before) .within)
+part-play-start-2 c = omega (arith, there (c .before .before) .after, there (c .before .before) .within)
 
 returns : tie.Need-returns
 returns c =
