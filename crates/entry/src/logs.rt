@@ -75,5 +75,6 @@ pub extern "C" fn txc_replay<'a>(
     ensures { λ _. ⌜ now (buffer .exit) ≡ bufferAfter (now (buffer .entry)) (replaying (lentAt (now (head .entry)) (now (genome .entry)) (now (transcript .entry)) (now (letters .entry)) (now (exons .entry))) (now (log .entry)) (length (now (buffer .entry)))) ⌝ }
 {
     let known = take::head_of(head);
-    text::written_laid(playback::replay(known, genome, transcript, letters, exons, log, buffer))
+    let told = playback::replay(known, genome, transcript, letters, exons, log, buffer);
+    text::written_laid(told)
 }
