@@ -288,11 +288,10 @@ FILES = {
 }
 
 
-def main():
-    assert listing(A) == A_LISTED
-    assert len(largest()) == LARGEST_CARD and listing(largest()).startswith('TXC - 2048 ')
+def hold(files, maker):
+    """Writes the files of programs, or with `--check` compares them, and ends."""
     wrong = []
-    for name, data in FILES.items():
+    for name, data in files.items():
         path = ROOT / 'crates' / name
         if '--check' in sys.argv:
             wrong += [] if path.read_bytes() == data else [name]
@@ -300,8 +299,14 @@ def main():
             path.parent.mkdir(parents=True, exist_ok=True)
             path.write_bytes(data)
     for name in wrong:
-        print('%s: not what checks/cards.py makes' % name)
+        print('%s: not what %s makes' % (name, maker))
     sys.exit(bool(wrong))
+
+
+def main():
+    assert listing(A) == A_LISTED
+    assert len(largest()) == LARGEST_CARD and listing(largest()).startswith('TXC - 2048 ')
+    hold(FILES, 'checks/cards.py')
 
 
 if __name__ == '__main__':

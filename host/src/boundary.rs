@@ -181,6 +181,48 @@ pub struct Asked {
     pub star: bool,
 }
 
+/// A question of the six mappings as one value. Those that no entry of a log can hold are refused (35).
+#[repr(C)]
+#[derive(Clone, Copy, Debug, Default, PartialEq, Eq)]
+pub struct Question {
+    /// [`Question::G_TO_N`] or another of the six.
+    pub kind: u32,
+    /// 1 where bounds are strict, else 0.
+    pub strict: u32,
+    /// Of the start: [`Question::STAR`] in c. alone, [`Question::MISSING`] in g. alone.
+    pub start_marks: u32,
+    /// Of the end, likewise.
+    pub end_marks: u32,
+    /// The start's number, 0 where it is missing.
+    pub start: i32,
+    /// Its offset, 0 in g.
+    pub start_offset: i32,
+    /// The end's number, 0 where it is missing.
+    pub end: i32,
+    /// Its offset, 0 in g.
+    pub end_offset: i32,
+}
+
+impl Question {
+    /// The kind of [`g_to_n`].
+    pub const G_TO_N: u32 = 0;
+    /// The kind of [`n_to_g`].
+    pub const N_TO_G: u32 = 1;
+    /// The kind of [`n_to_c`].
+    pub const N_TO_C: u32 = 2;
+    /// The kind of [`c_to_n`].
+    pub const C_TO_N: u32 = 3;
+    /// The kind of [`g_to_c`].
+    pub const G_TO_C: u32 = 4;
+    /// The kind of [`c_to_g`].
+    pub const C_TO_G: u32 = 5;
+
+    /// The mark of a number that counts from the end of the CDS.
+    pub const STAR: u32 = 1;
+    /// The mark of an end that is missing.
+    pub const MISSING: u32 = 2;
+}
+
 // ---- What is answered
 
 /// A position that is answered; a g. position has no offset and no star.
@@ -280,6 +322,18 @@ pub struct Joined {
     pub reference: usize,
     /// How many letters of the alternative stand in its buffer.
     pub alternative: usize,
+}
+
+/// What recording answers; where `number` is not 0, all else is, and no byte of the log has changed.
+#[repr(C)]
+#[derive(Clone, Copy, Debug, Default, PartialEq, Eq)]
+pub struct Recorded {
+    /// The refusal's number, 0 for none.
+    pub number: u32,
+    /// How many bytes the log has now.
+    pub length: usize,
+    /// What [`ask`] answers, a refusal too: it stands in the log.
+    pub answer: Answer,
 }
 
 /// A part of the reference or of the alternative.
@@ -387,6 +441,10 @@ questions! {
     /// Whether the transcript codes.
     is_coding() -> Said,
     txc_is_coding();
+
+    /// The one of the six mappings that a question names.
+    ask(question: Question) -> Answer,
+    txc_ask(question: Question = question);
 }
 
 // SAFETY: as above. Those with a pointer and a length read, or write, just that many bytes, numbers or slots.
@@ -420,6 +478,29 @@ unsafe extern "C" {
         alternative_out: *mut u8,
         alternative_room: usize,
     ) -> Joined;
+
+    fn txc_record(
+        head: &Head,
+        genome: &Starts,
+        transcript: &Starts,
+        letters: &Letters,
+        exons: &Exons,
+        question: Question,
+        log: *mut u8,
+        log_room: usize,
+        log_len: usize,
+    ) -> Recorded;
+    fn txc_replay(
+        head: &Head,
+        genome: &Starts,
+        transcript: &Starts,
+        letters: &Letters,
+        exons: &Exons,
+        log: *const u8,
+        log_len: usize,
+        buffer: *mut u8,
+        buffer_len: usize,
+    ) -> Length;
 
     fn txc_build(
         strand: i32,
@@ -529,6 +610,23 @@ pub fn g_to_c_alleles(
             alternative_out.len(),
         )
     }
+}
+
+/// Asks a question, and writes it with its answer behind the first `used` bytes of a log.
+#[inline]
+pub fn record(of: Reading<'_>, question: Question, log: &mut [u8], used: usize) -> Recorded {
+    let Reading { head, genome, transcript, letters, exons } = of;
+    // SAFETY: pointer and room are the slice's; a length in use that is above the room is refused.
+    unsafe { txc_record(head, genome, transcript, letters, exons, question, log.as_mut_ptr(), log.len(), used) }
+}
+
+/// Asks the questions of a log again, and writes the index of each entry whose answer differs, a line each, then the total.
+#[inline]
+pub fn replay(of: Reading<'_>, log: &[u8], buffer: &mut [u8]) -> Length {
+    let Reading { head, genome, transcript, letters, exons } = of;
+    let (bytes, text) = (log.as_ptr(), buffer.as_mut_ptr());
+    // SAFETY: pointers and lengths are the slices'.
+    unsafe { txc_replay(head, genome, transcript, letters, exons, bytes, log.len(), text, buffer.len()) }
 }
 
 /// Builds a transcript from records, and says the refusal's number.

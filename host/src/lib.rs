@@ -5,7 +5,8 @@
 //! becomes a question by `into`. An answer to or from g. has the exon's number at both of its ends. What cannot be answered
 //! is a [`Refusal`] with the number and the words of the documents. A record's CIGAR is text; [`cigar`] makes it from BAM's
 //! words too. Sorted g. positions are answered in one walk ([`Room::worklist`]), and a g. interval's alleles are read as the
-//! transcript reads them ([`Room::g_to_c_alleles`], [`alleles`]).
+//! transcript reads them ([`Room::g_to_c_alleles`], [`alleles`]). A [`Log`] keeps questions with their answers, and says which of
+//! them another transcript answers otherwise.
 //!
 //! ```
 //! use pulindraxi::{Bounds, Exon, Input, Transcript};
@@ -34,7 +35,9 @@ pub mod boundary;
 pub mod cigar;
 mod input;
 pub mod limits;
+pub mod log;
 pub mod name;
+mod question;
 mod refusal;
 mod transcript;
 
@@ -42,6 +45,8 @@ pub use answered::{Joined, Mapped};
 pub use boundary::Slot;
 pub use cigar::Element;
 pub use input::{Exon, Input};
+pub use log::Log;
 pub use name::{Named, NoName};
+pub use question::{Answer, Question};
 pub use refusal::{Refusal, Unnamed};
 pub use transcript::{Bounds, Room, Segment, Transcript};

@@ -14,3 +14,13 @@ pub const MOST_CARD: usize = 65_536;
 pub const MOST_BASES: u32 = 2_000_000_000;
 /// The largest count that a BAM word has bits for.
 pub const MOST_WORD_COUNT: i32 = (1 << 28) - 1;
+/// The most bytes of a log.
+pub const MOST_LOG: usize = 65_536;
+/// The number of bytes of a log before its entries: mark and version.
+pub const LOG_HEAD: usize = 5;
+/// The number of bytes of an entry.
+pub const ENTRY: usize = 44;
+/// The most entries of a log.
+pub const MOST_ENTRIES: usize = (MOST_LOG - LOG_HEAD) / ENTRY;
+/// The most bytes that a replay writes: all of the most entries differ.
+pub const MOST_REPLAYED: usize = 6_340;

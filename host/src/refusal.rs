@@ -63,7 +63,7 @@ pub struct Unnamed(u32);
 refusals! {
     1 NoRecords "no exon records"
     2 NoStrand "strand is neither 1 nor -1"
-    3 TooMuch "over 512 records, a CIGAR over 4,096 bytes, a segment past 2,048, a card over 65,536 bytes, over 2,048 BAM words"
+    3 TooMuch "over 512 records, a CIGAR over 4,096 bytes, a segment past 2,048, a card or a log over 65,536 bytes, over 2,048 BAM words"
     4 BadBound "a record's bound or a given length negative, a record's end below its start, a genome start below the previous end"
     5 BadOrd "`ord` not strictly rising (strand 1) or falling (strand -1)"
     6 NotAdjacent "consecutive exons in `ord` order: `tx_end_i` differs from the next `tx_start_i`"
@@ -80,7 +80,7 @@ refusals! {
     17 TooWide "a result number doesn't fit 32 signed bits"
     18 NoGenome "g. asked of a length-only transcript"
     19 MissingEnd "g. start or end missing"
-    20 NoRoom "text, words or an allele longer than the lent buffer"
+    20 NoRoom "text, words, an allele or an entry longer than the lent buffer"
     21 NoCard "bytes that are no card"
     22 BadVersion "card version not 1"
     23 NotTogether "a transcript that doesn't hold together"
@@ -89,6 +89,7 @@ refusals! {
     32 NotSpanning "a CIGAR whose genome length differs from its bounds"
     33 Falling "a worklist that falls anywhere"
     34 NoBase "an allele with a letter outside the nucleotide list"
+    35 NoLog "a log with a wrong mark, version, length or field, or a question that no entry can hold"
 }
 
 impl Refusal {
@@ -116,7 +117,7 @@ mod tests {
     #[test]
     fn document_01_has_1_to_23_and_document_02_goes_on_from_30() {
         let numbers: Vec<_> = Refusal::NAMED.iter().map(|refusal| refusal.number()).collect();
-        assert!(numbers.is_sorted() && numbers.starts_with(&(1..=23).chain(30..=34).collect::<Vec<_>>()));
+        assert!(numbers.is_sorted() && numbers.starts_with(&(1..=23).chain(30..=35).collect::<Vec<_>>()));
     }
 
     #[test]

@@ -8,7 +8,8 @@ use crate::{
     boundary::{self, Cds, Exons, Filling, Head, Letters, Reading, Slot, Starts},
     input::Input,
     limits::{MOST_SEGMENTS, MOST_STARTS},
-    Refusal,
+    log::Entry,
+    Answer, Question, Refusal,
 };
 
 /// Whether positions must lie within the transcript's bounds.
@@ -195,6 +196,47 @@ impl Room {
     /// The g. interval of a c. interval.
     pub fn c_to_g(&self, c: asked::CInterval, bounds: Bounds) -> Result<Mapped<answered::GInterval>, Refusal> {
         boundary::c_to_g(self.reading(), c.start.into(), c.end.into(), bounds.strict()).try_into()
+    }
+
+    /// The one of the six mappings that a question names.
+    pub fn ask(&self, question: Question) -> Result<Answer, Refusal> {
+        question.read(boundary::ask(self.reading(), question.into()))
+    }
+
+    /// Asks a question, and writes it with its answer or refusal, which may be 23, behind the first `used` bytes of a log: of a new
+    /// one none are in use. It gives how many bytes the log has now, and what was written. Refusals: 35 where what is in use has
+    /// another mark, version or length than a log has (its entries are not looked at) or is longer than the slice; 3 where the log
+    /// would be over 65,536 bytes; 20 where the slice is too short. No other byte changes.
+    ///
+    /// ```
+    /// use pulindraxi::{Bounds, Question, Refusal, Room};
+    ///
+    /// let mut room = Room::new();
+    /// room.build_length(18, Some(3), Some(15))?;
+    /// let question = Question::NToC("n.16".parse()?, Bounds::Strict);
+    /// let mut log = [0; 60];
+    /// let (used, entry) = room.record_into(question, &mut log, 0)?;
+    /// assert_eq!((used, entry.answer?.to_string()), (49, "c.*1".to_string()));
+    /// assert_eq!(room.record_into(question, &mut log, used), Err(Refusal::NoRoom));
+    ///
+    /// let mut text = [0; 8];
+    /// let length = room.replay_into(&log[..used], &mut text)?;
+    /// assert_eq!(&text[..length], b"0\n");
+    /// # Ok::<(), Box<dyn std::error::Error>>(())
+    /// ```
+    pub fn record_into(&self, question: Question, log: &mut [u8], used: usize) -> Result<(usize, Entry), Refusal> {
+        let recorded = boundary::record(self.reading(), question.into(), log, used);
+        Refusal::check(recorded.number)?;
+        Ok((recorded.length, Entry { question, answer: question.read(recorded.answer) }))
+    }
+
+    /// Asks the questions of a log again, and writes the index, from 0, of each entry whose answer differs, exon numbers too, a
+    /// line each, then their number, into the front of a buffer; it says how many bytes were written, at most
+    /// [`MOST_REPLAYED`](crate::limits::MOST_REPLAYED). Before anything is asked the log is judged: 3, 35.
+    pub fn replay_into(&self, log: &[u8], buffer: &mut [u8]) -> Result<usize, Refusal> {
+        let replayed = boundary::replay(self.reading(), log, buffer);
+        Refusal::check(replayed.number)?;
+        Ok(replayed.length)
     }
 
     /// Whether a g. interval is in bounds: its start place at 0 or above, its end place at most the genome length.

@@ -1,9 +1,13 @@
 //! The boundary is declared here as in `include/txc.h`: the same entries, and structs of the same size.
 
-use std::{collections::BTreeSet, fs, mem::size_of};
+use std::{
+    collections::BTreeSet,
+    fs,
+    mem::{offset_of, size_of},
+};
 
 use pulindraxi::{
-    boundary::{Answer, Head, Joined, Length, Part, Position, Said, Slot, Steps},
+    boundary::{Answer, Head, Joined, Length, Part, Position, Question, Recorded, Said, Slot, Steps},
     limits::{MOST_SEGMENTS, MOST_STARTS},
 };
 
@@ -26,7 +30,7 @@ fn entries(text: &str) -> BTreeSet<&str> {
 fn the_entries_are_the_headers() {
     let header = header();
     let declared = entries(&header);
-    assert_eq!(declared.len(), 22);
+    assert_eq!(declared.len(), 25);
     assert_eq!(entries(include_str!("../src/boundary.rs")), declared);
 }
 
@@ -35,6 +39,24 @@ fn the_structs_are_the_headers() {
     let sizes = [size_of::<Position>(), size_of::<Answer>(), size_of::<Said>(), size_of::<Length>(), size_of::<Part>()];
     assert_eq!(sizes, [16, 40, 8, 16, 24]);
     assert_eq!([size_of::<Slot>(), size_of::<Steps>(), size_of::<Joined>()], [44, 8, 72]);
+    assert_eq!([size_of::<Question>(), size_of::<Recorded>()], [32, 56]);
+}
+
+#[test]
+fn a_questions_numbers_keep_their_order() {
+    let declared = "typedef struct { uint32_t kind, strict, start_marks, end_marks; int32_t start, start_offset, end, end_offset; } txc_question;";
+    assert!(header().lines().any(|line| line == declared));
+    let places = [
+        offset_of!(Question, kind),
+        offset_of!(Question, strict),
+        offset_of!(Question, start_marks),
+        offset_of!(Question, end_marks),
+        offset_of!(Question, start),
+        offset_of!(Question, start_offset),
+        offset_of!(Question, end),
+        offset_of!(Question, end_offset),
+    ];
+    assert_eq!(places, [0, 4, 8, 12, 16, 20, 24, 28]);
 }
 
 #[test]

@@ -5,8 +5,8 @@ use proptest::{collection::vec, prelude::*, sample::select};
 use pulindraxi::{
     alleles,
     asked::{CInterval, CPosition, GInterval, NInterval, NPosition},
-    boundary::Head,
-    cigar, Bounds, Element, Exon, Input, Refusal, Room, Slot, Transcript,
+    boundary::{self, Head},
+    cigar, log, Answer, Bounds, Element, Exon, Input, Log, Question, Refusal, Room, Slot, Transcript,
 };
 
 /// Elements with counts from 0 on.
@@ -78,6 +78,45 @@ fn number() -> impl Strategy<Value = i32> {
         -20..60i32,
         any::<i32>(),
     ]
+}
+
+/// A question of the six mappings, most of them near a transcript that begins where [`transcripts`] do.
+fn questions() -> impl Strategy<Value = Question> {
+    let near = || prop_oneof![4 => -5..300i32, 1 => number()];
+    let offset = || prop_oneof![4 => Just(0), 4 => -5..5i32, 1 => number()];
+    let end = || (near(), offset(), any::<bool>());
+    (0..6u8, end(), end(), proptest::option::weighted(0.05, any::<bool>()), bounds()).prop_map(
+        |(kind, (a, a_offset, a_star), (b, b_offset, b_star), missing, bounds)| {
+            let g = match missing {
+                None => GInterval::new(a, b),
+                Some(is_start) if is_start => GInterval { start: None, end: Some(b) },
+                Some(_) => GInterval { start: Some(a), end: None },
+            };
+            let n = NInterval::new(NPosition::new(a, a_offset), NPosition::new(b, b_offset));
+            let c = |base, offset, star| CPosition { base, offset, star };
+            let c = CInterval::new(c(a, a_offset, a_star), c(b, b_offset, b_star));
+            match kind {
+                0 => Question::GToN(g, bounds),
+                1 => Question::NToG(n, bounds),
+                2 => Question::NToC(n, bounds),
+                3 => Question::CToN(c, bounds),
+                4 => Question::GToC(g, bounds),
+                _ => Question::CToG(c, bounds),
+            }
+        },
+    )
+}
+
+/// What the mapping says that a question names.
+fn named(room: &Room, question: Question) -> Result<Answer, Refusal> {
+    match question {
+        Question::GToN(g, bounds) => room.g_to_n(g, bounds).map(Answer::N),
+        Question::NToG(n, bounds) => room.n_to_g(n, bounds).map(Answer::G),
+        Question::NToC(n, bounds) => room.n_to_c(n, bounds).map(Answer::UnmarkedC),
+        Question::CToN(c, bounds) => room.c_to_n(c, bounds).map(Answer::UnmarkedN),
+        Question::GToC(g, bounds) => room.g_to_c(g, bounds).map(Answer::C),
+        Question::CToG(c, bounds) => room.c_to_g(c, bounds).map(Answer::G),
+    }
 }
 
 proptest! {
@@ -446,6 +485,122 @@ proptest! {
             let whole = room.g_to_c_alleles(g, Bounds::Lenient, &reference, &alternative);
             let fits = whole.map(|whole| whole.reference.len() <= rooms.0 && whole.alternative.len() <= rooms.1);
             prop_assert!(fits.is_err() || fits == Ok(lengths.is_ok()));
+        }
+    }
+
+    #[test]
+    fn a_question_is_its_numbers(question in questions()) {
+        prop_assert_eq!(Question::try_from(boundary::Question::from(question)), Ok(question));
+    }
+
+    #[test]
+    fn a_question_is_the_mapping_that_it_names((strand, first, parts, coding) in transcripts(), questions in vec(questions(), 1..8)) {
+        if let Ok(room) = with_input(strand, first, &parts, coding, Transcript::build) {
+            for question in questions {
+                prop_assert_eq!(room.ask(question), named(&room, question));
+            }
+        }
+    }
+
+    /// On what made it a log reports nothing, and it reads back as it was recorded.
+    #[test]
+    fn a_log_replayed_on_what_made_it((strand, first, parts, coding) in transcripts(), questions in vec(questions(), 0..12)) {
+        if let Ok(room) = with_input(strand, first, &parts, coding, Transcript::build) {
+            let mut log = Log::new();
+            let recorded: Vec<_> = questions.iter().map(|&question| log.record(&room, question).unwrap()).collect();
+            for (entry, question) in recorded.iter().zip(questions) {
+                prop_assert_eq!((entry.question, entry.answer), (question, named(&room, question)));
+            }
+            prop_assert_eq!(log.replay(&room), Ok(Vec::new()));
+            let read = Log::read(log.bytes()).unwrap();
+            prop_assert_eq!(read.entries().collect::<Vec<_>>(), recorded);
+            prop_assert_eq!(read, log);
+        }
+    }
+
+    /// On another transcript just the entries whose answers differ are listed, in their order.
+    #[test]
+    fn a_log_replayed_on_another((strand, first, parts, coding) in transcripts(), (other_strand, shift, other_parts, _) in transcripts(),
+                                 alike in any::<bool>(), questions in vec(questions(), 0..12)) {
+        let old = with_input(strand, first, &parts, coding, Transcript::build);
+        let new = match alike {
+            true => with_input(strand, first + shift % 3, &parts, true, Transcript::build),
+            false => with_input(other_strand, first, &other_parts, coding, Transcript::build),
+        };
+        if let (Ok(old), Ok(new)) = (old, new) {
+            let mut log = Log::new();
+            for &question in &questions {
+                log.record(&old, question).unwrap();
+            }
+            let differs = |&index: &usize| named(&old, questions[index]) != named(&new, questions[index]);
+            prop_assert_eq!(log.replay(&new), Ok((0..questions.len()).filter(differs).collect()));
+        }
+    }
+
+    #[test]
+    fn any_bytes_as_a_log(bytes in vec(any::<u8>(), 0..100), known in 0..6usize, entry in any::<bool>()) {
+        let mut bytes = bytes;
+        for (byte, mark) in bytes.iter_mut().zip(b"QLG\x01\x00").take(known) {
+            *byte = *mark;
+        }
+        if entry {
+            bytes.resize(49, 0);
+        }
+        let room = Transcript::of_length(18, Some(3), Some(15)).unwrap();
+        let mut text = [b'.'; 8];
+        match (Log::read(&bytes), room.replay_into(&bytes, &mut text)) {
+            (Ok(log), Ok(_)) => {
+                prop_assert_eq!(log.bytes(), &bytes[..]);
+                prop_assert_eq!(log::entries(&bytes).unwrap().len(), log.len());
+            }
+            (log, length) => {
+                prop_assert_eq!((log.err(), length), (Some(Refusal::NoLog), Err(Refusal::NoLog)));
+                prop_assert_eq!(text, [b'.'; 8]);
+            }
+        }
+    }
+
+    /// A byte of a log that is taken reads back as it is, and one that is not taken is refused.
+    #[test]
+    fn a_damaged_log((strand, first, parts, coding) in transcripts(), questions in vec(questions(), 1..5), at in any::<usize>(), byte in any::<u8>(), cut in any::<bool>()) {
+        if let Ok(room) = with_input(strand, first, &parts, coding, Transcript::build) {
+            let mut log = Log::new();
+            for question in questions {
+                log.record(&room, question).unwrap();
+            }
+            let (whole, mut bytes) = (log.entries().collect::<Vec<_>>(), log.bytes().to_vec());
+            let at = at % bytes.len();
+            if cut { bytes.truncate(at) } else { bytes[at] = byte }
+            match Log::read(&bytes) {
+                Ok(read) => {
+                    let entries: Vec<_> = read.entries().collect();
+                    prop_assert_eq!(entries == whole, bytes == log.bytes());
+                    prop_assert!(cut || entries.len() == whole.len());
+                }
+                Err(refusal) => prop_assert_eq!(refusal, Refusal::NoLog),
+            }
+        }
+    }
+
+    #[test]
+    fn a_log_stays_where_nothing_is_recorded((strand, first, parts, coding) in transcripts(), question in questions(), used in 0..120usize, room in 0..120usize) {
+        if let Ok(transcript) = with_input(strand, first, &parts, coding, Transcript::build) {
+            let mut lent = [&b"QLG\x01\x00"[..], &[b'.'; 115]].concat();
+            let before = lent.clone();
+            match transcript.record_into(question, &mut lent[..room], used) {
+                Ok((length, entry)) => {
+                    prop_assert!(length <= room && (length - 5) % 44 == 0);
+                    prop_assert_eq!(&lent[..used], &before[..used]);
+                    prop_assert_eq!(&lent[length..], &before[length..]);
+                    let written = [&b"QLG\x01\x00"[..], &lent[length - 44..length]].concat();
+                    prop_assert_eq!(log::entries(&written).unwrap().collect::<Vec<_>>(), [entry]);
+                }
+                Err(refusal) => {
+                    let is_log = used <= room && (used == 0 || used >= 5 && (used - 5) % 44 == 0);
+                    prop_assert_eq!(refusal, if is_log { Refusal::NoRoom } else { Refusal::NoLog });
+                    prop_assert!(lent == before);
+                }
+            }
         }
     }
 }

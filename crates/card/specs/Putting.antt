@@ -4,6 +4,7 @@
 --     then-put             two texts in a row
 --     put-length           the buffer keeps its length
 --     put-as               the text by another name
+--     put-front            a text at the front, and the rest stays
 -- Assumes nothing.
 use mathlib.Core.Path.{_≡_}
 use mathlib.Core.List.{List}

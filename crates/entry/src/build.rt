@@ -9,7 +9,7 @@ ghost use Rattle.building.specs.Afterwards.{builtAnswer, lengthAnswer, tablesAf
 ghost use Rattle.card.specs.Writing.{cardWriting, judgeCard};
 ghost use Rattle.layout.specs.Layout.{headRow};
 ghost use Rattle.entry.specs.Boundary.{builtNumber, builtHead, writtenLaid};
-use cigar::write::Written;
+use crate::text;
 use layout::lay::Length;
 use refusals::MOST_SEGMENTS;
 use refusals::MOST_STARTS;
@@ -136,14 +136,5 @@ pub extern "C" fn txc_write_card(
     ensures { λ _. ⌜ now (buffer .exit) ≡ bufferAfter (now (buffer .entry)) (cardWriting (numbersOf strand cds «cds_start» «cds_end» count) (now (records .entry)) (length (now (buffer .entry)))) ⌝ }
 {
     let numbers = numbers_of(strand, cds, cds_start, cds_end, count);
-    match card::write_card(numbers, records, buffer) {
-        Written::Text(n) => Length {
-            number: 0,
-            length: n,
-        },
-        Written::Refused(k) => Length {
-            number: k as u32,
-            length: 0,
-        },
-    }
+    text::written_laid(card::write_card(numbers, records, buffer))
 }

@@ -3,6 +3,7 @@
 pub mod ask;
 pub mod bam;
 pub mod build;
+pub mod logs;
 pub mod slots;
 pub mod strand;
 pub mod text;

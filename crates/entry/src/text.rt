@@ -35,6 +35,22 @@ pub fn counted_laid(counted: Counted) -> Length
     }
 }
 
+// A text that was written, as a length.
+pub fn written_laid(written: Written) -> Length
+    ensures { λ r. ⌜ r ≡ writtenLaid written ⌝ }
+{
+    match written {
+        Written::Text(n) => Length {
+            number: 0,
+            length: n,
+        },
+        Written::Refused(k) => Length {
+            number: k as u32,
+            length: 0,
+        },
+    }
+}
+
 // How many elements a text has, which then stand at the front of the two tables.
 #[no_mangle]
 pub extern "C" fn txc_read_cigar(
@@ -60,16 +76,7 @@ pub extern "C" fn txc_write_cigar(
     ensures { λ r. ⌜ r ≡ writtenLaid (writtenAnswer (writing number (now (counts .entry)) (now (letters .entry)) (length (now (buffer .entry))))) ⌝ }
     ensures { λ _. ⌜ now (buffer .exit) ≡ bufferAfter (now (buffer .entry)) (writing number (now (counts .entry)) (now (letters .entry)) (length (now (buffer .entry)))) ⌝ }
 {
-    match cigar::write::write_cigar(number, counts, letters, buffer) {
-        Written::Text(n) => Length {
-            number: 0,
-            length: n,
-        },
-        Written::Refused(k) => Length {
-            number: k as u32,
-            length: 0,
-        },
-    }
+    written_laid(cigar::write::write_cigar(number, counts, letters, buffer))
 }
 
 // How many bytes two alleles have in common from the front.

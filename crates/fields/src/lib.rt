@@ -1,9 +1,9 @@
-// A card's numbers, read and written where they lie: 16 and 32 bits with the least significant byte first, and signed numbers of 32 bits.
+// The numbers of cards and logs, read and written where they lie: a byte, 16 and 32 bits with the least significant byte first, and signed numbers of 32 bits.
 ghost use mathlib.Core.Path.{_≡_};
 ghost use Prim.Native.Nat.{_+_, _%_, _≤_, _<_};
-ghost use lib.ListN.{length};
+ghost use lib.ListN.{length, getD};
 ghost use lib.Seq.{sets};
-ghost use Rattle.fields.specs.Fields.{le16, le32, bytes16, bytes32, signed32, bits32};
+ghost use Rattle.fields.specs.Fields.{bytes, le16, le32, bytes16, bytes32, signed32, bits32};
 
 // A byte as a number: with no cast beside the read, its range is known.
 fn wide(b: u8) -> u32
@@ -12,14 +12,23 @@ fn wide(b: u8) -> u32
     b as u32
 }
 
+// The byte at a place.
+pub fn u8_at(s: &[u8], at: usize) -> u32
+    requires { ⌜ at + 1 ≤ length (now s) ⌝ }
+    ensures { λ r. ⌜ r ≡ getD (now (s .entry)) at 0 ⌝ }
+    ensures within { λ r. ⌜ r < 256 ⌝ }
+{
+    wide(s[at])
+}
+
 // The 16-bit number at a place.
 pub fn u16_at(s: &[u8], at: usize) -> u32
     requires { ⌜ at + 2 ≤ length (now s) ⌝ }
     ensures { λ r. ⌜ r ≡ le16 (now (s .entry)) at ⌝ }
     ensures within { λ r. ⌜ r < 65536 ⌝ }
 {
-    let low = wide(s[at]);
-    let high = wide(s[at + 1]);
+    let low = u8_at(s, at);
+    let high = u8_at(s, at + 1);
     low + 256 * high
 }
 
@@ -59,14 +68,22 @@ fn byte(n: u32) -> u8
     (n % 256) as u8
 }
 
+// Writes the lowest byte of a number at a place.
+pub fn put_u8(buf: &mut [u8], at: usize, n: u32)
+    requires { ⌜ at + 1 ≤ length (now buf) ⌝ }
+    ensures { λ _. ⌜ now (buf .exit) ≡ sets (now (buf .entry)) at (bytes 1 n) ⌝ }
+{
+    buf[at] = byte(n);
+}
+
 // Writes the lower 16 bits of a number, two bytes from a place on.
 pub fn put_u16(buf: &mut [u8], at: usize, n: u32)
     requires { ⌜ at + 2 ≤ length (now buf) ⌝ }
     ensures { λ _. ⌜ now (buf .exit) ≡ sets (now (buf .entry)) at (bytes16 n) ⌝ }
 {
     let high = n / 256;
-    buf[at] = byte(n);
-    buf[at + 1] = byte(high);
+    put_u8(buf, at, n);
+    put_u8(buf, at + 1, high);
 }
 
 // Writes a number, four bytes from a place on.

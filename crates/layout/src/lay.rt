@@ -86,7 +86,8 @@ fn c_position(exon: u16, a: CPosition) -> Position
     }
 }
 
-fn refusal_of(k: u8) -> Answer
+// A refusal laid out: all but its number is 0.
+pub fn refusal_of(k: u8) -> Answer
     ensures { λ r. ⌜ r ≡ refusal k ⌝ }
 {
     Answer {

@@ -37,7 +37,7 @@ pub fn head_of(head: &[i32; 9]) -> Head
 }
 
 // One end of a g. interval.
-fn g_end(missing: bool, z: i32) -> GAsked
+pub fn g_end(missing: bool, z: i32) -> GAsked
     ensures { λ r. ⌜ paperGAsked r ≡ gEnd missing z ⌝ }
 {
     if missing {

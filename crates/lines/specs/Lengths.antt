@@ -23,5 +23,9 @@ mostLine = 35
 abbrev pub mostListing : ℕ
 mostListing = mostHeader + mostLine * mostSegments
 
+-- the line of a refusal
+abbrev pub mostRefusal : ℕ
+mostRefusal = 19
+
 pub number-short : (n : ℕ) → n < 2 ^ 32 → length (numberText n) ≤ mostNumber
 number-short n h = omega (arith, decimal-short n h)

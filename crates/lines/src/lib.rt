@@ -14,7 +14,7 @@ ghost use Rattle.segments.specs.Tables.{tables, Holds, read};
 ghost use Rattle.building.specs.Afterwards.{tablesAfter, exonsAfter};
 ghost use Rattle.card.specs.Putting.{Put};
 ghost use Rattle.card.specs.Writing.{judgeCard};
-ghost use Rattle.lines.specs.Lengths.{mostNumber, mostNumbers, mostHeader, mostLine, mostListing};
+ghost use Rattle.lines.specs.Lengths.{mostNumber, mostNumbers, mostHeader, mostLine, mostListing, mostRefusal};
 use refusals::MOST_SEGMENTS;
 use refusals::MOST_STARTS;
 use transcript::Built;
@@ -161,10 +161,10 @@ fn put_listing(
 }
 
 // The line of a refusal, at the front. Returns its length.
-fn put_refusal(buffer: &mut [u8], number: u8) -> usize
-    requires { ⌜ mostListing ≤ length (now buffer) ⌝ }
+pub fn put_refusal(buffer: &mut [u8], number: u8) -> usize
+    requires { ⌜ mostRefusal ≤ length (now buffer) ⌝ }
     ensures { λ r. ⌜ Put (now (buffer .entry)) (now (buffer .exit)) 0 r (refusalText number) ⌝ }
-    ensures within { λ r. ⌜ r ≤ mostListing ⌝ }
+    ensures within { λ r. ⌜ r ≤ mostRefusal ⌝ }
 {
     buffer[0] = b'r';
     buffer[1] = b'e';

@@ -4,8 +4,10 @@
 --     Occurring    each of them occurs
 --     Keeping      a strict answer is also the lenient one
 --     Marks        when an answer of a chain is uncertain
+--     Answered     an answer's mark, its exon numbers, and that its numbers fit
 pub mod Known
 pub mod Refusing
 pub mod Occurring
 pub mod Keeping
 pub mod Marks
+pub mod Answered

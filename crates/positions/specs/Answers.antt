@@ -1,6 +1,7 @@
 -- What a mapping is answered with: an interval with its mark, or the number of a refusal; and refusal 17. Assumes nothing.
 use Prim.Native.Nat.{ℕ}
-use mathlib.Core.Bool.{Bool, cond, _&&_}
+use mathlib.Core.Bool.{Bool, true, cond, _&&_}
+use mathlib.Core.Path.{_≡_}
 use Rattle.refusals.specs.Numbers.{tooWide}
 use Rattle.refusals.specs.Outcome.{Outcome, answered, refused, andThen, through, both}
 use Rattle.whole.specs.Whole.{if_then_else_}
@@ -80,3 +81,8 @@ ifFits fit a = if fit a then answered a else refused tooWide
 -- an answer of which each number fits, and else 17
 abbrev pub fitting : {P : Type 0} → (P → Bool) → Answer P → Answer P
 fitting {P} fit answer = andThen answer (ifFits (λ (a : Marked P). fit (a .interval .from) && fit (a .interval .to)))
+
+-- each number of an interval fits
+pub record Fitted {P : Type 0} (fit : P → Bool) (i : Interval P) : Type 0 where
+  pub from : fit (i .from) ≡ true
+  pub to : fit (i .to) ≡ true

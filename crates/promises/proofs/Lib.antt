@@ -10,6 +10,7 @@
 --     Refusals                      which refusals there are
 --     Questions                     which a question gives in strict mode
 --     Host                          what a host sees
+--     Playing                       a day recorded and played back
 --     Covers                        each place lies in an element
 --     Examples, Against             transcripts that meet every premise, and mappers that the promises shut out
 pub mod Turns
@@ -34,6 +35,7 @@ pub mod Table
 pub mod Refusals
 pub mod Questions
 pub mod Host
+pub mod Playing
 pub mod Covers
 pub mod Examples
 pub mod Against

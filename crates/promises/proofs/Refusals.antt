@@ -2,14 +2,14 @@
 use Prim.Native.Nat.{ℕ, zero, suc, _+_, _-_, _*_, min}
 use native.Mathlib.Omega.{arith}
 use mathlib.Core.Bool.{Bool, true, false, cond, not, _&&_, false≢true}
-use mathlib.Core.List.{List, [], _∷_}
+use mathlib.Core.List.{List, [], _∷_, _++_}
 use mathlib.Core.Path.{_≡_, refl}
 use lib.Dec.{eqb, ltb}
 use lib.IntN.{ℤ, pos, negsuc, natAbs}
 use lib.ListN.{length, drop, getD}
 use lib.Signed.{ltZ}
 use borrow.Author.Tests.{eqb-true, ltb-true}
-use Rattle.refusals.specs.Numbers.{noRecords, noStrand, tooMuch, badBound, badOrd, notAdjacent, noElement, badCount, tooLong, noSegment, halfCds, badCds, noRoom, noCard, notTogether, noOperation, notSpanning, noBase, mostWordCount, mostCount, mostSegments, mostText, mostRecords, mostBases, mostCard}
+use Rattle.refusals.specs.Numbers.{noRecords, noStrand, tooMuch, badBound, badOrd, notAdjacent, noElement, badCount, tooLong, noSegment, halfCds, badCds, noRoom, noCard, notTogether, noOperation, notSpanning, noBase, noLog, mostWordCount, mostCount, mostSegments, mostText, mostRecords, mostBases, mostCard, mostLog}
 use Rattle.refusals.specs.Outcome.{Outcome, answered, refused, andThen, unless}
 use Rattle.refusals.specs.Refusing.{oneOf, Only}
 use Rattle.refusals.specs.laws.Refusing.{only-through, only-both, only-then}
@@ -47,7 +47,14 @@ use Rattle.mapper.specs.laws.Refusing.{checked-only}
 use Rattle.strands.specs.Turned.{areBases, onStrand, readOn, fitting, turning}
 use Rattle.alleles.specs.Joining.{Alleles, alleles, Rooms, readBoth, trimmed, fittingBoth, beside, joinedWith, readsBack, askJoined, joined}
 use Rattle.alleles.specs.laws.Refusing.{plainRefusals, plain-only}
-use Rattle.promises.specs.Refusals.{Refusals, readingRefusals, writingRefusals, readingWordsRefusals, writingWordsRefusals, recordsRefusals, buildingRefusals, cardRefusals, lengthRefusals, cardWritingRefusals, turningRefusals, joiningRefusals}
+use Rattle.layout.specs.declared.question.Question.{Question}
+use Rattle.log.specs.Canonical.{holdable}
+use Rattle.log.specs.Entries.{entryBytes}
+use Rattle.log.specs.Logs.{headerBytes, isHeaded, allCanonical, entriesIn, readLog, fitted as behind, appending}
+use Rattle.log.specs.declared.Entry.{Entry}
+use Rattle.asking.specs.Asking.{recorded, recording}
+use Rattle.playback.specs.Replay.{replayed, roomed, replaying}
+use Rattle.promises.specs.Refusals.{Refusals, readingRefusals, writingRefusals, readingWordsRefusals, writingWordsRefusals, recordsRefusals, buildingRefusals, cardRefusals, lengthRefusals, cardWritingRefusals, turningRefusals, joiningRefusals, recordingRefusals, replayRefusals}
 
 -- ---- rows
 
@@ -374,6 +381,40 @@ unfolding askJoined
 join-only x strict q s room =
     checked-only J x (askJoined strict q s room) refl (λ y. joined-only (readsBack y) s room (askGToC strict q y) (wider plainRefusals J (askGToC strict q y) refl (plain-only strict q y)))
 
+-- ---- a log
+
+behind-only : (room used : ℕ) (text : List ℕ) → Only recordingRefusals (behind room used text)
+behind-only room used text =
+    only-unless recordingRefusals (ltb mostLog (used + length text)) tooMuch _
+    (only-unless recordingRefusals (ltb room (used + length text)) noRoom _ (record { only = tt }) (λ e. refl)) (λ e. refl)
+
+appending-only : (log : List ℕ) (used : ℕ) (e : Entry) → Only recordingRefusals (appending log used e)
+unfolding appending
+appending-only log used e =
+    only-unless recordingRefusals (ltb (length log) used) noLog _
+    (by-test (eqb used 0)
+    (λ t. rw t (behind-only (length log) 0 (headerBytes ++ entryBytes e)))
+    (λ t. rw t (only-if recordingRefusals (isHeaded log used) noLog _ (behind-only (length log) used (entryBytes e)) (λ h. refl))))
+    (λ h. refl)
+
+recording-only : (x : Lent) (q : Question) (log : List ℕ) (used : ℕ) → Only recordingRefusals (recording x q log used)
+unfolding recording
+recording-only x q log used = only-if recordingRefusals (holdable q) noLog _ (appending-only log used (recorded x q)) (λ e. refl)
+
+log-only : (log : List ℕ) → Only replayRefusals (readLog log)
+unfolding readLog
+log-only log =
+    only-unless replayRefusals (ltb mostLog (length log)) tooMuch _
+    (only-unless replayRefusals (not (isHeaded log (length log))) noLog _
+    (only-unless replayRefusals (not (allCanonical (entriesIn log))) noLog _ (record { only = tt }) (λ e. refl)) (λ e. refl)) (λ e. refl)
+
+replay-only : (x : Lent) (log : List ℕ) (room : ℕ) → Only replayRefusals (replaying x log room)
+unfolding replaying replayed
+replay-only x log room =
+    only-then replayRefusals (replayed x log) (roomed room)
+    (checked-only replayRefusals x _ refl (λ y. only-through replayRefusals _ (readLog log) (log-only log)))
+    (λ text e. only-unless replayRefusals (ltb room (length text)) noRoom _ (record { only = tt }) (λ t. refl))
+
 pub refusals : Refusals
 refusals = record {
   read-cigar = text-only;
@@ -387,4 +428,6 @@ refusals = record {
   worklist = worklist-refuses;
   turn = turning-only;
   join = join-only;
+  record-question = recording-only;
+  replay = replay-only;
 }

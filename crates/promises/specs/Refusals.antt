@@ -1,9 +1,9 @@
--- The table of refusals, of what is not a question: which numbers building, CIGAR text, BAM's words, a card, a worklist and alleles can give. That of the questions stands in `mapper`. Assumes nothing.
+-- The table of refusals, of what is not a question: which numbers building, CIGAR text, BAM's words, a card, a worklist, alleles and a log can give. That of the questions stands in `mapper`. Assumes nothing.
 use Prim.Native.Nat.{ℕ}
 use mathlib.Core.Bool.{Bool}
 use mathlib.Core.List.{List, [], _∷_}
 use lib.IntN.{ℤ}
-use Rattle.refusals.specs.Numbers.{noRecords, noStrand, tooMuch, badBound, badOrd, notAdjacent, noElement, badCount, tooLong, noSegment, halfCds, badCds, noRoom, noCard, badVersion, notTogether, noOperation, noWord, notSpanning, noBase}
+use Rattle.refusals.specs.Numbers.{noRecords, noStrand, tooMuch, badBound, badOrd, notAdjacent, noElement, badCount, tooLong, noSegment, halfCds, badCds, noRoom, noCard, badVersion, notTogether, noOperation, noWord, notSpanning, noBase, noLog}
 use Rattle.refusals.specs.Refusing.{Only}
 use Rattle.cigar.specs.Read.{readText}
 use Rattle.cigar.specs.Write.{writing}
@@ -17,6 +17,9 @@ use Rattle.worklist.specs.laws.Refusing.{worklistRefusals}
 use Rattle.worklist.specs.declared.Slot.{Slot}
 use Rattle.positions.specs.Positions.{Interval, GAsked}
 use Rattle.strands.specs.Turned.{turning}
+use Rattle.layout.specs.declared.question.Question.{Question}
+use Rattle.asking.specs.Asking.{recording}
+use Rattle.playback.specs.Replay.{replaying}
 use Rattle.alleles.specs.Joining.{Alleles, Rooms, joined}
 use Rattle.alleles.specs.laws.Refusing.{plainRefusals}
 
@@ -43,6 +46,14 @@ turningRefusals = noBase ∷ noRoom ∷ []
 -- txc_g_to_c_alleles: the plain mapping's own, and three before them
 abbrev pub joiningRefusals : List ℕ
 joiningRefusals = notTogether ∷ noBase ∷ noRoom ∷ plainRefusals
+
+-- txc_record: its question's own refusals stand in the entry
+abbrev pub recordingRefusals : List ℕ
+recordingRefusals = noLog ∷ tooMuch ∷ noRoom ∷ []
+
+-- txc_replay
+abbrev pub replayRefusals : List ℕ
+replayRefusals = notTogether ∷ tooMuch ∷ noLog ∷ noRoom ∷ []
 
 -- what building finds in the records once the strand is known
 abbrev pub recordsRefusals : List ℕ
@@ -76,3 +87,5 @@ pub record Refusals : Type 0 where
   pub worklist : (x : Lent) (slots : List Slot) → Only worklistRefusals (listed x slots)
   pub turn : (allele : List ℕ) (room : ℕ) → Only turningRefusals (turning allele room)
   pub join : (x : Lent) (strict : Bool) (q : Interval GAsked) (s : Alleles) (room : Rooms) → Only joiningRefusals (joined x strict q s room)
+  pub record-question : (x : Lent) (q : Question) (log : List ℕ) (used : ℕ) → Only recordingRefusals (recording x q log used)
+  pub replay : (x : Lent) (log : List ℕ) (room : ℕ) → Only replayRefusals (replaying x log room)

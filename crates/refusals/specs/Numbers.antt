@@ -9,7 +9,7 @@ noRecords = 1
 abbrev pub noStrand : ℕ
 noStrand = 2
 
--- over a limit: records, a CIGAR's bytes or words, segments, a card's bytes
+-- over a limit: records, a CIGAR's bytes or words, segments, a card's or a log's bytes
 abbrev pub tooMuch : ℕ
 tooMuch = 3
 
@@ -113,6 +113,10 @@ falling = 33
 abbrev pub noBase : ℕ
 noBase = 34
 
+-- bytes that are no log, or a question that no entry of one can hold
+abbrev pub noLog : ℕ
+noLog = 35
+
 -- the most exon records of a transcript
 abbrev pub mostRecords : ℕ
 mostRecords = 512
@@ -132,6 +136,10 @@ mostText = 4096
 -- the most bytes of a card
 abbrev pub mostCard : ℕ
 mostCard = 65536
+
+-- the most bytes of a log
+abbrev pub mostLog : ℕ
+mostLog = 65536
 
 -- the largest transcript length, and the largest genome end
 abbrev pub mostBases : ℕ

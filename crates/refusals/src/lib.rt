@@ -4,7 +4,7 @@
 pub const NO_RECORDS: u8 = 1;
 // The strand is neither 1 nor -1.
 pub const NO_STRAND: u8 = 2;
-// Over a limit: records, a CIGAR's bytes or words, segments, a card's bytes.
+// Over a limit: records, a CIGAR's bytes or words, segments, a card's or a log's bytes.
 pub const TOO_MUCH: u8 = 3;
 // A bound or a given length is negative, an end is below its start, a genome start is below the previous end.
 pub const BAD_BOUND: u8 = 4;
@@ -56,6 +56,8 @@ pub const NOT_SPANNING: u8 = 32;
 pub const FALLING: u8 = 33;
 // An allele has a letter outside the nucleotide list.
 pub const NO_BASE: u8 = 34;
+// Bytes that are no log, or a question that no entry of one can hold.
+pub const NO_LOG: u8 = 35;
 
 // The most exon records of a transcript.
 pub const MOST_RECORDS: usize = 512;
@@ -67,6 +69,8 @@ pub const MOST_STARTS: usize = MOST_SEGMENTS + 1;
 pub const MOST_TEXT: usize = 4096;
 // The most bytes of a card.
 pub const MOST_CARD: usize = 65_536;
+// The most bytes of a log.
+pub const MOST_LOG: usize = 65_536;
 // The largest transcript length, and the largest genome end.
 pub const MOST_BASES: u32 = 2_000_000_000;
 // The largest count of an element.

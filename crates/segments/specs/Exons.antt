@@ -1,5 +1,5 @@
 -- Exon numbers: each segment has the number of its record, counted from 1 in transcript order, and a gap between records has the number of the record before it along the genome. Assumes nothing.
-use Prim.Native.Nat.{ℕ, zero, suc, _+_}
+use Prim.Native.Nat.{ℕ, zero, suc, _+_, _≤_}
 use mathlib.Core.Bool.{Bool, cond, _&&_, _||_}
 use mathlib.Core.List.{List, [], _∷_}
 use lib.Dec.{eqb, ltb}
@@ -41,6 +41,11 @@ unfoldable pub numbersHold : Bool → ℕ → List ℕ → List ℕ → ℕ → 
 numbersHold forward records letters exons n =
     let number = numberAt exons n (lastNumber forward records) in
     eqb (number 0) (firstNumber forward records) && allBelow (goesOnAt forward letters number) n
+
+-- a number that an exon can have where there are so many records
+pub record IsExon (records k : ℕ) : Type 0 where
+  pub above : 1 ≤ k
+  pub below : k ≤ records
 
 -- ---- the number of a place
 

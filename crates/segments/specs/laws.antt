@@ -4,7 +4,7 @@
 --     Totals     how far a list of elements goes, by its parts
 --     Made       the tables that elements make: what stands at every index, that they hold together, and that they read as the elements
 --     Finding    the number of a place's segment
---     Exons      the exon numbers that are read from a table
+--     Exons      the exon numbers that are read from a table, and where they lie
 --     Sizes      how large a spot's numbers are
 --     Reading    tables that hold together map a place as their elements do
 --     Amid       a place of the middle part of a list of elements is found there, and goes where the middle part alone sends it, slid along

@@ -1,12 +1,14 @@
-//! `pulindraxi`: maps positions between g., n. and c. by a transcript's card, and variants from g. to c., lists cards and writes them,
-//! from records or alignments.
+//! `pulindraxi`: maps positions between g., n. and c. by a transcript's card, and variants from g. to c., keeps what was answered and says
+//! what another card answers otherwise, lists cards and writes them, from records or alignments.
 
 mod bam;
 mod card;
 mod exon;
 mod hts;
 mod list;
+mod logs;
 mod map;
+mod replay;
 mod store;
 mod variant;
 
@@ -52,6 +54,29 @@ enum Command {
         /// Number positions outside the transcript too
         #[arg(long)]
         lenient: bool,
+        /// Record what is answered in a log, behind what is there; `replay` reads it
+        ///
+        /// For each line two entries: the position's names of the other two kinds, with the exons, or their refusals; of a variant
+        /// those of its interval. A file holds 1,489 entries: FILE.2, FILE.3 and so on are begun as they are needed. A file that is
+        /// there is gone on with where it is a log, and so is the last of those that follow it; anything else is said, and
+        /// nothing is touched. What cannot be recorded is not answered.
+        #[arg(long, value_name = "FILE")]
+        log: Option<PathBuf>,
+    },
+    /// Ask the questions of a log again, and show what a card answers otherwise
+    ///
+    /// For each entry whose answer differs, exon numbers too: its index, counted from 0, the question, the answer in the log and
+    /// the one of this card; then how many differ. A log that goes on in LOG.2, LOG.3 and so on is replayed in this order, and
+    /// the indices run on from one file to the next. The card and all files are read before anything is asked; where one of
+    /// them is refused the exit status is 1, and otherwise 0, whether answers differ or not.
+    Replay {
+        /// The transcript's card
+        card: PathBuf,
+        /// The log
+        log: PathBuf,
+        /// Write the indices alone, a line each, then their number
+        #[arg(long)]
+        indices: bool,
     },
     /// List a card's segments: letter, genome start, transcript start and count
     List {
@@ -133,9 +158,15 @@ fn write_card(options: Card) -> Outcome {
 
 fn run(command: Command) -> Outcome {
     match command {
-        Command::Map { card, lenient } => {
+        Command::Map { card, lenient, log } => {
             let bounds = if lenient { Bounds::Lenient } else { Bounds::Strict };
-            map::run(&transcript(&card)?, bounds, io::stdin().lock(), io::stdout().lock(), io::stderr().lock())
+            let transcript = transcript(&card)?;
+            let mut log = log.as_deref().map(logs::Recording::open).transpose()?;
+            let (input, output) = (io::stdin().lock(), io::stdout().lock());
+            map::run(&transcript, bounds, log.as_mut(), input, output, io::stderr().lock())
+        }
+        Command::Replay { card, log, indices } => {
+            replay::run(&transcript(&card)?, &log, indices, io::stdout().lock(), io::stderr().lock())
         }
         Command::List { card } => list::run(&transcript(&card)?, io::stdout().lock()),
         Command::Card(options) => write_card(options),

@@ -9,11 +9,12 @@ use std::{
 use pulindraxi::{
     answered,
     asked::{CInterval, GInterval, NInterval},
-    Bounds, Mapped, NoName, Refusal, Slot, Transcript,
+    Bounds, Mapped, NoName, Question, Refusal, Slot, Transcript,
 };
 
 use crate::{
     exon::{self, End},
+    logs::Recording,
     variant::{self, Variant},
     Outcome,
 };
@@ -112,6 +113,15 @@ fn row(transcript: &Transcript, asked: &Asked, bounds: Bounds, at_hand: Option<N
     Row { asked, exon: ends.map(|ends| exon::said(ends, exons)), names, note }
 }
 
+/// The two questions that the row of a position answers. Of a variant they are those of its interval.
+fn questions(asked: &Asked, bounds: Bounds) -> [Question; 2] {
+    match *asked {
+        Asked::G(g) | Asked::Variant(Variant { g, .. }) => [Question::GToN(g, bounds), Question::GToC(g, bounds)],
+        Asked::N(n) => [Question::NToG(n, bounds), Question::NToC(n, bounds)],
+        Asked::C(c) => [Question::CToG(c, bounds), Question::CToN(c, bounds)],
+    }
+}
+
 /// The position as a worklist takes it: one base of the genome, asked with strict bounds.
 fn listed(asked: &Asked, bounds: Bounds) -> Option<i32> {
     match *asked {
@@ -155,10 +165,12 @@ fn lines_at_hand(input: &mut impl BufRead) -> io::Result<Vec<u8>> {
     }
 }
 
-/// Maps the positions of `input`, a line each. Lines that are no positions go to `complaints` with their numbers.
+/// Maps the positions of `input`, a line each. Lines that are no positions go to `complaints` with their numbers. What is answered is
+/// recorded first where there is a log, so that no answer is given that it lacks.
 pub fn run(
     transcript: &Transcript,
     bounds: Bounds,
+    mut log: Option<&mut Recording>,
     mut input: impl BufRead,
     mut output: impl Write,
     mut complaints: impl Write,
@@ -172,6 +184,12 @@ pub fn run(
         let lines: Vec<_> = lines.split_inclusive(|&byte| byte == b'\n').map(String::from_utf8_lossy).collect();
         let is_asked = |line: &str| !line.is_empty() && !line.starts_with('#');
         let asked: Vec<_> = lines.iter().map(|line| is_asked(line.trim()).then(|| read(line))).collect();
+        if let Some(log) = &mut log {
+            for question in asked.iter().flatten().flatten().flat_map(|asked| questions(asked, bounds)) {
+                log.record(transcript, question)?;
+            }
+            log.write()?;
+        }
         let positions = asked.iter().flatten().flatten().filter_map(|asked| listed(asked, bounds));
         let mut walked = walk(transcript, positions).into_iter();
         for (number, (line, asked)) in (before + 1..).zip(lines.iter().zip(&asked)) {
@@ -190,6 +208,9 @@ pub fn run(
         before += lines.len();
     }
     output.flush()?;
+    if let Some(summary) = log.and_then(|log| log.summary()) {
+        writeln!(complaints, "{summary}")?;
+    }
     Ok(bad == 0)
 }
 
@@ -236,7 +257,7 @@ mod tests {
 
     fn map_of(transcript: &Transcript, bounds: Bounds, input: impl BufRead) -> (bool, String, String) {
         let (mut output, mut complaints) = (Vec::new(), Vec::new());
-        let done = run(transcript, bounds, input, &mut output, &mut complaints).unwrap();
+        let done = run(transcript, bounds, None, input, &mut output, &mut complaints).unwrap();
         (done, String::from_utf8(output).unwrap(), String::from_utf8(complaints).unwrap())
     }
 
@@ -335,7 +356,7 @@ mod tests {
         let output = RefCell::new(Vec::new());
         let pieces = [("g 11\n", 1), ("g 12\ng 13\ng 1", 2), ("4", 0), ("\n\n", 1), ("g 15", 0), ("", 1)];
         let input = BufReader::new(Typed { pieces: &pieces, output: &output, answered: 0 });
-        assert!(run(&transcript(1), Bounds::Strict, input, Shared(&output), Vec::new()).unwrap());
+        assert!(run(&transcript(1), Bounds::Strict, None, input, Shared(&output), Vec::new()).unwrap());
         assert_eq!(output.borrow().split_inclusive(|&byte| byte == b'\n').count(), 5);
     }
 

@@ -96,15 +96,17 @@ impl<P: Port> Judge<P> {
         self.compare_built("txc_build_length", settled, port, &(length, cds_start, cds_end))
     }
 
-    /// Asks a question of the transcript that was built last. One from g. to c. is asked with two alleles too, and the interval is the
-    /// same.
+    /// Asks a question of the transcript that was built last. One of the six mappings is asked as one value too, and the answer is the
+    /// same; one from g. to c. is asked with two alleles too, and the interval is the same.
     pub fn ask(&mut self, built: &mut Built, question: &Question) {
         let port = self.port.ask(question);
         let settled = settle::ask(built, question);
-        self.compare(question.kind.entry(), settled, port, &(question, &built.source));
+        self.compare(question.kind.entry(), settled.clone(), port, &(question, &built.source));
+        if let Some(port) = self.port.ask_one(question) {
+            self.compare("txc_ask", settled.clone(), port, &(question, &built.source));
+        }
         if question.kind == Kind::GToC {
             let port = self.port.join(question);
-            let settled = settle::ask(built, question);
             self.compare("txc_g_to_c_alleles", settled, port, &(question, &built.source));
         }
     }

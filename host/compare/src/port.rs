@@ -14,6 +14,8 @@ pub trait Port {
     fn build_length(&mut self, length: i32, cds: Cds) -> Result<Option<Source>, Refusal>;
     /// Answers a question to what was built last.
     fn ask(&self, question: &Question) -> Result<Answer, Refusal>;
+    /// Answers a question of the six mappings as one value to what was built last; none for another question.
+    fn ask_one(&self, question: &Question) -> Option<Result<Answer, Refusal>>;
     /// Answers a g. to c. question with two alleles to what was built last: the interval alone.
     fn join(&self, question: &Question) -> Result<Answer, Refusal>;
     /// Answers each position of a sorted worklist to what was built last. A list that is refused has its refusal everywhere.
@@ -52,6 +54,11 @@ impl Port for Entries {
     fn ask(&self, question: &Question) -> Result<Answer, Refusal> {
         let answer = question.ask(&self.lent);
         Refusal::check(answer.number).map(|()| answer)
+    }
+
+    fn ask_one(&self, question: &Question) -> Option<Result<Answer, Refusal>> {
+        let answer = boundary::ask(self.lent.reading(), question.numbers()?);
+        Some(Refusal::check(answer.number).map(|()| answer))
     }
 
     fn join(&self, question: &Question) -> Result<Answer, Refusal> {

@@ -5,7 +5,7 @@
 
 use compare::{departures::departs, original, random, Entries, Judge, Port};
 use pulindraxi::{
-    boundary::{Answer, Cds, Position},
+    boundary::{Answer, Asked, Cds, Position},
     limits::MOST_SEGMENTS,
     Element, Refusal,
 };
@@ -30,6 +30,8 @@ struct Wrong {
     /// Which questions are answered by the crate's rules: leniently, or with yes.
     kept: fn(&Source, &Question) -> bool,
     ask: fn(Kind, Answer) -> Said<Answer>,
+    /// The question that is asked as one value, made from the right one.
+    one: fn(Question) -> Question,
     /// What a g. to c. question with two alleles answers, made from the right answer or refusal.
     join: fn(Said<Answer>) -> Said<Answer>,
     /// The answers of a worklist, made from the right ones.
@@ -48,6 +50,7 @@ impl Default for Wrong {
             unbuilt: Err,
             kept: |_, _| false,
             ask: |_, answer| Ok(answer),
+            one: |question| question,
             join: |said| said,
             list: |answers| answers,
             read: Ok,
@@ -78,6 +81,10 @@ impl Port for Wrong {
         let answer = self.entries.ask(&Question { strict: question.strict && !is_kept, ..*question })?;
         let yes = is_kept && question.kind == Kind::InBounds;
         (self.ask)(question.kind, if yes { Answer { mark: 1, ..answer } } else { answer })
+    }
+
+    fn ask_one(&self, question: &Question) -> Option<Said<Answer>> {
+        self.entries.ask_one(&(self.one)(*question))
     }
 
     fn join(&self, question: &Question) -> Said<Answer> {
@@ -259,6 +266,22 @@ fn a_walk_that_skips_a_slot_or_refuses_the_list() {
         answers.into_iter().map(|said| said.map(|answer| numbered(answer, |_| [0, 0]))).collect()
     };
     assert_eq!(listing(unnumbered), ["txc_worklist"]);
+}
+
+#[test]
+fn a_question_as_one_value_that_is_another() {
+    let asking = |one| differing(Wrong { one, ..Wrong::default() });
+    // Lenient, with the start's star for both ends, with its ends exchanged, of another kind, without what is missing.
+    assert_eq!(asking(|asked| Question { strict: false, ..asked }), ["txc_ask"]);
+    let stars = |asked: Question| Question { end: Asked { star: asked.start.star, ..asked.end }, ..asked };
+    assert_eq!(asking(stars), ["txc_ask"]);
+    assert_eq!(asking(|asked| Question { start: asked.end, end: asked.start, ..asked }), ["txc_ask"]);
+    let other = |asked: Question| match asked.kind {
+        Kind::NToC => Question { kind: Kind::NToG, ..asked },
+        _ => asked,
+    };
+    assert_eq!(asking(other), ["txc_ask"]);
+    assert_eq!(asking(|asked| Question { missing: 0, ..asked }), ["txc_ask"]);
 }
 
 #[test]

@@ -1,14 +1,15 @@
-//! Input drawn at random: transcripts, faults in them, damage to memory, questions.
+//! Input drawn at random: transcripts, faults in them, damage to memory, questions, logs.
 
 use pulindraxi::{
-    boundary::{Asked, Cds, Head, Laid},
-    limits::{MOST_SEGMENTS, MOST_TEXT, MOST_WORD_COUNT},
+    boundary::{Answer, Asked, Cds, Head, Laid, Question as Numbers},
+    limits::{ENTRY, LOG_HEAD, MOST_ENTRIES, MOST_LOG, MOST_SEGMENTS, MOST_TEXT, MOST_WORD_COUNT},
     Element,
 };
 use rand::{seq::SliceRandom, Rng};
 
 use crate::{
     lent::Place,
+    logs::{self, Entry},
     paper::{self, Aligned, Source},
     Kind, Lent, Question,
 };
@@ -314,7 +315,7 @@ fn much<R: Rng>(rng: &mut R) -> usize {
 }
 
 /// Room for so many: enough, just that, or too little.
-fn room<R: Rng>(rng: &mut R, number: usize) -> usize {
+pub fn room<R: Rng>(rng: &mut R, number: usize) -> usize {
     match rng.gen_range(0..6) {
         0 => rng.gen_range(0..=number),
         1 => number,
@@ -581,4 +582,129 @@ pub fn alleles<R: Rng>(rng: &mut R) -> ([Vec<u8>; 2], [usize; 2]) {
     let rooms = [0, 1].map(|index| room(rng, both[index].len() - common));
     both.iter_mut().for_each(|allele| spoil_letter(rng, allele));
     (both, rooms)
+}
+
+// ---- Questions as one value, and logs
+
+/// A question as one value that an entry can hold.
+fn held<R: Rng>(rng: &mut R, source: &Source) -> Numbers {
+    let kind = Kind::MAPPINGS[rng.gen_range(0..Kind::MAPPINGS.len())];
+    question_of(rng, kind, source).numbers().expect("one of the six mappings")
+}
+
+/// A question as one value, now and then with a number that no entry can hold.
+pub fn numbers<R: Rng>(rng: &mut R, source: &Source) -> Numbers {
+    let mut numbers = held(rng, source);
+    if !rng.gen_ratio(1, 3) {
+        return numbers;
+    }
+    let no_such = *[1, 2, 3, 4, 128, 256, 257, 258, 1 << 31, u32::MAX].choose(rng).expect("not empty");
+    match rng.gen_range(0..9) {
+        0 => numbers.kind = *[6, 7, 255, 256, 261, u32::MAX].choose(rng).expect("not empty"),
+        1 => numbers.kind = rng.gen_range(0..6),
+        2 => numbers.strict = no_such,
+        3 => numbers.start_marks = no_such,
+        4 => numbers.end_marks = no_such,
+        5 => (numbers.start_marks, numbers.start) = (2, 0),
+        6 => (numbers.end_marks, numbers.end) = (2, 0),
+        7 => numbers.start_offset = number(rng),
+        _ => numbers.end_offset = number(rng),
+    }
+    numbers
+}
+
+/// What was said to a question: by one of some transcripts (none: it did not hold together), and now and then otherwise, also as no
+/// mapping answers.
+fn said<R: Rng>(rng: &mut R, question: Numbers, of: &[Option<&Source>]) -> Answer {
+    let mut answer = logs::ask(of[rng.gen_range(0..of.len())], &question);
+    if rng.gen_ratio(1, 6) {
+        match rng.gen_range(0..8) {
+            0 => answer.start.exon ^= 1,
+            1 => answer.end.exon ^= 1,
+            2 => answer.start.base ^= 1,
+            3 => answer.end.offset = number(rng),
+            4 => answer.end.star ^= 1,
+            5 => answer.mark = rng.gen_range(0..4),
+            6 => answer = Answer { number: rng.gen_range(12..25), ..Answer::default() },
+            _ => answer.number = rng.gen_range(0..40),
+        }
+    }
+    answer
+}
+
+/// Sets a byte of an entry, or of mark and version, to a value that some field has, a neighbour of what was there, or any.
+fn spoil_byte<R: Rng>(rng: &mut R, log: &mut [u8]) {
+    let Some(byte) = log.choose_mut(rng) else { return };
+    *byte = match rng.gen_range(0..3) {
+        0 => *[0, 1, 2, 3, 4, 5, 6, 13, 14, 15, 16, 17, 18, 19, 23, 35, 36].choose(rng).expect("not empty"),
+        1 => *byte ^ 1 << rng.gen_range(0..8),
+        _ => rng.gen(),
+    };
+}
+
+/// Gives a log another mark or version, cuts it, or puts bytes behind it.
+fn spoil_log<R: Rng>(rng: &mut R, log: &mut Vec<u8>) {
+    match rng.gen_range(0..8) {
+        0 => log.truncate(rng.gen_range(0..=log.len())),
+        1 => log.truncate(rng.gen_range(0..=log.len().min(LOG_HEAD))),
+        2 => log.extend(vec![0; rng.gen_range(1..2 * ENTRY)]),
+        3 => log.extend(vec![0; MOST_LOG + rng.gen_range(0..3) - log.len().min(MOST_LOG)]),
+        4 => {
+            let version = [0u16, 2, 256, 257].choose(rng).expect("not empty").to_le_bytes();
+            log[3..LOG_HEAD].copy_from_slice(&version);
+        }
+        5 => log[rng.gen_range(0..3)] ^= 32,
+        _ => spoil_byte(rng, log),
+    }
+}
+
+/// A log of questions to a transcript, with what this or another transcript said to them: few, or now and then about as many as a
+/// log holds, which are then alike. Some logs are damaged.
+pub fn log<R: Rng>(rng: &mut R, source: &Source, of: &[Option<&Source>]) -> Vec<u8> {
+    let mut entries = Vec::new();
+    for _ in 0..rng.gen_range(0..14) {
+        let question = held(rng, source);
+        let entry = Entry { question, answer: said(rng, question, of) };
+        // Each wrong field would refuse the log, so that most would be: few are kept.
+        if logs::is_entry(&entry) || rng.gen_ratio(1, 6) {
+            entries.push(entry);
+        }
+    }
+    if rng.gen_ratio(1, 400) && !entries.is_empty() {
+        let most = rng.gen_range(MOST_ENTRIES - 1..MOST_ENTRIES + 2);
+        entries = entries.into_iter().cycle().take(most).collect();
+    }
+    let mut log = logs::write(&entries);
+    if rng.gen_ratio(1, 4) {
+        spoil_log(rng, &mut log);
+    }
+    log
+}
+
+/// Bytes lent for recording, and how many of them are said to be in use: none, a log's, as many as a log has whatever stands in them, or
+/// any number.
+pub fn recording<R: Rng>(rng: &mut R, source: &Source) -> (Vec<u8>, usize) {
+    let mut log = match rng.gen_range(0..8) {
+        0..=2 => Vec::new(),
+        3..=5 => log(rng, source, &[Some(source)]),
+        6 if rng.gen_ratio(1, 20) => {
+            let count = rng.gen_range(MOST_ENTRIES - 2..MOST_ENTRIES + 2);
+            [&logs::HEAD[..], &vec![rng.gen(); ENTRY * count]].concat()
+        }
+        _ => [&logs::HEAD[..], &vec![rng.gen(); ENTRY * rng.gen_range(0..4)]].concat(),
+    };
+    let used = if rng.gen_ratio(1, 12) { rng.gen_range(0..=log.len() + 2) } else { log.len() };
+    let room = match rng.gen_range(0..6) {
+        0 => used + rng.gen_range(0..ENTRY + LOG_HEAD + 1),
+        1 => used + ENTRY,
+        2 => used + ENTRY + LOG_HEAD,
+        _ => used + rng.gen_range(ENTRY..3 * ENTRY),
+    };
+    log.resize(room, rng.gen());
+    let used = if rng.gen_ratio(1, 40) {
+        *[room, room + 1, room + ENTRY, usize::MAX].choose(rng).expect("not empty")
+    } else {
+        used
+    };
+    (log, used)
 }

@@ -1,11 +1,11 @@
 //! Calls every entry with random, damaged and extreme input, a given number of times from a given seed. Each answer must be
 //! the documents', and a refusal must leave lent memory as it was.
 
-use std::collections::BTreeMap;
+use std::{collections::BTreeMap, mem};
 
 use clap::Parser;
 use pulindraxi::{
-    boundary::{self, Answer, Cds, Joined, Laid, Length, Position, Slot, Steps},
+    boundary::{self, Answer, Cds, Joined, Laid, Length, Position, Question as Numbers, Recorded, Slot, Steps},
     limits::{MOST_RECORDS, MOST_SEGMENTS},
     Element, Refusal,
 };
@@ -13,6 +13,7 @@ use rand::{seq::SliceRandom, Rng, SeedableRng};
 use rand_xorshift::XorShiftRng;
 use trials::{
     draw::{self, Case},
+    logs,
     paper::{self, Both, Source, CARD_HEAD},
     Kind, Lent, Question,
 };
@@ -36,6 +37,8 @@ struct Trial {
     before: Lent,
     /// The last transcript that was built, from which questions are drawn.
     source: Source,
+    /// The one before it, whose answers stand in logs too.
+    earlier: Source,
     calls: u64,
     /// Calls by entry and refusal number.
     tally: BTreeMap<(&'static str, u32), u64>,
@@ -58,9 +61,9 @@ fn number_of<T>(result: &Result<T, Refusal>) -> u32 {
 impl Trial {
     fn new(seed: u64) -> Trial {
         let lent = Lent::filled(0xa5);
-        let source = Source::Length(0, None);
+        let [source, earlier] = [0, 1].map(|length| Source::Length(length, None));
         let rng = XorShiftRng::seed_from_u64(seed);
-        Trial { rng, before: lent.clone(), lent, source, calls: 0, tally: BTreeMap::new() }
+        Trial { rng, before: lent.clone(), lent, source, earlier, calls: 0, tally: BTreeMap::new() }
     }
 
     fn count(&mut self, entry: &'static str, number: u32) {
@@ -74,7 +77,7 @@ impl Trial {
         self.count(entry, number);
         if let Ok(source) = expected {
             self.before = self.before.clone().holding(&source);
-            self.source = source;
+            self.earlier = mem::replace(&mut self.source, source);
         }
         assert!(self.lent == self.before, "{entry} left other memory, call {}", self.calls);
     }
@@ -155,6 +158,70 @@ impl Trial {
         assert_eq!(answer, question.expect(source), "{question:?} of {:?}, call {}", self.lent.head, self.calls);
         assert!(self.lent == self.before, "{question:?} changed lent memory, call {}", self.calls);
         self.count(question.kind.entry(), answer.number);
+        if let Some(numbers) = question.numbers() {
+            self.judge_one(numbers, source);
+        }
+    }
+
+    /// A question as one value.
+    fn judge_one(&mut self, question: Numbers, source: Option<&Source>) {
+        let answer = boundary::ask(self.lent.reading(), question);
+        let of = &self.lent.head;
+        assert_eq!(answer, logs::ask(source, &question), "txc_ask {question:?} of {of:?}, call {}", self.calls);
+        assert!(self.lent == self.before, "txc_ask {question:?} changed lent memory, call {}", self.calls);
+        self.count("txc_ask", answer.number);
+    }
+
+    fn ask_one(&mut self) {
+        let source = self.lent.source();
+        for _ in 0..6 {
+            let question = draw::numbers(&mut self.rng, source.as_ref().unwrap_or(&self.source));
+            self.judge_one(question, source.as_ref());
+        }
+    }
+
+    /// Records a question. The lent bytes stand between two others: what is written stands behind those in use, and all else stays.
+    fn judge_record(&mut self, source: Option<&Source>) {
+        let drawn_from = source.unwrap_or(&self.source);
+        let question = draw::numbers(&mut self.rng, drawn_from);
+        let (log, used) = draw::recording(&mut self.rng, drawn_from);
+        let expected = logs::record(source, &question, &log, used);
+        let number = number_of(&expected);
+        let mut lent = [b"<", &log[..], b">"].concat();
+        let mut after = lent.clone();
+        let expected = expected.map_or(Recorded { number, ..Recorded::default() }, |(written, answer)| {
+            after[1 + used..][..written.len()].copy_from_slice(&written);
+            Recorded { number, length: used + written.len(), answer }
+        });
+        let recorded = boundary::record(self.lent.reading(), question, &mut lent[1..=log.len()], used);
+        let asked = || format!("txc_record {question:?}, {used} of {}, call {}", log.len(), self.calls);
+        assert_eq!(recorded, expected, "{} of {:?}", asked(), self.lent.head);
+        assert!(lent == after, "{} left other bytes", asked());
+        assert!(self.lent == self.before, "{} changed lent memory", asked());
+        self.count("txc_record", number);
+    }
+
+    /// Replays a log that this transcript, the one before it or none answered.
+    fn judge_replay(&mut self, source: Option<&Source>) {
+        let of = [source, source, source, Some(&self.source), Some(&self.earlier), None];
+        let of = if self.rng.gen() { &of[..1] } else { &of[..] };
+        let log = draw::log(&mut self.rng, source.unwrap_or(&self.source), of);
+        let whole = logs::replay(source, &log, usize::MAX).map_or(0, |text| text.len());
+        let room = draw::room(&mut self.rng, whole);
+        let mut buffer = vec![b'.'; room];
+        let written = boundary::replay(self.lent.reading(), &log, &mut buffer);
+        let expected = logs::replay(source, &log, room).map(String::into_bytes);
+        self.judge_front("txc_replay", written, expected, &buffer, b'.');
+        assert!(self.lent == self.before, "txc_replay changed lent memory, call {}", self.calls);
+        self.count("txc_replay", written.number);
+    }
+
+    fn log(&mut self) {
+        let source = self.lent.source();
+        for _ in 0..3 {
+            self.judge_record(source.as_ref());
+            self.judge_replay(source.as_ref());
+        }
     }
 
     fn ask(&mut self) {
@@ -213,6 +280,8 @@ impl Trial {
         self.judge_worklist(&positions, source.as_ref());
         let question = draw::question_of(&mut self.rng, Kind::GToC, &self.source);
         self.judge_join(&question, source.as_ref());
+        self.judge_record(source.as_ref());
+        self.judge_replay(source.as_ref());
         self.before = whole.clone();
         self.lent = whole;
     }
@@ -391,7 +460,7 @@ impl Trial {
     }
 
     fn step(&mut self) {
-        match self.rng.gen_range(0..100) {
+        match self.rng.gen_range(0..110) {
             0..=9 => self.build(),
             10 => self.build_much(),
             11..=24 => self.build_card(),
@@ -406,6 +475,8 @@ impl Trial {
             91..=93 => self.write_bam(),
             94..=95 => self.write_card(),
             96..=97 => self.turn(),
+            98..=101 => self.ask_one(),
+            102..=107 => self.log(),
             _ => self.trim(),
         }
     }

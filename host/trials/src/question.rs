@@ -36,6 +36,9 @@ impl Kind {
     pub const ALL: [Kind; 8] =
         [Kind::GToN, Kind::GToC, Kind::NToG, Kind::NToC, Kind::CToN, Kind::CToG, Kind::InBounds, Kind::IsCoding];
 
+    /// The six mappings.
+    pub const MAPPINGS: [Kind; 6] = [Kind::GToN, Kind::GToC, Kind::NToG, Kind::NToC, Kind::CToN, Kind::CToG];
+
     /// The entry's name.
     pub const fn entry(self) -> &'static str {
         match self {

@@ -3,12 +3,15 @@
 //! `host/compare/README.md` describes the layout, for readers in other languages too.
 
 use pulindraxi::{
-    boundary::{self, Answer, Asked, Cds, Counts, Head, Joined, Laid, Length, Letters, Part, Slot, Steps},
-    limits::MOST_SEGMENTS,
-    Refusal::NotTogether,
+    boundary::{self, Answer, Asked, Cds, Counts, Head, Joined, Laid, Length, Letters, Part, Position, Slot, Steps},
+    limits::{ENTRY, LOG_HEAD, MOST_REPLAYED, MOST_SEGMENTS},
+    Refusal::{self, NotTogether},
 };
 
-use crate::{paper, Kind, Lent, Place, Question};
+use crate::{
+    logs::{self, Entry},
+    paper, Kind, Lent, Place, Question,
+};
 
 /// The layout's version.
 pub const VERSION: i32 = 2;
@@ -442,6 +445,81 @@ fn join(row: &Row, lent: &Lent) -> Result<(), String> {
         }
     }
     Ok(())
+}
+
+/// The answer of a row.
+fn answered(words: Words) -> Answer {
+    let [number, mark, a, a_offset, a_star, a_exon, b, b_offset, b_star, b_exon] = words;
+    let end = |base, offset, star, exon| Position { base, offset, star: star as u32, exon: exon as u32 };
+    let (start, end) = (end(a, a_offset, a_star, a_exon), end(b, b_offset, b_star, b_exon));
+    Answer { number: number as u32, mark: mark as u32, start, end }
+}
+
+/// An entry of the same question with another answer: the next exon, another number where there is none, or another refusal.
+fn otherwise(entry: Entry) -> Entry {
+    let mut answer = entry.answer;
+    match answer {
+        Answer { number: 0, mark: Answer::UNMARKED, .. } => answer.end.base ^= 1,
+        Answer { number: 0, .. } => answer.end.exon += 1,
+        _ if answer.number == NotTogether.number() => answer = paper::refused(Refusal::TooWide),
+        _ => answer = paper::refused(NotTogether),
+    }
+    Entry { answer, ..entry }
+}
+
+/// Puts recorded questions to the entry that takes them as one value, records them into one log, whose bytes are those of the recorded
+/// answers, and replays that: none differs, and with every second answer another just those do.
+fn log(recorded: &[Entry], lent: &Lent) -> Result<(), String> {
+    let of = lent.reading();
+    let mut log = vec![b'.'; LOG_HEAD + ENTRY * recorded.len() + 1];
+    let mut used = 0;
+    for Entry { question, answer } in recorded {
+        let (asked, written) = (boundary::ask(of, *question), boundary::record(of, *question, &mut log, used));
+        if [asked, written.answer] != [*answer; 2] || written.number != 0 {
+            return Err(format!("{question:?}: {asked:?} and {written:?}, recorded {answer:?}"));
+        }
+        used = written.length;
+    }
+    let expected = logs::write(recorded);
+    if !recorded.is_empty() && (log[..used] != expected || log[used..] != *b".") {
+        return Err("another log".into());
+    }
+    let mut changed = recorded.to_vec();
+    changed.iter_mut().skip(1).step_by(2).for_each(|entry| *entry = otherwise(*entry));
+    let odd: String = (1..recorded.len()).step_by(2).map(|index| format!("{index}\n")).collect();
+    let broken = if lent.source().is_some() { 0 } else { NotTogether.number() };
+    let texts = match broken {
+        0 => ["0\n".to_string(), format!("{odd}{}\n", recorded.len() / 2)],
+        _ => [String::new(), String::new()],
+    };
+    for (log, expected) in [expected, logs::write(&changed)].into_iter().zip(texts) {
+        let mut buffer = vec![b'.'; MOST_REPLAYED];
+        let Length { number, length } = boundary::replay(of, &log, &mut buffer);
+        let said = String::from_utf8_lossy(&buffer[..length]);
+        if number != broken || said != expected || buffer[length..].iter().any(|&byte| byte != b'.') {
+            return Err(format!("replayed: {number} {said:?}, expected {broken} {expected:?}"));
+        }
+    }
+    Ok(())
+}
+
+/// Puts the answers of the six mappings that a file records to questions as one value and to logs, one for each state of the lent
+/// memory. Gives the number of entries, or what is wrong first.
+pub fn replay_logs(file: &[u8]) -> Result<usize, String> {
+    let mut lent = Lent::filled(0);
+    let (mut recorded, mut entries) = (Vec::new(), 0);
+    for row in rows(file)? {
+        if let Some(question) = row.call.kind().and_then(|kind| row.question(kind).numbers()) {
+            recorded.push(Entry { question, answer: answered(row.answer) });
+            entries += 1;
+        } else if matches!(row.call, Call::BuildCard | Call::Build | Call::BuildLength | Call::Damage) {
+            log(&recorded, &lent)?;
+            recorded.clear();
+            call(&row, &mut lent)?;
+        }
+    }
+    log(&recorded, &lent)?;
+    Ok(entries)
 }
 
 /// Puts the g. to c. answers that a file records to the join with two alleles. Gives the number of rows, or what is wrong first.

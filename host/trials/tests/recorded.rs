@@ -22,3 +22,8 @@ fn a_worklist_answers_as_recorded() {
 fn the_join_answers_as_recorded() {
     assert!(recorded::replay_joins(&file()).unwrap() > 300);
 }
+
+#[test]
+fn a_log_answers_as_recorded() {
+    assert!(recorded::replay_logs(&file()).unwrap() > 3_000);
+}

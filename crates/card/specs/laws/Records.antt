@@ -3,7 +3,7 @@
 --     exactly-laid, from-laid          bytes that records were laid out as are just these records
 --     laid-from, from-fit              bytes that are just n records are what those lay out, and they fit
 -- Assumes nothing.
-use mathlib.Core.Path.{_≡_, refl, sym, ap, ap₂, _∙_}
+use mathlib.Core.Path.{_≡_, refl, sym, ap, _∙_}
 use mathlib.Core.Bool.{true}
 use mathlib.Core.List.{List, [], _∷_, _++_}
 use Prim.Native.Nat.{ℕ, zero, suc, _+_, _-_, _<_, _≤_}
@@ -12,11 +12,11 @@ use native.Mathlib.Omega.{arith}
 use borrow.Author.Tests.{eq-eqb, eqb-true, le-leb}
 use lib.IntN.{ℤ}
 use lib.ListN.{length, take, drop, length-append, length-drop, take-append-drop, drop-of-length-le}
-use lib.Seq.{drop-drop, take-add, take-at, drop-at, length-take-le}
+use lib.Seq.{drop-drop, take-at, drop-at, length-take-le}
 use mir.Syntax.{w32}
 use mir.Val.{SFits}
 use Rattle.fields.specs.Fields.{little, le16, le32, bytes16, bytes32, signed32, bits32}
-use Rattle.fields.specs.laws.RoundTrips.{Bytes, little-bytes, signed-bits, bits-fit, bits-signed, signed-fits, bytes16-le, bytes32-le, le16-below, le32-below}
+use Rattle.fields.specs.laws.RoundTrips.{Bytes, little-bytes, signed-back, signed-fits, bytes16-le, field-laid, le16-below, le32-below, beside}
 use Rattle.records.specs.Layout.{altStart, altEnd, txStart, txEnd, ordAt, cigarSize, cigarText}
 use Rattle.records.specs.Records.{Record, fieldAt, sizeAt, nextAt, recordAt, recordText, exactly, recordsFrom}
 use Rattle.records.specs.Walk.{Stands}
@@ -36,10 +36,6 @@ pub data AllFit : List Record → Type 0 where
   more : {r : Record} {rs : List Record} → RecordFits r → AllFit rs → AllFit (r ∷ rs)
 
 -- ---- what was laid out
-
--- a number's bytes read as the number
-pub signed-back : (z : ℤ) → SFits w32 z → signed32 (little (bytes32 (bits32 z))) ≡ z
-signed-back z f = ap signed32 (little-bytes 4 (bits32 z) (bits-fit z f)) ∙ signed-bits z f
 
 -- a record that stands at a place, with bytes behind it
 module _ (s : List ℕ) (at : ℕ) (r : Record) (rest : List ℕ) (stands : drop at s ≡ recordText r ++ rest) (fits : RecordFits r) where
@@ -111,15 +107,6 @@ exactly-laid s at (more {r} {rs} f fs) h e =
     )
 
 -- ---- what was read
-
--- a run of bytes and the run behind it
-pub beside : (s : List ℕ) (at a b : ℕ) {l x : List ℕ} → l ≡ take a (drop at s) → x ≡ take b (drop (at + a) s) → l ++ x ≡ take (a + b) (drop at s)
-beside s at a b {l} {x} e f =
-    ap₂ (λ (y z : List ℕ). y ++ z) e f ∙ sym (take-add a b (drop at s) ∙ ap (λ (z : List ℕ). take a (drop at s) ++ take b z) (drop-drop a at s))
-
--- the number at a place, written
-pub field-laid : (s : List ℕ) (at : ℕ) → Bytes s → at + 4 ≤ length s → bytes32 (bits32 (fieldAt s at)) ≡ take 4 (drop at s)
-field-laid s at bs h = ap bytes32 (bits-signed (le32 s at) (le32-below s at bs h)) ∙ bytes32-le s at bs h
 
 -- a record of which the bytes are whole
 module _ (s : List ℕ) (at : ℕ) (bs : Bytes s) (numbers : at + cigarText ≤ length s) (text : nextAt s at ≤ length s) where

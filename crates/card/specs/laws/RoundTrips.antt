@@ -15,7 +15,7 @@ use borrow.Author.Tests.{eq-eqb, eqb-true, eqb-false, le-leb, leb-true, leb-fals
 use lib.Dec.{eqb, leb, ltb}
 use lib.IntN.{ℤ, pos, negsuc}
 use lib.ListN.{length, getD, take, drop, take-append-drop}
-use lib.Seq.{drop-cons, getD-drop}
+use lib.Seq.{drop-cons}
 use mir.Syntax.{w32}
 use mir.Val.{SFits}
 use Rattle.refusals.specs.Numbers.{mostCard}
@@ -23,7 +23,7 @@ use Rattle.refusals.specs.Outcome.{answered}
 use Rattle.whole.specs.Whole.{eqZ}
 use Rattle.whole.specs.laws.Whole.{by-test, eq-by, eq-yes-by, eq-yes-says, both}
 use Rattle.fields.specs.Fields.{le16, le32, bytes16, bytes32, bits32}
-use Rattle.fields.specs.laws.RoundTrips.{Bytes, little-bytes, bytes16-le}
+use Rattle.fields.specs.laws.RoundTrips.{Bytes, drop-bytes, little-bytes, signed-back, bytes16-le, field-laid, beside}
 use Rattle.records.specs.Records.{Record, fieldAt, exactly, recordsFrom}
 use Rattle.records.specs.laws.Walk.{records-length}
 use Rattle.transcript.specs.Heads.{bothBits, startOf, endOf, strandOf, numberOf}
@@ -32,7 +32,7 @@ use Rattle.transcript.specs.declared.Bound.{Bound}
 use Rattle.transcript.specs.declared.Bound.the-variants.{Given, Absent}
 use Rattle.card.specs.Layout.{mark, version, versionAt, strandAt, cdsAt, startAt, endAt, countAt, recordsAt}
 use Rattle.card.specs.Card.{strandByte, cdsByte, recordsText, headerText, cardText, isMarked, numbersIn, arePlain, isCard, readCard, inputIn, said, cardSays}
-use Rattle.card.specs.laws.Records.{AllFit, signed-back, from-laid, exactly-laid, field-laid, beside, laid-from}
+use Rattle.card.specs.laws.Records.{AllFit, from-laid, exactly-laid, laid-from}
 use Rattle.transcript.specs.declared.Numbers.{Numbers}
 use Rattle.card.specs.declared.ReadCard.{ReadCard}
 use Rattle.card.specs.declared.ReadCard.the-variants as read
@@ -259,9 +259,6 @@ cds-kept b z w h =
 two : (s : List ℕ) → strandAt + 2 ≤ length s → take 2 (drop strandAt s) ≡ getD s strandAt 0 ∷ getD s cdsAt 0 ∷ []
 two s h = rw (drop-cons s strandAt 0 (omega arith), drop-cons s cdsAt 0 (omega arith))
 
-bytes-behind : (n : ℕ) (s : List ℕ) → Bytes s → Bytes (drop n s)
-bytes-behind n s bs = record { below = λ i. rw (getD-drop n s i 0) (bs .below (n + i)) }
-
 module _ (s : List ℕ) (bs : Bytes s) (c : IsCard s) where
   abbrev its : Input
   its = inputIn s (numbersIn s)
@@ -296,7 +293,7 @@ module _ (s : List ℕ) (bs : Bytes s) (c : IsCard s) where
   pub text-kept : cardText its ≡ s
   unfolding cardText numbersIn
   text-kept =
-      ap₂ (λ (a b : List ℕ). a ++ b) header-kept (laid-from (le16 s countAt) (drop recordsAt s) 0 (bytes-behind recordsAt s bs) (c .exact))
+      ap₂ (λ (a b : List ℕ). a ++ b) header-kept (laid-from (le16 s countAt) (drop recordsAt s) 0 (drop-bytes recordsAt s bs) (c .exact))
       ∙ take-append-drop recordsAt s
 
 -- what a card says is written as that card

@@ -1,4 +1,4 @@
--- What is known where n. to c. or c. to n. answers: there is no mark, c. to n. crossed both numbers over to ones that 16 does not refuse, and strict n. to c. gives no c.0. Assumes nothing.
+-- What is known where n. to c. or c. to n. answers: there is no mark, every number fits, c. to n. crossed both numbers over to ones that 16 does not refuse, and strict n. to c. gives no c.0. Assumes nothing.
 use Prim.Native.Nat.{ℕ}
 use mathlib.Core.Bool.{Bool, true, false}
 use mathlib.Core.Path.{_≡_, sym, ap, subst}
@@ -12,15 +12,16 @@ use Rattle.whole.specs.laws.Whole.{by-test, neither, order}
 use Rattle.numbering.specs.Numbers.{cOfN, nOfC}
 use Rattle.numbering.specs.laws.Zero.{never-zero}
 use Rattle.positions.specs.Positions.{Interval, each, NAsked, CAsked, NPosition, CPosition}
-use Rattle.positions.specs.Answers.{unmarked, Marked, plainly, nFits, cFits}
-use Rattle.positions.specs.laws.Ends.{ends-answered, fitting-is}
+use Rattle.positions.specs.Answers.{unmarked, Marked, plainly, nFits, cFits, Fitted}
+use Rattle.positions.specs.laws.Ends.{ends-answered, fitting-is, fitting-fits}
 use Rattle.transcript.specs.Transcript.{Cds, noCds, cds}
 use Rattle.coding.specs.Coding.{beyond, refuses15, cPosition, cOfInterval, nToC, nPosition, cToN}
 
--- the n. position n is that of the c. position a, and 16 does not refuse it
+-- the n. position n is that of the c. position a, and neither 16 nor 17 refuses it
 pub record Crossed (strict : Bool) (len s e : ℕ) (a : CAsked) (n : NPosition) : Type 0 where
   pub is : record { base = nOfC (pos s) (pos e) (a .base); offset = a .offset } ≡ n
   pub taken : beyond strict len (n .base) ≡ false
+  pub fit : nFits n ≡ true
 
 module _ (strict : Bool) (len : ℕ) where
   position-crossed : (s e : ℕ) (a : CAsked) (n : NPosition) → nPosition strict len s e a ≡ answered n → Crossed strict len s e a n
@@ -33,7 +34,7 @@ module _ (strict : Bool) (len : ℕ) where
       by-test (nFits there)
       (λ f.
       let is : there ≡ n = same (simp (t, f) at h) in
-      record { is = is; taken = subst (λ (x : NPosition). beyond strict len (x .base) ≡ false) is t })
+      record { is = is; taken = subst (λ (x : NPosition). beyond strict len (x .base) ≡ false) is t; fit = subst (λ (x : NPosition). nFits x ≡ true) is f })
       (λ f. absurd (clash (simp (t, f) at h))))
 
   pub c-to-n-crossed : (s e : ℕ) (i : Interval CAsked) (n : Marked NPosition) → cToN strict len (cds s e) i ≡ answered n → Crossed strict len s e (i .from) (n .interval .from) × Crossed strict len s e (i .to) (n .interval .to)
@@ -41,6 +42,15 @@ module _ (strict : Bool) (len : ℕ) where
   c-to-n-crossed s e i n h =
       let (m, from, to) = ends-answered unmarked (nPosition strict len s e (i .from)) (nPosition strict len s e (i .to)) n h in
       (position-crossed s e (i .from) (n .interval .from) from, position-crossed s e (i .to) (n .interval .to) to)
+
+  pub c-to-n-fits : (c : Cds) (i : Interval CAsked) (n : Marked NPosition) → cToN strict len c i ≡ answered n → Fitted nFits (n .interval)
+  unfolding cToN
+  c-to-n-fits noCds i n h = absurd (clash h)
+  c-to-n-fits (cds s e) i n h = let (from, to) = c-to-n-crossed s e i n h in record { from = from .fit; to = to .fit }
+
+  pub n-to-c-fits : (c : Cds) (i : Interval NAsked) (a : Marked CPosition) → nToC strict len c i ≡ answered a → Fitted cFits (a .interval)
+  unfolding nToC
+  n-to-c-fits c i a h = fitting-fits cFits (cOfInterval strict len c i) a h
 
   pub c-to-n-plain : (c : Cds) (i : Interval CAsked) (n : Marked NPosition) → cToN strict len c i ≡ answered n → n .mark ≡ unmarked
   unfolding cToN

@@ -7,16 +7,14 @@ use Rattle.fields.proofs.u16_at.Tie as tie
 
 returns : tie.Need-returns
 returns c =
-    let f = c .before .before .before .before .before in
+    let f = c .before .before .before in
     (omega (arith, two-bytes (f .args .s .now) (f .args .at) (f .pre)), omega arith)
 
 pub u16-at-spec : {M : Type 1} → statement M
 u16-at-spec =
     tie.close
     (tie.spec
-    (λ c. search needs)
     (λ c κs. search needs)
-    (λ c. search needs)
     (λ c. search needs)
     (λ c κs. search needs)
     (λ c. search needs)

@@ -9,15 +9,18 @@ use lib.IntN.{ℤ, pos, negsuc, natAbs}
 use lib.Signed.{leZ}
 use borrow.Author.Tests.{leb-true, le-leb}
 use Rattle.refusals.specs.Numbers.{mostRecords, mostSegments, mostBases, notTogether}
-use Rattle.refusals.specs.Outcome.{Outcome, refused}
+use Rattle.refusals.specs.Outcome.{Outcome, answered, refused}
+use Rattle.refusals.specs.laws.Outcomes.{clash}
 use Rattle.whole.specs.Whole.{eqZ}
 use Rattle.whole.specs.laws.Whole.{order, by-test, both, both-of}
 use Rattle.segments.specs.Tables.{segmentsHold, Holds}
+use Rattle.segments.specs.Exons.{lastNumber, IsExon}
 use Rattle.segments.specs.laws.Meaning.{holds-means, holds-where}
+use Rattle.segments.specs.laws.Exons.{read-number, number-is-exon}
 use Rattle.segments.specs.laws.Reading.{last-genome, last-transcript}
-use Rattle.transcript.specs.Transcript.{Source, genomeLength, transcriptLength}
+use Rattle.transcript.specs.Transcript.{Source, exonNumber, genomeLength, transcriptLength}
 use Rattle.transcript.specs.Transcript.Source.{aligned, lengthOnly}
-use Rattle.holding.specs.Holding.{Lent, segmentsOf, genomeEnd, transcriptEnd, totalsHold, ofRecords, ofLength, isForward, isBackward, bothGiven, headHolds, exonsHold, cdsHolds, recordsHold, lengthHolds, holds, headCds, transcriptOf, sourceOf, checked}
+use Rattle.holding.specs.Holding.{recordsIn, Lent, segmentsOf, genomeEnd, transcriptEnd, totalsHold, ofRecords, ofLength, isForward, isBackward, bothGiven, headHolds, exonsHold, cdsHolds, recordsHold, lengthHolds, holds, headCds, transcriptOf, sourceOf, checked}
 use Rattle.transcript.specs.declared.Head.{Head}
 
 -- ---- the tests of a head's numbers
@@ -275,6 +278,13 @@ module _ (x : Lent) (w : Together x) where
   pub held-segments : segmentsHold (x .tables) (segmentsOf x) ≡ true
   held-segments = holds-where (x .tables) (segmentsOf x) (w .segments)
 
+  -- each exon number is that of a record
+  pub held-exons : (i : ℕ) → IsExon (recordsIn (x .head)) (exonNumber (transcriptOf x) i)
+  held-exons i =
+      let h = x .head in
+      rw (read-number (x .exons) (segmentsOf x) (lastNumber (isForward h) (recordsIn h)) i)
+      (number-is-exon (isForward h) (recordsIn h) (x .tables .letters) (x .exons) (segmentsOf x) (w .exons) i)
+
   -- the last entries are the lengths
   pub genome-length : genomeLength (transcriptOf x) ≡ genomeEnd x
   genome-length = last-genome (x .tables) (segmentsOf x) (w .segments)
@@ -292,3 +302,10 @@ module _ {A : Type 0} (x : Lent) (ask : Source → Outcome A) where
   pub checked-broken : holds x ≡ false → checked x ask ≡ refused notTogether
   unfolding checked
   checked-broken e = rw e
+
+  -- where it is answered, what is lent holds together, and that is the question's own answer
+  pub checked-answered : (a : A) → checked x ask ≡ answered a → (holds x ≡ true) × (ask (sourceOf x) ≡ answered a)
+  checked-answered a h =
+      by-test (holds x)
+      (λ e. (e, sym (checked-held e) ∙ h))
+      (λ e. absurd (clash (sym (checked-broken e) ∙ h)))

@@ -2,8 +2,7 @@
 -- Assumes nothing.
 use mathlib.Core.Path.{_≡_, sym, ap, _∙_}
 use mathlib.Core.List.{List}
-use Prim.Native.Nat.{ℕ, _≤_}
-use native.Mathlib.Nat.{zero-add}
+use Prim.Native.Nat.{ℕ}
 use native.Mathlib.Omega.{arith}
 use borrow.Author.Tests.{le-leb}
 use lib.IntN.{ℤ, pos, natAbs}
@@ -13,8 +12,6 @@ use mir.Val.{SFits}
 use Rattle.refusals.specs.Outcome.{Outcome}
 use Rattle.whole.specs.Whole.{eqZ}
 use Rattle.whole.specs.laws.Whole.{read, widened, fits-wider}
-use Rattle.cigar.specs.Lent.{atFront}
-use Rattle.cigar.specs.laws.Lent.{sets-front}
 use Rattle.segments.specs.Tables.{tables, tablesOf}
 use Rattle.judging.specs.Judging.{Made, elementsMade}
 use Rattle.transcript.specs.Heads.{strandOf}
@@ -22,11 +19,10 @@ use Rattle.building.specs.Afterwards.{tablesAfter}
 use Rattle.judging.specs.laws.Accepted.{Sane}
 use Rattle.transcript.specs.declared.Head.{Head}
 use Rattle.card.specs.Putting.{Put}
-use Rattle.card.specs.laws.Putting.{put-length, put-as}
+use Rattle.card.specs.laws.Putting.{put-length, put-as, put-front}
 use Rattle.card.specs.laws.Taken.{card-sane}
 use Rattle.card.specs.Writing.{judgeCard}
 use Rattle.lines.specs.Listing.{judgmentText}
-use Rattle.lines.specs.Lengths.{mostListing}
 use Rattle.building.specs.laws.Standing.{Makes, makes, refuses}
 use Rattle.transcript.specs.laws.Heads.{plus-is}
 use Rattle.lines.proofs.Built.{strand-fits, made-holds, made-listed}
@@ -105,13 +101,6 @@ put-listing-requires c κs =
 put-refusal-requires : tie.Need-put-refusal-requires
 put-refusal-requires c κs = omega arith
 
--- a text of at most a listing's length, put at the front
-in-front : {before after text : List ℕ} {r : ℕ} → Put before after 0 r text → r ≤ mostListing → mostListing ≤ length before
-    → (r ≡ length text) × (after ≡ atFront text before)
-in-front {before} {after} {text} p short room =
-    let n : _ ≡ length text = p .past ∙ zero-add (length text) in
-    (n, p .stored ∙ sets-front text before (omega (arith, n)))
-
 same-length : tie.Need-same-length
 same-length c = put-length (c .before .before .put-listing .ensures .0)
 
@@ -122,7 +111,7 @@ returns c =
     let e = made-listed (thing h) (tables-are h) (number-is n) (forward-is n) ∙ sym (ap judgmentText (makes-head h .judged)) in
     let b = call h .build-card .ensures in
     let p = c .before .before .put-listing .ensures in
-    let w = in-front (put-as e (p .0)) (p .1) (entry (call h) .pre) in
+    let w = put-front (put-as e (p .0)) (omega (arith, p .1, entry (call h) .pre)) in
     (w .0, (p .1, (w .1, b .1)))
 
 same-length-2 : tie.Need-same-length-2
@@ -134,8 +123,8 @@ returns-2 c =
     let b = c .before .before .before .before .before .before .before .build-card .ensures in
     let e = ap judgmentText (refuses (judgeCard (entry (c .before .before .before .before .before .before .before) .args .card .now)) (k .0 .0) (sym (b .0) ∙ k .1)) in
     let p = c .before .before .put-refusal .ensures in
-    let w = in-front (put-as (sym e) (p .0)) (p .1) (entry (c .before .before .before .before .before .before .before) .pre) in
-    (w .0, (p .1, (w .1, b .1)))
+    let w = put-front (put-as (sym e) (p .0)) (omega (arith, p .1, entry (c .before .before .before .before .before .before .before) .pre)) in
+    (w .0, (omega (arith, p .1), (w .1, b .1)))
 
 pub list-card-spec : {M : Type 1} → statement M
 list-card-spec =

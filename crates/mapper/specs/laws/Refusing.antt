@@ -3,14 +3,15 @@ use Prim.Native.Nat.{ℕ}
 use mathlib.Core.Bool.{Bool, true, false, cond, false≢true}
 use mathlib.Core.List.{List, [], _∷_}
 use mathlib.Core.Path.{_≡_, refl}
+use lib.Dec.{eqb}
 use lib.IntN.{ℤ, pos, _-ℤ_}
 use lib.Signed.{leZ, ltZ}
 use Rattle.refusals.specs.Numbers.{notCoding, outside, nOutside, cOutside, tooWide, noGenome, missingEnd, notTogether}
-use Rattle.refusals.specs.Outcome.{Outcome, answered}
+use Rattle.refusals.specs.Outcome.{Outcome, answered, refused}
 use Rattle.refusals.specs.Refusing.{oneOf, Only}
 use Rattle.refusals.specs.laws.Outcomes.{clash}
 use Rattle.refusals.specs.laws.Refusing.{only-through, only-then}
-use Rattle.whole.specs.laws.Whole.{order, dif, neither}
+use Rattle.whole.specs.laws.Whole.{by-test, order, dif, neither}
 use Rattle.numbering.specs.Numbers.{placeOfN}
 use Rattle.transcript.specs.Transcript.{Source, Cds, genomeLength, transcriptLength, lengthOf, codingOf}
 use Rattle.transcript.specs.Transcript.Source.{aligned, lengthOnly}
@@ -141,6 +142,20 @@ lenient (k ∷ ks) = cond (oneOf k (outside ∷ nOutside ∷ cOutside ∷ [])) (
 -- a row in strict mode, or in lenient mode
 abbrev pub inMode : Bool → List ℕ → List ℕ
 inMode strict ks = cond strict ks (lenient ks)
+
+-- in either mode the row has them
+lenient-in : (k : ℕ) (ks : List ℕ) → oneOf k (lenient ks) ≡ true → oneOf k ks ≡ true
+lenient-in k [] h = h
+lenient-in k (x ∷ xs) h = by-test (eqb k x) (λ e. rw e) (λ e. rw e (lenient-in k xs (left e (oneOf x (outside ∷ nOutside ∷ cOutside ∷ [])) h)))
+  where
+    left : eqb k x ≡ false → (dropped : Bool) → oneOf k (cond dropped (lenient xs) (x ∷ lenient xs)) ≡ true → oneOf k (lenient xs) ≡ true
+    left e true h = h
+    left e false h = rw e at h
+
+pub in-row : {A : Type 0} (strict : Bool) (ks : List ℕ) (o : Outcome A) → Only (inMode strict ks) o → Only ks o
+in-row true ks o h = h
+in-row false ks (answered a) h = record { only = tt }
+in-row false ks (refused k) h = record { only = lenient-in k ks (h .only) }
 
 -- lenient mode is not strict
 not-strict : {X : Type 0} → false ≡ true → X

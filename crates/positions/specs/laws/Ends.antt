@@ -1,13 +1,14 @@
--- An answer and its parts: 17 of an interval is 17 of its ends, the first one's first; an interval that is answered has both its ends answered; and its mark. Assumes nothing.
+-- An answer and its parts: 17 of an interval is 17 of its ends, the first one's first; an interval that is answered has both its ends answered, and they fit; and its mark. Assumes nothing.
 use Prim.Native.Nat.{ℕ}
-use mathlib.Core.Path.{_≡_, refl, sym, ap, _∙_, subst}
+use mathlib.Core.Path.{_≡_, refl, ap, subst}
 use mathlib.Core.Bool.{Bool, true, false, _&&_}
 use Rattle.refusals.specs.Numbers.{tooWide}
 use Rattle.refusals.specs.Outcome.{Outcome, answered, refused, through}
-use Rattle.refusals.specs.laws.Outcomes.{clash, same}
+use Rattle.refusals.specs.laws.Outcomes.{clash, same, through-tells, then-tells}
 use Rattle.whole.specs.Whole.{if_then_else_}
+use Rattle.whole.specs.laws.Whole.{by-test, both}
 use Rattle.positions.specs.Positions.{Interval, each}
-use Rattle.positions.specs.Answers.{Mark, certain, uncertain, unmarked, markOf, Marked, Answer, ends, inARow, after, chain, ifFits, fitting}
+use Rattle.positions.specs.Answers.{Mark, certain, uncertain, unmarked, markOf, Marked, Answer, ends, inARow, after, chain, ifFits, fitting, Fitted}
 
 module _ {P : Type 0} where
   abbrev joined : Mark → P → P → Marked P
@@ -45,19 +46,32 @@ module _ {P : Type 0} where
       go false h = absurd (clash h)
   fitting-is fit (refused k) i e = absurd (clash e)
 
+  -- what passed 17 fits
+  pub fits-told : (fit : P → Bool) (a b : P) → ifFits fit a ≡ answered b → fit b ≡ true
+  fits-told fit a b h = by-test (fit a) (λ e. subst (λ (x : P). fit x ≡ true) (same (rw e at h)) e) (λ e. absurd (clash (rw e at h)))
+
+pub fitting-fits : {P : Type 0} (fit : P → Bool) (a : Answer P) (i : Marked P) → fitting fit a ≡ answered i → Fitted fit (i .interval)
+fitting-fits {P} fit a =
+    then-tells a _ (λ (i : Marked P). Fitted fit (i .interval))
+    (λ m i was h.
+    let (from, to) = both (fit (i .interval .from)) (fit (i .interval .to)) (fits-told (λ (x : Marked P). fit (x .interval .from) && fit (x .interval .to)) m i h) in
+    record { from = from; to = to })
+
 -- a step that bears no mark leaves that of the step before it
 pub row-plain : (m : Mark) → inARow m unmarked ≡ m
 row-plain (certain exons) = refl
 row-plain (uncertain exons) = refl
 row-plain unmarked = refl
 
--- a chain that answers bears the mark of its two steps in a row: what holds of that holds of its own
-pub chain-mark : {P Q R : Type 0} (asks : P → Q) (first : Answer P) (second : Interval Q → Answer R) (holds : Mark → Type 0)
-    → ((a : Marked P) (b : Marked R) → first ≡ answered a → second (each asks (a .interval)) ≡ answered b → holds (inARow (a .mark) (b .mark)))
-    → (c : Marked R) → chain asks first second ≡ answered c → holds (c .mark)
-chain-mark {R = R} asks (answered a) second holds h c e = go (second (each asks (a .interval))) refl e
-  where
-    go : (o : Answer R) → second (each asks (a .interval)) ≡ o → through (after (a .mark)) o ≡ answered c → holds (c .mark)
-    go (answered b) s e = subst holds (ap (λ (x : Marked R). x .mark) (same e)) (h a b refl s)
-    go (refused k) s e = absurd (clash e)
-chain-mark asks (refused k) second holds h c e = absurd (clash e)
+-- a chain that answers gives the second step's interval with the mark of both: what is so of that is so of its answer
+pub chain-tells : {P Q R : Type 0} (asks : P → Q) (first : Answer P) (second : Interval Q → Answer R) (So : Marked R → Type 0)
+    → ((a : Marked P) (b : Marked R) → first ≡ answered a → second (each asks (a .interval)) ≡ answered b → So (after (a .mark) b))
+    → (c : Marked R) → chain asks first second ≡ answered c → So c
+chain-tells asks first second So h =
+    then-tells first _ So (λ a c f s. through-tells (after (a .mark)) (second (each asks (a .interval))) So (λ b t. h a b f t) c s)
+
+-- and of its mark
+pub chain-mark : {P Q R : Type 0} (asks : P → Q) (first : Answer P) (second : Interval Q → Answer R) (So : Mark → Type 0)
+    → ((a : Marked P) (b : Marked R) → first ≡ answered a → second (each asks (a .interval)) ≡ answered b → So (inARow (a .mark) (b .mark)))
+    → (c : Marked R) → chain asks first second ≡ answered c → So (c .mark)
+chain-mark {R = R} asks first second So h = chain-tells asks first second (λ (c : Marked R). So (c .mark)) h

@@ -13,7 +13,7 @@ use clap::Parser;
 use compare::original::{self, Outcome};
 use pulindraxi::{
     boundary::{self, Asked, AskedG, Slot},
-    limits::MOST_SEGMENTS,
+    limits::{ENTRY, LOG_HEAD, MOST_ENTRIES, MOST_LOG, MOST_REPLAYED, MOST_SEGMENTS},
     Room,
 };
 use trials::{Lent, Question};
@@ -180,6 +180,48 @@ fn words(rounds: usize) {
     }
 }
 
+/// Questions g. to c. as one value: asked alone, recorded into one log, and replayed from it on the transcript that made it.
+fn logs(rounds: usize) {
+    println!("\n| segments | txc_g_to_c, ns | txc_ask, ns | recording, ns an entry | beyond asking | replaying, ns an entry | beyond asking |");
+    println!("|---|---|---|---|---|---|---|");
+    for segments in SIZES {
+        let Bench { asking, g_to_c, .. } = Bench::new(Letters::Matches, segments, 1);
+        let of = black_box(&asking.lent).reading();
+        let questions = &g_to_c[..MOST_ENTRIES];
+        let numbers: Vec<_> = questions.iter().map(|question| question.numbers().expect("a mapping")).collect();
+        let (log, text) = (RefCell::new(vec![0; MOST_LOG]), RefCell::new(vec![0; MOST_REPLAYED]));
+        let plain = || {
+            for question in questions {
+                black_box(boundary::g_to_c(of, question.g(), true));
+            }
+        };
+        let ask = || {
+            for &question in &numbers {
+                black_box(boundary::ask(of, question));
+            }
+        };
+        let record = || {
+            let mut used = 0;
+            for &question in &numbers {
+                used = boundary::record(of, question, &mut log.borrow_mut(), used).length;
+            }
+            assert_eq!(used, LOG_HEAD + ENTRY * MOST_ENTRIES);
+        };
+        record();
+        let replay = || {
+            let log = &log.borrow()[..LOG_HEAD + ENTRY * MOST_ENTRIES];
+            let replayed = boundary::replay(of, black_box(log), &mut text.borrow_mut());
+            assert_eq!((replayed.number, &text.borrow()[..replayed.length]), (0, &b"0\n"[..]));
+        };
+        let [plain, ask, record, replay] = best(rounds, MOST_ENTRIES, [&plain, &ask, &record, &replay]);
+        println!(
+            "| {segments} | {plain:.1} | {ask:.1} | {record:.1} | {:.1} | {replay:.1} | {:.1} |",
+            record - ask,
+            replay - ask
+        );
+    }
+}
+
 /// Whether the crate is built as for use, where an overflow wraps.
 fn crate_wraps() -> bool {
     let mut bench = Bench::new(Letters::Matches, SIZES[0], 1);
@@ -205,5 +247,6 @@ fn main() -> ExitCode {
     println!("\nA slot has {} bytes.", size_of::<Slot>());
     buildings(options.rounds);
     words(options.rounds);
+    logs(options.rounds);
     ExitCode::SUCCESS
 }

@@ -4,6 +4,7 @@ use std::{
     env,
     io::Write,
     process::{Command, Output, Stdio},
+    thread,
 };
 
 /// The command line.
@@ -23,7 +24,10 @@ pub fn run(program: &str, arguments: &[&str], input: &[u8]) -> Output {
         .stderr(Stdio::piped())
         .spawn()
         .unwrap_or_else(|error| panic!("{program}: {error} (host/install.sh installs it)"));
-    // A program that refuses its arguments may not read its input.
-    let _ = child.stdin.take().unwrap().write_all(input);
-    child.wait_with_output().unwrap()
+    let mut stdin = child.stdin.take().unwrap();
+    thread::scope(|scope| {
+        // A program may fill its output before it has read all of its input, and one that refuses its arguments may not read it.
+        scope.spawn(move || stdin.write_all(input));
+        child.wait_with_output().unwrap()
+    })
 }

@@ -13,6 +13,7 @@ use rand::{Rng, SeedableRng};
 use rand_xorshift::XorShiftRng;
 use trials::{
     draw::{self, Case},
+    paper::Source,
     Lent,
 };
 
@@ -100,6 +101,9 @@ macro_rules! measure {
     }};
 }
 
+/// What questions are drawn for where memory doesn't hold together.
+const NO_BASES: Source = Source::Length(0, None);
+
 /// A transcript at the limits, or a random one.
 fn input(rng: &mut XorShiftRng) -> Case {
     if !rng.gen_ratio(1, 50) {
@@ -165,6 +169,14 @@ fn measure(count: usize) -> BTreeMap<&'static str, usize> {
         measure!(deepest, stack, "txc_turn", boundary::turn(&allele, &mut buffer));
         measure!(deepest, stack, "txc_in_bounds", boundary::in_bounds(of, g));
         measure!(deepest, stack, "txc_is_coding", boundary::is_coding(of));
+        let source = lent.source();
+        let drawn_from = source.as_ref().unwrap_or(&NO_BASES);
+        let question = draw::numbers(&mut rng, drawn_from);
+        measure!(deepest, stack, "txc_ask", boundary::ask(of, question));
+        let (mut log, used) = draw::recording(&mut rng, drawn_from);
+        measure!(deepest, stack, "txc_record", boundary::record(of, question, &mut log, used));
+        let log = draw::log(&mut rng, drawn_from, &[source.as_ref(), None]);
+        measure!(deepest, stack, "txc_replay", boundary::replay(of, &log, &mut buffer));
         measure!(deepest, stack, "txc_trim_prefix", boundary::trim_prefix(&bytes, &card));
         measure!(deepest, stack, "txc_trim_suffix", boundary::trim_suffix(&bytes, &card));
         measure!(deepest, stack, "txc_changed", boundary::changed(&bytes, &card));

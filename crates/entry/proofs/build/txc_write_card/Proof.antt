@@ -1,5 +1,5 @@
 -- `entry::build::txc_write_card` meets its contract: what `write_card` answers is laid out.
-use mathlib.Core.Path.{_≡_, sym, ap, _∙_}
+use mathlib.Core.Path.{_≡_, ap, _∙_}
 use Rattle.whole.specs.laws.Whole.{read}
 use Rattle.judging.specs.Input.{numbersOf}
 use Rattle.entry.specs.Boundary.{writtenLaid}
@@ -17,26 +17,9 @@ handed c =
 
 returns : tie.Need-returns
 returns c =
-    let w = c .before .before .before .before .before in
+    let w = c .before .before .before in
     let r = simp (handed (w .before .before)) at (w .write-card .ensures) in
-    (ap writtenLaid (sym (c .before .n .given .1) ∙ r .0), r .1)
-
-returns-2 : tie.Need-returns-2
-returns-2 c =
-    let w = c .before .before .before .before .before in
-    let r = simp (handed (w .before .before)) at (w .write-card .ensures) in
-    (ap writtenLaid (sym (c .before .k .given .1) ∙ r .0), r .1)
+    (c .written-laid .ensures ∙ ap writtenLaid (r .0), r .1)
 
 pub txc-write-card-spec : {M : Type 1} → statement M
-txc-write-card-spec =
-    tie.close
-    (tie.spec
-    (λ c κs. search needs)
-    (λ c κs. search needs)
-    (λ c. search needs)
-    (λ c. search needs)
-    (λ c. search needs)
-    (λ c. search needs)
-    returns
-    (λ c. search needs)
-    returns-2)
+txc-write-card-spec = tie.close (tie.spec (λ c κs. search needs) (λ c κs. search needs) (λ c κs. search needs) (λ c. search needs) returns)

@@ -1,0 +1,5 @@
+-- What the proofs of several functions use.
+pub mod Walk
+pub mod Reading
+pub mod Written
+pub mod CardEnds

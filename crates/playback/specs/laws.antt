@@ -1,0 +1,4 @@
+-- What is shown of the definitions.
+pub mod Lines
+pub mod Replay
+pub mod Played
