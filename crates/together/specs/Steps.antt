@@ -30,10 +30,6 @@ stepsWithin k g₀ g₁ t₀ t₁ = within k (wrapped g₁ g₀) && within k (wr
 unfoldable pub isCommon : ℕ → Bool
 isCommon c = eqb c letterEqual || eqb c letterM || eqb c letterN || eqb c letterX
 
--- the two of them that most tables have alone: M N
-unfoldable pub isPlain : ℕ → Bool
-isPlain c = eqb c letterM || eqb c letterN
-
 -- the same tests for common letters: the transcript's step is the genome's or 0, so how many bits it has is not looked at
 unfoldable pub commonSame : ℕ → ℕ → ℕ → ℕ → ℕ → Bool
 commonSame c g₀ g₁ t₀ t₁ = eqb (cond (eqb c letterN) 0 (wrapped g₁ g₀)) (wrapped t₁ t₀)
@@ -54,9 +50,6 @@ withinAt k a i = at (λ c g₀ g₁ t₀ t₁. stepsWithin k g₀ g₁ t₀ t₁
 
 abbrev pub endsWithinAt : ℕ → List ℕ → List ℕ → ℕ → Bool
 endsWithinAt k genome transcript i = within k (getD genome (i + 1) 0) && within k (getD transcript (i + 1) 0)
-
-abbrev pub plainAt : List ℕ → ℕ → Bool
-plainAt letters i = isPlain (getD letters i 0)
 
 abbrev pub commonAt : List ℕ → ℕ → Bool
 commonAt letters i = isCommon (getD letters i 0)

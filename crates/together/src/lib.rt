@@ -9,7 +9,7 @@ ghost use lib.Dec.{leb};
 ghost use Rattle.refusals.specs.Numbers.{mostSegments};
 ghost use Rattle.cigar.specs.Elements.{isLetter};
 ghost use Rattle.segments.specs.Tables.{tables, allBelow, knownAt, segmentsHold};
-ghost use Rattle.together.specs.Steps.{within, same, stepsWithin, isCommon, isPlain, commonSame, commonWithin, sameAt, withinAt, endsWithinAt, commonAt, plainAt, commonSameAt, commonWithinAt, from, begin, LowEnds};
+ghost use Rattle.together.specs.Steps.{within, same, stepsWithin, isCommon, commonSame, commonWithin, sameAt, withinAt, endsWithinAt, commonAt, commonSameAt, commonWithinAt, from, begin, LowEnds};
 use refusals::MOST_SEGMENTS;
 use refusals::MOST_STARTS;
 
@@ -251,27 +251,6 @@ fn common_steps_in(
     seen
 }
 
-// The bits that letters have above an M's number, with one letter more: an N has the lowest, and any other letter has more.
-fn plain_on(bits: u8, letter: u8) -> u8
-    ensures { λ r. ⌜ within 1 r ≡ (within 1 bits && isPlain letter) ⌝ }
-{
-    bits | std::num::wrapping_sub_u8(letter, b'M')
-}
-
-// Whether the letters from one segment up to another are M and N alone.
-fn plain_in(letters: &[u8; MOST_SEGMENTS], first: usize, to: usize) -> bool
-    requires { ⌜ (first ≤ to) × (to ≤ mostSegments) ⌝ }
-    ensures { λ r. ⌜ r ≡ allBelow (from first (plainAt (now (letters .entry)))) to ⌝ }
-{
-    let mut bits = 0;
-    let mut i = first;
-    while i < to {
-        bits = plain_on(bits, letters[i]);
-        i += 1;
-    }
-    bits < 2
-}
-
 // 0 where the flag is true, else x.
 fn unless_byte(flag: bool, x: u8) -> u8
     ensures { λ r. ⌜ r ≡ cond flag 0 x ⌝ }
@@ -279,7 +258,7 @@ fn unless_byte(flag: bool, x: u8) -> u8
     if flag { 0 } else { x }
 }
 
-// The same bits where = and X count as an M.
+// The bits that letters have above an M's number, with one letter more, where = and X count as an M: an N has the lowest, and any other letter has more.
 fn common_letter_on(bits: u8, letter: u8) -> u8
     ensures { λ r. ⌜ within 1 r ≡ (within 1 bits && isCommon letter) ⌝ }
 {
@@ -299,17 +278,6 @@ fn many_common_in(letters: &[u8; MOST_SEGMENTS], first: usize, to: usize) -> boo
         i += 1;
     }
     bits < 2
-}
-
-// Whether all letters are M and N, which is seen at less cost than that all are common. The last block comes first: where it has another letter, the others need no look.
-fn all_plain(letters: &[u8; MOST_SEGMENTS], count: usize) -> bool
-    requires { ⌜ (16 ≤ count) × (count ≤ mostSegments) ⌝ }
-    ensures { λ r. ⌜ r ≡ allBelow (plainAt (now (letters .entry))) count ⌝ }
-{
-    if plain_in(letters, count - 16, count) {
-        return plain_in(letters, 0, count - count % 16);
-    }
-    false
 }
 
 // Whether there are 8 letters at least and all are common, by blocks too. The last block comes first: where it has another letter, which most tables with one show, the others need no look.
@@ -334,9 +302,6 @@ fn all_common(letters: &[u8; MOST_SEGMENTS], count: usize) -> bool
         let front = common_in(letters, 0, 32);
         let back = common_in(letters, count - 32, count);
         return front & back;
-    }
-    if all_plain(letters, count) {
-        return true;
     }
     if many_common_in(letters, count - 16, count) {
         return many_common_in(letters, 0, count - count % 16);
