@@ -63,6 +63,22 @@ pub within-none : (k : ℕ) → within k 0 ≡ true
 unfolding within
 within-none k = lt-ltb 0 (2 ^ k) (pow-pos k)
 
+-- a number of no bits is 0
+pub none-is : (n : ℕ) → eqb n 0 ≡ within 0 n
+unfolding within
+none-is n =
+    equal-where _ _
+    (λ h. lt-ltb n 1 (omega (arith, eqb-true n 0 h)))
+    (λ h. eq-eqb n 0 (omega (arith, ltb-true n 1 h)))
+
+-- a difference that wraps has no bits where its two numbers are equal
+pub apart-is : (a b d : ℕ) → a < 2 ^ 32 → b < 2 ^ 32 → d < 2 ^ 32 → (d + b) % 2 ^ 32 ≡ a → within 0 d ≡ eqb a b
+unfolding within
+apart-is a b d a< b< d< e =
+    equal-where _ _
+    (λ h. let l = ltb-true d 1 h in eq-eqb a b (omega arith))
+    (λ h. let q = eqb-true a b h in lt-ltb d 1 (omega arith))
+
 -- a letter's number above an M's, which wraps: 0 for an M, 1 for an N, else more
 m-or-n : (c d : ℕ) → c < 2 ^ 8 → d < 2 ^ 8 → (d + letterM) % 2 ^ 8 ≡ c → within 1 d ≡ (eqb c letterM || eqb c letterN)
 unfolding within

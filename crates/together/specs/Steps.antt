@@ -6,7 +6,7 @@ use lib.Dec.{eqb, leb, ltb}
 use lib.ListN.{getD}
 use Rattle.whole.specs.Whole.{if_then_else_}
 use Rattle.cigar.specs.Elements.{letterD, letterEqual, letterI, letterM, letterN, letterX}
-use Rattle.segments.specs.Tables.{Tables}
+use Rattle.segments.specs.Tables.{Tables, allBelow}
 
 -- the difference of two entries; one that would be negative wraps
 unfoldable pub wrapped : ℕ → ℕ → ℕ
@@ -59,6 +59,10 @@ commonSameAt a i = at commonSame a i
 
 abbrev pub commonWithinAt : ℕ → Tables → ℕ → Bool
 commonWithinAt k a i = at (λ c g₀ g₁ t₀ t₁. commonWithin k g₀ g₁) a i
+
+-- each of 8 lanes has k bits at most
+abbrev pub lanesWithin : ℕ → List ℕ → Bool
+lanesWithin k lanes = allBelow (λ j. within k (getD lanes j 0)) 8
 
 -- a test from the number `first` on: those before it pass
 abbrev pub from : ℕ → (ℕ → Bool) → ℕ → Bool
