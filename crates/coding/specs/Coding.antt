@@ -1,11 +1,11 @@
 -- Between n. and c., with the transcript's length and its CDS. `strict` is true in strict mode. Assumes nothing.
 use Prim.Native.Nat.{ℕ}
-use mathlib.Core.Bool.{Bool, _&&_, _||_}
+use mathlib.Core.Bool.{Bool, _&&_, _||_, Bool·beq}
 use lib.IntN.{ℤ, pos}
 use lib.Signed.{ltZ, leZ}
 use Rattle.refusals.specs.Numbers.{notCoding, nOutside, cOutside}
 use Rattle.refusals.specs.Outcome.{Outcome, refused}
-use Rattle.whole.specs.Whole.{if_then_else_}
+use Rattle.whole.specs.Whole.{if_then_else_, eqZ}
 use Rattle.numbering.specs.Numbers.{cOfN, nOfC}
 use Rattle.positions.specs.Positions.{Interval, each, NAsked, CAsked, NPosition, CPosition}
 use Rattle.positions.specs.Answers.{unmarked, Answer, plainly, ends, nFits, cFits, ifFits, fitting}
@@ -46,3 +46,7 @@ nPosition strict len s e a =
 unfoldable pub cToN : Bool → ℕ → Cds → Interval CAsked → Answer NPosition
 cToN strict len noCds i = refused notCoding
 cToN strict len (cds s e) i = ends unmarked (nPosition strict len s e (i .from)) (nPosition strict len s e (i .to))
+
+-- two positions are one: c. to n. numbers such a position once
+unfoldable pub sameC : CAsked → CAsked → Bool
+sameC a b = eqZ (a .base .0) (b .base .0) && Bool·beq (a .base .1) (b .base .1) && eqZ (a .offset) (b .offset)

@@ -6,7 +6,7 @@ ghost use Rattle.numbering.specs.Numbers.{nOfC};
 ghost use Rattle.positions.specs.Answers.{ifFits, cFits};
 ghost use Rattle.positions.specs.Paper.{paperCAsked, paperNQuestion, paperCQuestion, paperNEnd, paperCEnd, paperNPlain, paperCPlain};
 ghost use Rattle.transcript.specs.Transcript.{Cds.cds};
-ghost use Rattle.coding.specs.Coding.{beyond, cPosition, nPosition, nToC, cToN};
+ghost use Rattle.coding.specs.Coding.{beyond, cPosition, nPosition, nToC, cToN, sameC};
 use numbering::CNumber;
 use numbering::NNumber;
 use positions::CAsked;
@@ -82,12 +82,23 @@ pub fn to_c(strict: bool, len: u32, s: u32, e: u32, q: NQuestion) -> CPlain
     )
 }
 
-// c. to n. of a transcript that has a CDS: the start wholly, then the end.
+// Whether two c. positions are one.
+fn is_same(a: CAsked, b: CAsked) -> bool
+    ensures { λ r. ⌜ r ≡ sameC (paperCAsked a) (paperCAsked b) ⌝ }
+{
+    (a.base == b.base) & (a.star == b.star) & (a.offset == b.offset)
+}
+
+// c. to n. of a transcript that has a CDS: the start wholly, then the end. A position that is both is numbered once, for speed.
 pub fn to_n(strict: bool, len: u32, s: u32, e: u32, q: CQuestion) -> NPlain
     ensures { λ r. ⌜ paperNPlain r ≡ cToN strict len (cds s e) (paperCQuestion q) ⌝ }
 {
     let from = q.from;
     let to = q.to;
+    if is_same(from, to) {
+        let one = n_position(strict, len, s, e, from);
+        return fitting::n_both(one, one);
+    }
     fitting::n_both(
         n_position(strict, len, s, e, from),
         n_position(strict, len, s, e, to),

@@ -5,7 +5,7 @@ ghost use Prim.Native.Nat.{_≤_};
 ghost use lib.IntN.{pos, natAbs};
 ghost use lib.Signed.{leZ};
 ghost use Rattle.refusals.specs.Numbers.{mostSegments};
-ghost use Rattle.holding.specs.Holding.{segmentsIn, recordsIn, isForward, headHolds, cdsHolds, totalsHold, lent, recordsHold, lengthHolds, holds};
+ghost use Rattle.holding.specs.Holding.{segmentsIn, recordsIn, isForward, headHolds, cdsHolds, totalsHold, lent, lengthHolds, holds};
 use refusals::MOST_BASES;
 use refusals::MOST_RECORDS;
 use refusals::MOST_SEGMENTS;
@@ -96,31 +96,6 @@ fn totals_hold(first: u32, genome: u32, transcript: u32) -> bool
     ((first as u64) + (genome as u64) <= (MOST_BASES as u64)) & (transcript <= MOST_BASES)
 }
 
-// Whether a transcript built from records holds together. The segments are looked at first: an entry that is at hand before that is woven into it at a cost.
-fn records_hold(
-    head: Head,
-    genome: &[u32; MOST_STARTS],
-    transcript: &[u32; MOST_STARTS],
-    letters: &[u8; MOST_SEGMENTS],
-    exons: &[u16; MOST_SEGMENTS],
-) -> bool
-    ensures { λ r. ⌜ r ≡ recordsHold (lent head (now (genome .entry)) (now (transcript .entry)) (now (letters .entry)) (now (exons .entry))) ⌝ }
-{
-    if head_holds(head) {
-        let first = first_start(head);
-        let count = segment_count(head);
-        let forward = is_forward(head);
-        let records = record_count(head);
-        let segments = together::segments_hold(genome, transcript, letters, count);
-        let numbers = exons::numbers_hold(letters, exons, count, forward, records);
-        let totals = totals_hold(first, genome[count], transcript[count]);
-        let cds = cds_holds(head, transcript[count]);
-        segments & numbers & totals & cds
-    } else {
-        false
-    }
-}
-
 // Whether a transcript built from a length holds together.
 fn length_holds(head: Head) -> bool
     ensures { λ r. ⌜ r ≡ lengthHolds head ⌝ }
@@ -133,7 +108,8 @@ fn length_holds(head: Head) -> bool
     (bases <= MOST_BASES) & cds_holds(head, bases)
 }
 
-// Whether a transcript of either kind holds together.
+// Whether a transcript of either kind holds together. Both kinds are judged here, so that a question has one call of one function. The segments are looked at before the totals:
+// an entry that is at hand before that is woven into it at a cost.
 pub fn check(
     head: Head,
     genome: &[u32; MOST_STARTS],
@@ -145,7 +121,18 @@ pub fn check(
 {
     let kind = head.kind;
     if kind == OF_RECORDS {
-        return records_hold(head, genome, transcript, letters, exons);
+        if head_holds(head) {
+            let first = first_start(head);
+            let count = segment_count(head);
+            let forward = is_forward(head);
+            let records = record_count(head);
+            let segments = together::segments_hold(genome, transcript, letters, count);
+            let numbers = exons::numbers_hold(letters, exons, count, forward, records);
+            let totals = totals_hold(first, genome[count], transcript[count]);
+            let cds = cds_holds(head, transcript[count]);
+            return segments & numbers & totals & cds;
+        }
+        return false;
     }
     if kind == OF_LENGTH {
         return length_holds(head);

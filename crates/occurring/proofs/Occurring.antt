@@ -1,120 +1,45 @@
--- Each refusal of the table's rows occurs: an input that is refused with it, computed. With `refusals` the rows are exact. Assumes nothing.
-use Prim.Native.Nat.{ℕ}
-use mathlib.Core.List.{List, [], _∷_, _++_, map}
-use mathlib.Core.Path.{_≡_, refl}
-use lib.IntN.{ℤ, pos, negsuc}
-use lib.ListN.{length, replicate, drop}
-use Rattle.refusals.specs.Outcome.{refused}
-use Rattle.cigar.specs.Elements.{isLetter, letterD, letterM}
+-- Each refusal of the table's rows occurs: every row computes. Assumes nothing.
+use mathlib.Core.Path.{refl}
+use Rattle.cigar.specs.Elements.{isLetter}
 use Rattle.cigar.specs.Text.{readFrom}
 use Rattle.cigar.specs.Read.{readText}
 use Rattle.cigar.specs.Write.{writing, givenFrom, elementsText, elementText}
 use Rattle.words.specs.Words.{letterOf, allKnown, readWords, faultOf, faultFrom, writeWords}
-use Rattle.records.specs.Records.{Record, recordText}
-use Rattle.judging.specs.Input.{inputOf, numbersOf}
-use Rattle.judging.specs.Judging.{judge, judgeLength, lengthFault, rangeFault}
-use Rattle.judging.specs.laws.Worked.{row, bytesOf, digit, letterS, ten, nines, rowsA, bounded, one, computing}
-use Rattle.transcript.specs.declared.Numbers.{Numbers}
-use Rattle.card.specs.Layout.{mark}
+use Rattle.records.specs.Records.{recordText}
+use Rattle.judging.specs.Judging.{judgeLength, lengthFault, rangeFault}
+use Rattle.judging.specs.laws.Worked.{computing}
 use Rattle.card.specs.Card.{cardText, headerText, recordsText, readCard, isMarked, isCard, arePlain, numbersIn}
-use Rattle.card.specs.Writing.{judgeCard, cardWriting}
-use Rattle.promises.specs.Refusals.{readingRefusals, writingRefusals, readingWordsRefusals, writingWordsRefusals, buildingRefusals, cardRefusals, lengthRefusals, cardWritingRefusals}
+use Rattle.card.specs.Writing.{cardWriting}
+use Rattle.occurring.specs.Occurring.{ReadCigarOccurs, WriteCigarOccurs, ReadBamOccurs, WriteBamOccurs, BuildOccurs, BuildLengthOccurs, WriteCardOccurs, BuildCardOccurs}
 
--- a CIGAR of one segment too many
-abbrev many : List ℕ
-many = replicate 2049 letterM
-
--- too many segments; `S`; `99999999999M`
-pub read-cigar-occurs : map readText (many ∷ (letterS ∷ []) ∷ (nines ++ (letterM ∷ [])) ∷ []) ≡ map refused readingRefusals
+pub read-cigar-occurs : ReadCigarOccurs
 unfolding readText readFrom isLetter
 read-cigar-occurs = refl
 
--- too many elements; `S`; a count below 0; no room for one byte
-pub write-cigar-occurs :
-    writing 2049 (pos 1 ∷ []) (letterM ∷ []) 9
-    ∷ writing 1 (pos 1 ∷ []) (letterS ∷ []) 9
-    ∷ writing 1 (negsuc 0 ∷ []) (letterM ∷ []) 9
-    ∷ writing 1 (pos 1 ∷ []) (letterM ∷ []) 0
-    ∷ [] ≡ map refused writingRefusals
+pub write-cigar-occurs : WriteCigarOccurs
 unfolding writing givenFrom isLetter elementsText elementText
 write-cigar-occurs = refl
 
--- a clipped base; too many words; no room for one
-pub read-bam-occurs : readWords (4 ∷ []) 9 9 ∷ readWords (replicate 2049 0) 9 9 ∷ readWords (0 ∷ []) 9 0 ∷ [] ≡ map refused readingWordsRefusals
+pub read-bam-occurs : ReadBamOccurs
 unfolding readWords allKnown letterOf isLetter
 read-bam-occurs = refl
 
--- `S`; a count below 0; too many elements; no room for one
-pub write-bam-occurs :
-    writeWords 1 (pos 1 ∷ []) (letterS ∷ []) 9
-    ∷ writeWords 1 (negsuc 0 ∷ []) (letterM ∷ []) 9
-    ∷ writeWords 2049 [] (replicate 2048 letterM) 9
-    ∷ writeWords 1 (pos 1 ∷ []) (letterM ∷ []) 0
-    ∷ [] ≡ map refused writingWordsRefusals
+pub write-bam-occurs : WriteBamOccurs
 unfolding writeWords faultFrom faultOf isLetter
 write-bam-occurs = refl
 
--- ---- building
-
--- numbers beside records' bytes
-abbrev Handed : Type 0
-Handed = Numbers × List ℕ
-
--- records on strand 1, with CDS bits, start and end
-abbrev handed : ℕ → ℤ → ℤ → List Record → Handed
-handed bits start end rs = (numbersOf (pos 1) bits start end (length rs), bytesOf rs)
-
-abbrev plain : List Record → Handed
-plain rs = handed 0 (pos 0) (pos 0) rs
-
--- no record; no strand; a byte too many; CDS bits above 3; too many segments; a bound below 0; `ord` that stands still; exons that are not adjacent; `S`; `99999999999M`;
--- a first start above the largest; no segment; one CDS bit; a CDS end above the length; `10M` on 9 bases
-abbrev samples : List Handed
-samples =
-    plain []
-    ∷ (numbersOf (pos 0) 0 (pos 0) (pos 0) 2, bytesOf rowsA)
-    ∷ (numbersOf (pos 1) 0 (pos 0) (pos 0) 2, bytesOf rowsA ++ (0 ∷ []))
-    ∷ handed 4 (pos 0) (pos 0) rowsA
-    ∷ plain (one 0 many)
-    ∷ plain (row (pos 5) (pos 6) (negsuc 0) (pos 3) (pos 0) ten ∷ [])
-    ∷ plain (row (pos 0) (pos 1) (pos 0) (pos 5) (pos 0) [] ∷ row (pos 2) (pos 3) (pos 5) (pos 9) (pos 0) [] ∷ [])
-    ∷ plain (row (pos 0) (pos 1) (pos 0) (pos 5) (pos 0) [] ∷ row (pos 2) (pos 3) (pos 6) (pos 9) (pos 1) [] ∷ [])
-    ∷ plain (one 0 (letterS ∷ []))
-    ∷ plain (one 0 (nines ++ (letterM ∷ [])))
-    ∷ plain (one 2000000001 (digit 5 ∷ letterD ∷ []))
-    ∷ plain (one 0 [])
-    ∷ handed 1 (pos 0) (pos 0) rowsA
-    ∷ handed 3 (pos 3) (pos 19) rowsA
-    ∷ plain (bounded 0 9 ten)
-    ∷ []
-
-pub build-occurs : map (λ (x : Handed). judge (x .0) (x .1)) samples ≡ map refused buildingRefusals
+pub build-occurs : BuildOccurs
 unfolding computing
 build-occurs = refl
 
--- a length below 0; one above the largest; one CDS bit; a CDS end above the length; bits above 3
-pub build-length-occurs :
-    judgeLength (negsuc 0) 0 (pos 0) (pos 0)
-    ∷ judgeLength (pos 2000000001) 0 (pos 0) (pos 0)
-    ∷ judgeLength (pos 18) 2 (pos 0) (pos 15)
-    ∷ judgeLength (pos 18) 3 (pos 3) (pos 19)
-    ∷ judgeLength (pos 18) 4 (pos 0) (pos 0)
-    ∷ [] ≡ map refused lengthRefusals
+pub build-length-occurs : BuildLengthOccurs
 unfolding judgeLength lengthFault rangeFault
 build-length-occurs = refl
 
--- ---- cards
-
--- A, for which there is no room; and what building refuses
-pub write-card-occurs : map (λ (x : Handed). cardWriting (x .0) (x .1) 0) (handed 3 (pos 3) (pos 15) rowsA ∷ samples) ≡ map refused cardWritingRefusals
+pub write-card-occurs : WriteCardOccurs
 unfolding computing cardWriting cardText headerText recordsText recordText
 write-card-occurs = refl
 
--- the card of what is handed over
-abbrev card : Handed → List ℕ
-card x = cardText (inputOf (x .0) (x .1))
-
--- no record; no byte; version 2; and what building refuses once the strand is known
-pub build-card-occurs : map judgeCard (card (plain []) ∷ [] ∷ (mark ++ (2 ∷ 0 ∷ [])) ∷ map card (drop 4 samples)) ≡ map refused cardRefusals
+pub build-card-occurs : BuildCardOccurs
 unfolding computing cardText headerText recordsText recordText readCard isMarked isCard arePlain numbersIn
 build-card-occurs = refl

@@ -1,8 +1,8 @@
 // The tables of a transcript: the finder, and the mapping of a place, once for both directions.
 // Segment i begins at entry i of the two tables of starts and ends at entry i + 1. A place is a whole number and may lie outside the tables on either side.
 ghost use mathlib.Core.Path.{_≡_};
-ghost use mathlib.Core.Bool.{true};
-ghost use Prim.Native.Nat.{_≤_, _<_};
+ghost use mathlib.Core.Bool.{true, cond};
+ghost use Prim.Native.Nat.{_+_, _≤_, _<_};
 ghost use lib.IntN.{pos};
 ghost use lib.Signed.{ltZ};
 ghost use Rattle.refusals.specs.Numbers.{mostSegments};
@@ -16,6 +16,9 @@ use refusals::MOST_SEGMENTS;
 use refusals::MOST_STARTS;
 
 pub mod exons;
+
+// Not more segments than these are few.
+const FEW: usize = 256;
 
 // An interval's end.
 pub enum End {
@@ -47,8 +50,8 @@ fn is_above(end: u32, p: i64) -> bool
     p < (end as i64)
 }
 
-// The number of the segment of the place p: the first whose end is above p, or else the last. No entry is below the one before it, so it is found by halving.
-fn find(starts: &[u32; MOST_STARTS], count: usize, p: i64) -> usize
+// The number of the segment of the place p: the first whose end is above p, or else the last. No entry is below the one before it, so it is found by halving. Of few segments the processor learns to guess which half it is.
+fn find_few(starts: &[u32; MOST_STARTS], count: usize, p: i64) -> usize
     requires { ⌜ (1 ≤ count) × (count ≤ mostSegments) ⌝ }
     requires { ⌜ Rising (now starts) count ⌝ }
     ensures within { λ r. ⌜ r < count ⌝ }
@@ -63,6 +66,37 @@ fn find(starts: &[u32; MOST_STARTS], count: usize, p: i64) -> usize
         } else {
             low = middle + 1;
         }
+    }
+    low
+}
+
+// Where the half is that the place p lies in: the second, where what ends before it does not end above p.
+fn second_half(end: u32, p: i64, low: usize, half: usize) -> usize
+    requires { ⌜ (low ≤ mostSegments) × (half ≤ mostSegments) ⌝ }
+    ensures { λ r. ⌜ r ≡ cond (ltZ p (pos end)) low (low + half) ⌝ }
+{
+    let second = low + half;
+    if is_above(end, p) { low } else { second }
+}
+
+// The same of many segments, where there is no guessing: every question halves as often as the most segments need, and takes a half without a jump.
+fn find_many(starts: &[u32; MOST_STARTS], count: usize, p: i64) -> usize
+    requires { ⌜ (1 ≤ count) × (count ≤ mostSegments) ⌝ }
+    requires { ⌜ Rising (now starts) count ⌝ }
+    ensures within { λ r. ⌜ r < count ⌝ }
+    ensures found { λ r. ⌜ r ≡ indexOf (now (starts .entry)) count p ⌝ }
+{
+    if p < 0 {
+        return 0;
+    }
+    let mut low = 0;
+    let mut left = count;
+    let mut most = MOST_SEGMENTS;
+    while 1 < most {
+        let half = left / 2;
+        low = second_half(starts[low + half], p, low, half);
+        left -= half;
+        most -= most / 2;
     }
     low
 }
@@ -211,27 +245,6 @@ pub fn map_at(
     )
 }
 
-// The place p, which begins an interval or ends it, from one table to the other.
-fn map_place(
-    from: &[u32; MOST_STARTS],
-    to: &[u32; MOST_STARTS],
-    letters: &[u8; MOST_SEGMENTS],
-    count: usize,
-    p: Place,
-    end: End,
-    forward: bool,
-) -> Spot
-    requires { ⌜ (1 ≤ count) × (count ≤ mostSegments) ⌝ }
-    requires { ⌜ Rising (now from) count ⌝ }
-    requires { ⌜ Within 36 (p .0) ⌝ }
-    ensures said { λ r. ⌜ spotSaid r ≡ mapByTables (now (from .entry)) (now (to .entry)) (now (letters .entry)) count (p .0) (endSaid end) forward ⌝ }
-    ensures small { λ r. ⌜ Small 37 r ⌝ }
-{
-    let z = p.0;
-    let number = find(from, count, z);
-    map_at(from, to, letters, number, z, end, forward)
-}
-
 // From the genome to the transcript; forward says whether the strand is 1.
 pub fn genome_to_transcript(
     genome: &[u32; MOST_STARTS],
@@ -248,7 +261,13 @@ pub fn genome_to_transcript(
     ensures said { λ r. ⌜ spotSaid r ≡ toTranscript (tables (now (genome .entry)) (now (transcript .entry)) (now (letters .entry))) count (p .0) (endSaid end) forward ⌝ }
     ensures small { λ r. ⌜ Small 37 r ⌝ }
 {
-    map_place(genome, transcript, letters, count, p, end, forward)
+    let z = p.0;
+    let number = if count <= FEW {
+        find_few(genome, count, z)
+    } else {
+        find_many(genome, count, z)
+    };
+    map_at(genome, transcript, letters, number, z, end, forward)
 }
 
 // From the transcript to the genome, where the strand counts as 1.
@@ -266,7 +285,13 @@ pub fn transcript_to_genome(
     ensures said { λ r. ⌜ spotSaid r ≡ toGenome (tables (now (genome .entry)) (now (transcript .entry)) (now (letters .entry))) count (p .0) (endSaid end) ⌝ }
     ensures small { λ r. ⌜ Small 37 r ⌝ }
 {
-    map_place(transcript, genome, letters, count, p, end, true)
+    let z = p.0;
+    let number = if count <= FEW {
+        find_few(transcript, count, z)
+    } else {
+        find_many(transcript, count, z)
+    };
+    map_at(transcript, genome, letters, number, z, end, true)
 }
 
 // The spot of an interval's end, where its start is the same place and has this spot: the place is looked for once.

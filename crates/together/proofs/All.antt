@@ -2,7 +2,7 @@
 use Prim.Native.Nat.{ℕ, _+_, _≤_}
 use native.Mathlib.Omega.{arith}
 use mathlib.Core.Bool.{Bool, true, false, _&&_, _||_, false≢true}
-use mathlib.Core.Path.{_≡_, refl, sym, _∙_}
+use mathlib.Core.Path.{_≡_, refl, sym, ap, _∙_}
 use lib.Dec.{ltb}
 use borrow.Author.Tests.{lt-ltb, le-ltb, ltb-true, ltb-false}
 use Rattle.whole.specs.laws.Whole.{by-test, both, both-of}
@@ -52,6 +52,10 @@ stretched f mid first n meet within = equal-where _ _ joined split
 
     split : allBelow f n ≡ true → (allBelow (from 0 f) mid && allBelow (from first f) n) ≡ true
     split h = both-of (all-of (from 0 f) mid (λ i l. rw (all-at f n h i (omega arith)) (either (ltb i 0)))) (all-of (from first f) n (λ i l. rw (all-at f n h i l) (either (ltb i first))))
+
+-- a flag of the first numbers, joined with what a stretch that overlaps or meets them shows
+pub on-stretch : (f : ℕ → Bool) (mid first n : ℕ) {flag all : Bool} → first ≤ mid → mid ≤ n → flag ≡ allBelow f mid → all ≡ (flag && allBelow (from first f) n) → all ≡ allBelow f n
+on-stretch f mid first n meet within flag≡ all≡ = all≡ ∙ ap (λ (b : Bool). b && allBelow (from first f) n) (flag≡ ∙ sym (from-start f mid)) ∙ stretched f mid first n meet within
 
 -- where the later one passes, the earlier decides; where it does not, nothing more need be seen
 module _ (f : ℕ → Bool) (mid first n : ℕ) (meet : first ≤ mid) (within : mid ≤ n) where

@@ -13,7 +13,7 @@ use Rattle.whole.specs.laws.Whole.{by-test, both, both-of}
 use Rattle.cigar.specs.Elements.{isLetter, letterD, letterEqual, letterI, letterM, letterN, letterX}
 use Rattle.segments.specs.Tables.{Tables, allBelow, knownAt, segmentsHold, Rising, Holds}
 use Rattle.segments.specs.laws.Meaning.{all-at, all-of, rising, holds-means, holds-where}
-use Rattle.together.specs.Steps.{wrapped, within, same, stepsWithin, isCommon, isPlain, commonSame, commonWithin, sameAt, withinAt, endsWithinAt, commonAt, plainAt, commonSameAt, commonWithinAt, begin, LowEnds}
+use Rattle.together.specs.Steps.{wrapped, within, same, stepsWithin, isCommon, commonSame, commonWithin, sameAt, withinAt, endsWithinAt, commonAt, commonSameAt, commonWithinAt, begin, LowEnds}
 use Rattle.together.proofs.All.{equal-where}
 use Rattle.together.proofs.OneStep.{masked}
 
@@ -41,19 +41,6 @@ not-wrapped a b d s is small room =
     (λ t. let e : d ≡ a + 2 ^ 32 - b = rw t at is in absurd (omega arith))
 
 -- ---- a common letter
-
-plain-common : (c : ℕ) → isPlain c ≡ true → isCommon c ≡ true
-unfolding isPlain isCommon
-plain-common c h = go (eqb c letterEqual) (eqb c letterM) (eqb c letterN) (eqb c letterX) h
-  where
-    go : (e m n x : Bool) → (m || n) ≡ true → (e || m || n || x) ≡ true
-    go true m n x h = refl
-    go false true n x h = refl
-    go false false true x h = refl
-    go false false false x h = absurd (false≢true h)
-
-pub plains-common : (letters : List ℕ) (n : ℕ) → allBelow (plainAt letters) n ≡ true → allBelow (commonAt letters) n ≡ true
-plains-common letters n h = all-of (commonAt letters) n (λ i l. plain-common (getD letters i 0) (all-at (plainAt letters) n h i l))
 
 common-known : (c : ℕ) → isCommon c ≡ true → isLetter c ≡ true
 unfolding isCommon isLetter

@@ -11,7 +11,7 @@ use borrow.Author.Tests.{leb-true, leb-false, ltb-true, lt-ltb, eqb-true, eqb-fa
 use Rattle.whole.specs.laws.Whole.{by-test, both, both-of}
 use Rattle.cigar.specs.Elements.{kindOf, letterD, letterEqual, letterI, letterM, letterN, letterX}
 use Rattle.segments.specs.Tables.{stepsOf}
-use Rattle.together.specs.Steps.{wrapped, within, isCommon, isPlain}
+use Rattle.together.specs.Steps.{wrapped, within, isCommon}
 use Rattle.together.proofs.All.{equal-where}
 
 -- the order of two numbers does not matter to the test that they are equal
@@ -63,10 +63,26 @@ pub within-none : (k : ℕ) → within k 0 ≡ true
 unfolding within
 within-none k = lt-ltb 0 (2 ^ k) (pow-pos k)
 
+-- a number of no bits is 0
+pub none-is : (n : ℕ) → eqb n 0 ≡ within 0 n
+unfolding within
+none-is n =
+    equal-where _ _
+    (λ h. lt-ltb n 1 (omega (arith, eqb-true n 0 h)))
+    (λ h. eq-eqb n 0 (omega (arith, ltb-true n 1 h)))
+
+-- a difference that wraps has no bits where its two numbers are equal
+pub apart-is : (a b d : ℕ) → a < 2 ^ 32 → b < 2 ^ 32 → d < 2 ^ 32 → (d + b) % 2 ^ 32 ≡ a → within 0 d ≡ eqb a b
+unfolding within
+apart-is a b d a< b< d< e =
+    equal-where _ _
+    (λ h. let l = ltb-true d 1 h in eq-eqb a b (omega arith))
+    (λ h. let q = eqb-true a b h in lt-ltb d 1 (omega arith))
+
 -- a letter's number above an M's, which wraps: 0 for an M, 1 for an N, else more
-pub plain-is : (c d : ℕ) → c < 2 ^ 8 → d < 2 ^ 8 → (d + letterM) % 2 ^ 8 ≡ c → within 1 d ≡ isPlain c
-unfolding within isPlain
-plain-is c d c< d< e =
+m-or-n : (c d : ℕ) → c < 2 ^ 8 → d < 2 ^ 8 → (d + letterM) % 2 ^ 8 ≡ c → within 1 d ≡ (eqb c letterM || eqb c letterN)
+unfolding within
+m-or-n c d c< d< e =
     equal-where _ _
     (λ h. let l = ltb-true d 2 h in
     by-test (eqb c letterM)
@@ -82,14 +98,14 @@ plain-is c d c< d< e =
 
 -- the same where = and X count as an M: 0 or 1 for a common letter, else more
 pub common-is : (c d : ℕ) → c < 2 ^ 8 → d < 2 ^ 8 → (d + letterM) % 2 ^ 8 ≡ c → within 1 (cond (eqb c letterEqual || eqb c letterX) 0 d) ≡ isCommon c
-unfolding isPlain isCommon
+unfolding isCommon
 common-is c d c< d< e =
     by-test (eqb c letterEqual)
     (λ is. rw is (within-none 1))
     (λ no.
     by-test (eqb c letterX)
     (λ is. rw (no, is) (within-none 1 ∙ sym (last-of-three (eqb c letterM) (eqb c letterN))))
-    (λ not. rw (no, not) (plain-is c d c< d< e ∙ two-of-three (eqb c letterM) (eqb c letterN))))
+    (λ not. rw (no, not) (m-or-n c d c< d< e ∙ two-of-three (eqb c letterM) (eqb c letterN))))
   where
     last-of-three : (m n : Bool) → (m || n || true) ≡ true
     last-of-three true n = refl

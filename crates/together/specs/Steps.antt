@@ -6,7 +6,7 @@ use lib.Dec.{eqb, leb, ltb}
 use lib.ListN.{getD}
 use Rattle.whole.specs.Whole.{if_then_else_}
 use Rattle.cigar.specs.Elements.{letterD, letterEqual, letterI, letterM, letterN, letterX}
-use Rattle.segments.specs.Tables.{Tables}
+use Rattle.segments.specs.Tables.{Tables, allBelow}
 
 -- the difference of two entries; one that would be negative wraps
 unfoldable pub wrapped : ℕ → ℕ → ℕ
@@ -30,10 +30,6 @@ stepsWithin k g₀ g₁ t₀ t₁ = within k (wrapped g₁ g₀) && within k (wr
 unfoldable pub isCommon : ℕ → Bool
 isCommon c = eqb c letterEqual || eqb c letterM || eqb c letterN || eqb c letterX
 
--- the two of them that most tables have alone: M N
-unfoldable pub isPlain : ℕ → Bool
-isPlain c = eqb c letterM || eqb c letterN
-
 -- the same tests for common letters: the transcript's step is the genome's or 0, so how many bits it has is not looked at
 unfoldable pub commonSame : ℕ → ℕ → ℕ → ℕ → ℕ → Bool
 commonSame c g₀ g₁ t₀ t₁ = eqb (cond (eqb c letterN) 0 (wrapped g₁ g₀)) (wrapped t₁ t₀)
@@ -55,9 +51,6 @@ withinAt k a i = at (λ c g₀ g₁ t₀ t₁. stepsWithin k g₀ g₁ t₀ t₁
 abbrev pub endsWithinAt : ℕ → List ℕ → List ℕ → ℕ → Bool
 endsWithinAt k genome transcript i = within k (getD genome (i + 1) 0) && within k (getD transcript (i + 1) 0)
 
-abbrev pub plainAt : List ℕ → ℕ → Bool
-plainAt letters i = isPlain (getD letters i 0)
-
 abbrev pub commonAt : List ℕ → ℕ → Bool
 commonAt letters i = isCommon (getD letters i 0)
 
@@ -66,6 +59,10 @@ commonSameAt a i = at commonSame a i
 
 abbrev pub commonWithinAt : ℕ → Tables → ℕ → Bool
 commonWithinAt k a i = at (λ c g₀ g₁ t₀ t₁. commonWithin k g₀ g₁) a i
+
+-- each of 8 lanes has k bits at most
+abbrev pub lanesWithin : ℕ → List ℕ → Bool
+lanesWithin k lanes = allBelow (λ j. within k (getD lanes j 0)) 8
 
 -- a test from the number `first` on: those before it pass
 abbrev pub from : ℕ → (ℕ → Bool) → ℕ → Bool

@@ -4,12 +4,13 @@
 // bits and compares steps decides, with no early way out, and is vectorised.
 ghost use mathlib.Core.Path.{_≡_};
 ghost use mathlib.Core.Bool.{true, cond, _&&_, _||_};
-ghost use Prim.Native.Nat.{ℕ, _≤_};
-ghost use lib.Dec.{leb};
+ghost use Prim.Native.Nat.{ℕ, _+_, _≤_};
+ghost use lib.Dec.{leb, ltb};
+ghost use lib.ListN.{length};
 ghost use Rattle.refusals.specs.Numbers.{mostSegments};
 ghost use Rattle.cigar.specs.Elements.{isLetter};
 ghost use Rattle.segments.specs.Tables.{tables, allBelow, knownAt, segmentsHold};
-ghost use Rattle.together.specs.Steps.{within, same, stepsWithin, isCommon, isPlain, commonSame, commonWithin, sameAt, withinAt, endsWithinAt, commonAt, plainAt, commonSameAt, commonWithinAt, from, begin, LowEnds};
+ghost use Rattle.together.specs.Steps.{within, same, stepsWithin, isCommon, commonSame, commonWithin, sameAt, withinAt, endsWithinAt, commonAt, commonSameAt, commonWithinAt, lanesWithin, from, begin, LowEnds};
 use refusals::MOST_SEGMENTS;
 use refusals::MOST_STARTS;
 
@@ -20,6 +21,9 @@ const HIGH: u32 = 2_147_483_648;
 
 // No short step has this or more: 2,048 short steps have no more than 32 bits together.
 const SHORT: u32 = 2_097_152;
+
+// How many segments are looked at together where there are many: each has a lane of its own, and the compiler takes the lanes at once.
+const LANES: usize = 8;
 
 // What a stretch of segments showed: whether each one's steps are the same as far as its letter lets the sides see them, and
 // all bits of the steps together.
@@ -251,25 +255,104 @@ fn common_steps_in(
     seen
 }
 
-// The bits that letters have above an M's number, with one letter more: an N has the lowest, and any other letter has more.
-fn plain_on(bits: u8, letter: u8) -> u8
-    ensures { λ r. ⌜ within 1 r ≡ (within 1 bits && isPlain letter) ⌝ }
-{
-    bits | std::num::wrapping_sub_u8(letter, b'M')
+// What one lane has gathered: bits that are 0 where each segment's steps are the same as far as its letter lets the sides see them, and
+// all bits of the genome's steps together.
+struct Lane {
+    apart: u32,
+    bits: u32,
 }
 
-// Whether the letters from one segment up to another are M and N alone.
-fn plain_in(letters: &[u8; MOST_SEGMENTS], first: usize, to: usize) -> bool
-    requires { ⌜ (first ≤ to) × (to ≤ mostSegments) ⌝ }
-    ensures { λ r. ⌜ r ≡ allBelow (from first (plainAt (now (letters .entry)))) to ⌝ }
+// A lane with one segment more, whose letter is common.
+fn lane_on(lane: Lane, letter: u8, g0: u32, g1: u32, t0: u32, t1: u32) -> Lane
+    ensures { λ r. ⌜ within 0 (r .apart) ≡ (within 0 (lane .apart) && commonSame letter g0 g1 t0 t1) ⌝ }
+    ensures { λ r. ⌜ ((k : ℕ) → within k (r .bits) ≡ (within k (lane .bits) && commonWithin k g0 g1)) ⌝ }
+{
+    let dg = std::num::wrapping_sub_u32(g1, g0);
+    let dt = std::num::wrapping_sub_u32(t1, t0);
+    let step = unless(letter == b'N', dg);
+    let apart = with_bits(lane.apart, std::num::wrapping_sub_u32(step, dt));
+    let bits = with_bits(lane.bits, dg);
+    Lane { apart, bits }
+}
+
+// Takes the segments from one on into the lanes, one into each. Lanes are lent as slices: behind a reference to an array its length is not known.
+fn lanes_on(
+    genome: &[u32; MOST_STARTS],
+    transcript: &[u32; MOST_STARTS],
+    letters: &[u8; MOST_SEGMENTS],
+    first: usize,
+    apart: &mut [u32],
+    bits: &mut [u32],
+)
+    requires { ⌜ (first + 8 ≤ mostSegments) × (length (now apart) ≡ 8) × (length (now bits) ≡ 8) ⌝ }
+    ensures { λ _. ⌜ lanesWithin 0 (now (apart .exit)) ≡ (lanesWithin 0 (now (apart .entry)) && allBelow (from first (commonSameAt (tables (now (genome .entry)) (now (transcript .entry)) (now (letters .entry))))) (first + 8)) ⌝ }
+    ensures { λ _. ⌜ ((k : ℕ) → lanesWithin k (now (bits .exit)) ≡ (lanesWithin k (now (bits .entry)) && allBelow (from first (commonWithinAt k (tables (now (genome .entry)) (now (transcript .entry)) (now (letters .entry))))) (first + 8))) ⌝ }
+{
+    let mut k = 0;
+    while k < LANES {
+        let i = first + k;
+        let before = Lane {
+            apart: apart[k],
+            bits: bits[k],
+        };
+        let after = lane_on(
+            before,
+            letters[i],
+            genome[i],
+            genome[i + 1],
+            transcript[i],
+            transcript[i + 1],
+        );
+        apart[k] = after.apart;
+        bits[k] = after.bits;
+        k += 1;
+    }
+}
+
+// All bits of the lanes together.
+fn all_bits(lanes: &[u32; LANES]) -> u32
+    ensures { λ r. ⌜ ((k : ℕ) → within k r ≡ lanesWithin k (now (lanes .entry))) ⌝ }
 {
     let mut bits = 0;
-    let mut i = first;
-    while i < to {
-        bits = plain_on(bits, letters[i]);
-        i += 1;
+    let mut lane = 0;
+    while lane < LANES {
+        bits = with_bits(bits, lanes[lane]);
+        lane += 1;
     }
-    bits < 2
+    bits
+}
+
+// The smaller of two numbers.
+fn at_most(a: usize, b: usize) -> usize
+    ensures { λ r. ⌜ r ≡ cond (ltb a b) a b ⌝ }
+{
+    if a < b { a } else { b }
+}
+
+// What all segments show, whose letters are common, by blocks of a segment a lane. The last block overlaps the one before it: each begins at a minimum,
+// so that the compiler takes a block whole and does not mix the segments of several.
+fn common_lanes(
+    genome: &[u32; MOST_STARTS],
+    transcript: &[u32; MOST_STARTS],
+    letters: &[u8; MOST_SEGMENTS],
+    count: usize,
+) -> Seen
+    requires { ⌜ (8 ≤ count) × (count ≤ mostSegments) ⌝ }
+    ensures { λ r. ⌜ r .same ≡ allBelow (commonSameAt (tables (now (genome .entry)) (now (transcript .entry)) (now (letters .entry)))) count ⌝ }
+    ensures { λ r. ⌜ ((k : ℕ) → within k (r .bits) ≡ allBelow (commonWithinAt k (tables (now (genome .entry)) (now (transcript .entry)) (now (letters .entry)))) count) ⌝ }
+{
+    let mut apart = [0u32; LANES];
+    let mut bits = [0u32; LANES];
+    let last = count - LANES;
+    let mut done = 0;
+    while done < count {
+        let first = at_most(done, last);
+        lanes_on(genome, transcript, letters, first, &mut apart, &mut bits);
+        done = first + LANES;
+    }
+    let same = all_bits(&apart) == 0;
+    let bits = all_bits(&bits);
+    Seen { same, bits }
 }
 
 // 0 where the flag is true, else x.
@@ -279,7 +362,7 @@ fn unless_byte(flag: bool, x: u8) -> u8
     if flag { 0 } else { x }
 }
 
-// The same bits where = and X count as an M.
+// The bits that letters have above an M's number, with one letter more, where = and X count as an M: an N has the lowest, and any other letter has more.
 fn common_letter_on(bits: u8, letter: u8) -> u8
     ensures { λ r. ⌜ within 1 r ≡ (within 1 bits && isCommon letter) ⌝ }
 {
@@ -299,17 +382,6 @@ fn many_common_in(letters: &[u8; MOST_SEGMENTS], first: usize, to: usize) -> boo
         i += 1;
     }
     bits < 2
-}
-
-// Whether all letters are M and N, which is seen at less cost than that all are common. The last block comes first: where it has another letter, the others need no look.
-fn all_plain(letters: &[u8; MOST_SEGMENTS], count: usize) -> bool
-    requires { ⌜ (16 ≤ count) × (count ≤ mostSegments) ⌝ }
-    ensures { λ r. ⌜ r ≡ allBelow (plainAt (now (letters .entry))) count ⌝ }
-{
-    if plain_in(letters, count - 16, count) {
-        return plain_in(letters, 0, count - count % 16);
-    }
-    false
 }
 
 // Whether there are 8 letters at least and all are common, by blocks too. The last block comes first: where it has another letter, which most tables with one show, the others need no look.
@@ -335,16 +407,13 @@ fn all_common(letters: &[u8; MOST_SEGMENTS], count: usize) -> bool
         let back = common_in(letters, count - 32, count);
         return front & back;
     }
-    if all_plain(letters, count) {
-        return true;
-    }
     if many_common_in(letters, count - 16, count) {
         return many_common_in(letters, 0, count - count % 16);
     }
     false
 }
 
-// What all segments show, whose letters are common: whole blocks of 8 and an overlapping last one.
+// What all segments show, whose letters are common: two blocks of 8 that overlap, or lanes.
 fn common_steps(
     genome: &[u32; MOST_STARTS],
     transcript: &[u32; MOST_STARTS],
@@ -360,9 +429,7 @@ fn common_steps(
         let back = common_steps_in(genome, transcript, letters, count - 8, count);
         return both_seen(front, back);
     }
-    let front = common_steps_in(genome, transcript, letters, 0, count - count % 8);
-    let back = common_steps_in(genome, transcript, letters, count - 8, count);
-    both_seen(front, back)
+    common_lanes(genome, transcript, letters, count)
 }
 
 // Whether both tables begin at 0. It is asked last: an entry that is at hand before a loop is woven into it at a cost.

@@ -6,7 +6,6 @@ use mathlib.Core.Path.{sym, ap₂, _∙_}
 use borrow.Author.Needs.{needs}
 use borrow.Author.Tests.{le-leb, lt-leb}
 use Rattle.together.proofs.All.{stretched, later-passes, later-fails}
-use Rattle.together.proofs.Deciding.{plains-common}
 use Rattle.together.proofs.all_common.Statement.{statement}
 use Rattle.together.proofs.all_common.Tie as tie
 
@@ -22,24 +21,18 @@ returns-3 c = rw (le-leb 8 (c .before .before .before .before .before .args .cou
 returns-4 : tie.Need-returns-4
 returns-4 c = rw (le-leb 8 (c .before .before .before .before .before .before .args .count) (omega arith)) (ap₂ _&&_ (c .before .common-in5 .ensures) (c .common-in6 .ensures) ∙ stretched _ _ _ _ (omega arith) (omega arith))
 
+-- the last block decides whether the others are looked at
 returns-5 : tie.Need-returns-5
 returns-5 c =
-    let a = c .before .before .before .before .before .before .args in
-    rw (le-leb 8 (a .count) (omega arith))
-    (sym (plains-common (a .letters .now) (a .count) (sym (c .before .all-plain .ensures) ∙ c .if5 .taken)))
-
--- the last block decides whether the others are looked at
-returns-6 : tie.Need-returns-6
-returns-6 c =
-    let back = sym (c .before .before .many-common-in .ensures) ∙ c .before .if6 .taken in
-    rw (le-leb 8 (c .before .before .before .before .before .before .before .before .before .args .count) (omega arith))
+    let back = sym (c .before .before .many-common-in .ensures) ∙ c .before .if5 .taken in
+    rw (le-leb 8 (c .before .before .before .before .before .before .before .args .count) (omega arith))
     (c .many-common-in2 .ensures ∙ later-passes _ _ _ _ (omega arith) (omega arith) back)
 
-returns-7 : tie.Need-returns-7
-returns-7 c =
-    let n = c .before .before .before .before .before .before .before .before .args .count in
+returns-6 : tie.Need-returns-6
+returns-6 c =
+    let n = c .before .before .before .before .before .before .args .count in
     rw (le-leb 8 n (omega arith))
-    (later-fails _ (n - n % 16) (n - 16) n (omega arith) (omega arith) (sym (c .before .many-common-in .ensures) ∙ c .if6 .left))
+    (later-fails _ (n - n % 16) (n - 16) n (omega arith) (omega arith) (sym (c .before .many-common-in .ensures) ∙ c .if5 .left))
 
 pub all-common-spec : {M : Type 1} → statement M
 all-common-spec =
@@ -56,9 +49,7 @@ all-common-spec =
     (λ c κs. search needs)
     returns-4
     (λ c κs. search needs)
-    returns-5
-    (λ c κs. search needs)
     (λ c. search needs)
     (λ c κs. search needs)
-    returns-6
-    returns-7)
+    returns-5
+    returns-6)

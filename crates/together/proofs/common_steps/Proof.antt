@@ -16,12 +16,7 @@ returns c =
     )
 
 returns-2 : tie.Need-returns-2
-returns-2 c =
-    let front = c .before .before .common-steps-in3 .ensures in
-    let back = c .before .common-steps-in4 .ensures in (
-      c .both-seen2 .ensures .0 ∙ ap₂ _&&_ (front .0) (back .0) ∙ stretched _ _ _ _ (omega arith) (omega arith),
-      λ k. c .both-seen2 .ensures .1 k ∙ ap₂ _&&_ (front .1 k) (back .1 k) ∙ stretched _ _ _ _ (omega arith) (omega arith),
-    )
+returns-2 c = c .common-lanes .ensures
 
 pub common-steps-spec : {M : Type 1} → statement M
 common-steps-spec =
@@ -32,9 +27,5 @@ common-steps-spec =
     (λ c κs. search needs)
     (λ c κs. search needs)
     returns
-    (λ c. search needs)
-    (λ c κs. search needs)
-    (λ c. search needs)
-    (λ c κs. search needs)
     (λ c κs. search needs)
     returns-2)

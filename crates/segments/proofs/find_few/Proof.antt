@@ -7,8 +7,8 @@ use mir.Syntax.{w64}
 use mir.Val.{toZ}
 use Rattle.whole.specs.laws.Whole.{read}
 use Rattle.segments.proofs.Halving.{Bracket, bracket-all, bracket-down, bracket-up, bracket-done}
-use Rattle.segments.proofs.find.Statement.{statement}
-use Rattle.segments.proofs.find.Tie as tie
+use Rattle.segments.proofs.find_few.Statement.{statement}
+use Rattle.segments.proofs.find_few.Tie as tie
 
 abbrev Inv-loop : tie.InvT-loop
 Inv-loop starts count p low₀ high₀ low high = Bracket starts count (toZ w64 p) low high
@@ -45,8 +45,8 @@ returns c =
     let p = read (c .before .before .fits .p) in
     (omega (arith, b .ordered, b .within), simp p at (bracket-done b (c .loop-test .left)))
 
-pub find-spec : {M : Type 1} → statement M
-find-spec =
+pub find-few-spec : {M : Type 1} → statement M
+find-few-spec =
     tie.close
     (tie.spec
     Inv-loop
