@@ -37,6 +37,7 @@ pub fn run<P: Port>(judge: &mut Judge<P>, seed: u64, count: u64) {
                 judge.build_length(draw::number(&mut rng), bounds[0], bounds[1])
             }
             1 => judge.build_length(rng.gen_range(0..20), Some(rng.gen_range(0..4)), Some(rng.gen_range(3..20))),
+            2 if rng.gen_ratio(1, 5) => judge.build(&draw::long(&mut rng)),
             _ => judge.build(&draw::case(&mut rng)),
         };
         calls += 1;

@@ -145,6 +145,18 @@ pub fn whole<R: Rng>(rng: &mut R) -> Case {
         50..=449 => (rng.gen_range(4..=9), 5, 12),
         _ => (rng.gen_range(1..=3), 6, 5),
     };
+    of_records(rng, strand, count, most_elements, largest)
+}
+
+/// The same with so many records that its segments come to between some hundred and the most, so that a place is looked for among few and among many.
+pub fn long<R: Rng>(rng: &mut R) -> Case {
+    let strand = if rng.gen() { 1 } else { -1 };
+    let count = if rng.gen() { rng.gen_range(30..=90) } else { rng.gen_range(90..=512) };
+    of_records(rng, strand, count, 4, 9)
+}
+
+/// A transcript of so many records, with CIGARs of up to so many elements and counts up to a largest.
+fn of_records<R: Rng>(rng: &mut R, strand: i32, count: i32, most_elements: usize, largest: i64) -> Case {
     let (spanning, matching) = (rng.gen_ratio(5, 6), rng.gen_ratio(2, 3));
     let largest_gap = *[0, 3, 9, 1000].choose(rng).expect("not empty");
     let mut at = match rng.gen_range(0..10) {
@@ -707,4 +719,26 @@ pub fn recording<R: Rng>(rng: &mut R, source: &Source) -> (Vec<u8>, usize) {
         used
     };
     (log, used)
+}
+
+#[cfg(test)]
+mod tests {
+    use super::*;
+    use rand::SeedableRng;
+    use rand_xorshift::XorShiftRng;
+
+    /// Few are up to 256 for the finders.
+    #[test]
+    fn long_transcripts_have_few_segments_and_many() {
+        let mut rng = XorShiftRng::seed_from_u64(1);
+        let mut counts = Vec::new();
+        for _ in 0..200 {
+            let case = long(&mut rng);
+            if let Ok(built) = paper::build(case.laid(&case.lay())) {
+                counts.push(built.letters.len());
+            }
+        }
+        let few = counts.iter().filter(|&&count| count <= 256).count();
+        assert!(few >= 10 && counts.len() - few >= 50, "{few} of {}", counts.len());
+    }
 }
