@@ -79,7 +79,8 @@ fn second_half(end: u32, p: i64, low: usize, half: usize) -> usize
     if is_above(end, p) { low } else { second }
 }
 
-// The same of many segments, where there is no guessing: every question halves as often as the most segments need, and takes a half without a jump.
+// The same of many segments, where there is no guessing: every question halves as often as the most segments need, and takes a half without a jump. A place before all is told apart, though
+// the halving would find it too: the jump keeps the compiler from weaving all this into every question about few segments.
 fn find_many(starts: &[u32; MOST_STARTS], count: usize, p: i64) -> usize
     requires { ⌜ (1 ≤ count) × (count ≤ mostSegments) ⌝ }
     requires { ⌜ Rising (now starts) count ⌝ }

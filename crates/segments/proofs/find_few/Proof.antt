@@ -1,7 +1,7 @@
 -- The loop keeps the segment sought between `low` and `high` (`Bracket`), and one is left in the end. A signed number stands in an invariant as its bits, so p is `toZ w64 p` there. Assumes nothing.
 use Prim.Native.Nat.{_-_}
 use native.Mathlib.Omega.{arith}
-use mathlib.Core.Path.{_≡_, sym, _∙_}
+use mathlib.Core.Path.{sym, _∙_}
 use borrow.Author.Needs.{needs}
 use mir.Syntax.{w64}
 use mir.Val.{toZ}

@@ -1,6 +1,5 @@
 -- The loop keeps the segment sought among those that are left (`Left`), of which there is one once the most segments would be halved down to one. A signed number stands in an invariant as its bits, so p is `toZ w64 p` there. Assumes nothing.
 use native.Mathlib.Omega.{arith}
-use mathlib.Core.Path.{_≡_, sym, _∙_}
 use borrow.Author.Needs.{needs}
 use mir.Syntax.{w64}
 use mir.Val.{toZ}

@@ -1,7 +1,7 @@
 -- Two stretches that overlap make one (`stretched`), of the flag and of the bits alike. Assumes nothing.
 use native.Mathlib.Omega.{arith}
 use mathlib.Core.Bool.{_&&_}
-use mathlib.Core.Path.{_≡_, ap₂, _∙_}
+use mathlib.Core.Path.{ap₂, _∙_}
 use borrow.Author.Needs.{needs}
 use Rattle.together.proofs.All.{stretched}
 use Rattle.together.proofs.common_steps.Statement.{statement}
