@@ -1,156 +1,124 @@
+-- `telling::c_to_g` meets its contract: what is lent is known once. A lone base is answered by its spot, any other interval as c. to n. and then n. to g. say, and a length alone is 18 after the first step. Assumes nothing.
+use mathlib.Core.Path.{_≡_, sym, ap, _∙_}
+use Rattle.whole.specs.laws.Whole.{read}
+use Rattle.holding.specs.Holding.{lent}
+use Rattle.coding.specs.laws.Same.{same-says}
+use Rattle.layout.specs.Layout.{gLaid, laid}
+use Rattle.mapper.specs.Asking.{askCToG, askCToN, askNToG}
+use Rattle.mapper.specs.Knowing.{knownOf}
+use Rattle.mapper.specs.declared.knowing.Known.the-variants as known
+use Rattle.mapper.specs.laws.Known.{known-lies, natural-bounds, lying-c-to-g, ask-length, ask-broken}
+use Rattle.telling.proofs.Ways.{one-name}
 use borrow.Author.Needs.{needs}
 use Rattle.telling.proofs.c_to_g.Statement.{statement}
 use Rattle.telling.proofs.c_to_g.Tie as tie
-use Rattle.telling.proofs.c_to_g.Reads as reads
-use Rattle.telling.proofs.c_to_g.Lts as lts
-use Rattle.coding.proofs.is_same.Reads as is-same-reads
-use Rattle.layout.proofs.lay.lay_g.Reads as lay-g-reads
-use Rattle.layout.proofs.lay.refusal_of.Reads as refusal-of-reads
-use Rattle.layout.proofs.take.c_asked.Reads as c-asked-reads
-use Rattle.mapper.proofs.knowing.alignment.Reads as alignment-reads
-use Rattle.mapper.proofs.knowing.coding_of.Reads as coding-of-reads
-use Rattle.mapper.proofs.knowing.known_of.Reads as known-of-reads
-use Rattle.mapper.proofs.steps.c_to_n.Reads as c-to-n-reads
-use Rattle.mapper.proofs.steps.then_n_to_g.Reads as then-n-to-g-reads
-use Rattle.mapper.proofs.steps.then_no_genome.Reads as then-no-genome-reads
-use Rattle.places.proofs.last.Reads as last-reads
-use Rattle.telling.proofs.lone_c.Reads as lone-c-reads
-use Rattle.telling.proofs.sure_g.Reads as sure-g-reads
 
--- src/lib.rt:233:11
-known-of-requires : tie.Need-known-of-requires
-known-of-requires c κs = search needs
+-- what is lent, and how it lies
+known-is : (p : tie.After-at) →
+    let a = p .before .before .before .args in
+    knownOf (lent (a .head) (a .genome .now) (a .transcript .now) (a .letters .now) (a .exons .now)) ≡ known.Aligned (p .at .given .0 .0) (p .at .given .0 .1 .0)
+known-is p = sym (p .before .before .known-of .ensures) ∙ p .at .given .1
 
--- src/lib.rt:234:24
-enum-known-at : tie.Need-enum-known-at
-enum-known-at c = search needs
-
--- src/lib.rt:235:32
-enum-known-cds : tie.Need-enum-known-cds
-enum-known-cds c = search needs
-
--- src/lib.rt:236:20
-is-same-requires : tie.Need-is-same-requires
-is-same-requires c κs = search needs
-
--- src/lib.rt:237:25
 lone-c-requires : tie.Need-lone-c-requires
-lone-c-requires c κs = search needs
+lone-c-requires c κs = known-lies _ _ _ (known-is (c .before .before .before .before .before .before)) .sound
 
--- src/lib.rt:238:39
-enum-known-lone : tie.Need-enum-known-lone
-enum-known-lone c = search needs
-
--- src/lib.rt:239:25
 sure-g-requires : tie.Need-sure-g-requires
-sure-g-requires c κs = search needs
+sure-g-requires c κs =
+    let l = c .before .before .before in
+    let (small, on) = rw (c .before .lone .given .1) at (l .lone-c .ensures .1) in
+    (known-lies _ _ _ (known-is (l .before .before .before .before .before .before .before)) .sound .count-to, small, on)
 
--- src/lib.rt:239:25
 returns : tie.Need-returns
-returns c = search needs
+returns c =
+    let m = c .before .before in
+    let l = m .before .before in
+    let t = l .before in
+    let d = t .before .before .before in
+    let p = d .before .before .before in
+    let s = p .before .before .before in
+    let same = simp (read (s .fits .start), read (s .fits .«start-offset»), read (s .fits .end), read (s .fits .«end-offset»)) at (t .before .is-same .ensures) in
+    let spot = rw (m .lone .given .1) at (simp (read (s .fits .start), read (s .fits .«start-offset»)) at (l .lone-c .ensures .0)) in
+    simp (read (s .fits .«start-offset»)) at (c .sure-g .ensures)
+    ∙ ap (laid gLaid) (sym (one-name _ _ _ (known-is p) _ _ _ _ _ _ (d .cds .given .1) (same-says _ _ (sym same ∙ t .if1 .taken)) spot))
 
-enum-told : tie.Need-enum-told
-enum-told c = search needs
-
-enum-told-2 : tie.Need-enum-told-2
-enum-told-2 c = search needs
-
--- src/lib.rt:243:17
 alignment-requires : tie.Need-alignment-requires
-alignment-requires c κs = search needs
+alignment-requires c κs = known-lies _ _ _ (known-is (c .before .before)) .head
 
--- src/lib.rt:245:17
+at-is : (c : tie.After-alignment) → c .alignment .result ≡ c .before .before .before .at .given .0 .0
+at-is c = c .alignment .ensures ∙ known-lies _ _ _ (known-is (c .before .before .before)) .at
+
 last-requires : tie.Need-last-requires
-last-requires c κs = search needs
+last-requires c κs = rw (at-is c) (known-lies _ _ _ (known-is (c .before .before .before)) .sound .count-to)
 
--- src/lib.rt:246:17
-c-asked-requires : tie.Need-c-asked-requires
-c-asked-requires c κs = search needs
-
--- src/lib.rt:247:40
 coding-of-requires : tie.Need-coding-of-requires
-coding-of-requires c κs = search needs
+coding-of-requires c κs = natural-bounds _ (known-lies _ _ _ (known-is (c .before .before .before .before .before)) .held)
 
--- src/lib.rt:247:17
-c-to-n-requires : tie.Need-c-to-n-requires
-c-to-n-requires c κs = search needs
-
--- src/lib.rt:248:24
 then-n-to-g-requires : tie.Need-then-n-to-g-requires
-then-n-to-g-requires c κs = search needs
+then-n-to-g-requires c κs =
+    let m = c .before .before .before .before in
+    rw (at-is m) (known-lies _ _ _ (known-is (m .before .before .before)) .sound)
 
--- src/lib.rt:248:13
-lay-g-requires : tie.Need-lay-g-requires
-lay-g-requires c κs = search needs
-
--- src/lib.rt:250:25
-enum-known-length : tie.Need-enum-known-length
-enum-known-length c = search needs
-
--- src/lib.rt:251:17
-c-asked-requires-2 : tie.Need-c-asked-requires-2
-c-asked-requires-2 c κs = search needs
-
--- src/lib.rt:252:46
-c-to-n-requires-2 : tie.Need-c-to-n-requires-2
-c-to-n-requires-2 c κs = search needs
-
--- src/lib.rt:252:24
-then-no-genome-requires : tie.Need-then-no-genome-requires
-then-no-genome-requires c κs = search needs
-
--- src/lib.rt:252:13
-lay-g-requires-2 : tie.Need-lay-g-requires-2
-lay-g-requires-2 c κs = search needs
-
--- src/lib.rt:254:26
-enum-told-3 : tie.Need-enum-told-3
-enum-told-3 c = search needs
-
--- src/lib.rt:254:26
-refusal-of-requires : tie.Need-refusal-of-requires
-refusal-of-requires c κs = search needs
-
--- src/lib.rt:207:1
 returns-2 : tie.Need-returns-2
-returns-2 c = search needs
+returns-2 c =
+    let t = c .before in
+    let n = t .before in
+    let d = n .before in
+    let q = d .before in
+    let l = q .before in
+    let p = l .before .before .before .before in
+    let s = p .before .before .before in
+    let asked = simp (read (s .fits .start), read (s .fits .«start-offset»), read (s .fits .end), read (s .fits .«end-offset»)) at (q .c-asked .ensures) in
+    let long = simp (at-is (l .before)) at (l .last .ensures) in
+    let coding = d .coding-of .ensures ∙ known-lies _ _ _ (known-is p) .cds in
+    let first = simp (long, coding, asked) at (n .c-to-n .ensures) in
+    c .lay-g .ensures ∙ ap (laid gLaid) (simp (first, at-is (l .before)) at (t .then-n-to-g .ensures) ∙ sym (lying-c-to-g _ _ _ (known-is p) _ _))
 
--- src/lib.rt:207:1
 returns-3 : tie.Need-returns-3
-returns-3 c = search needs
+unfolding askCToG askCToN askNToG
+returns-3 c =
+    let t = c .before in
+    let n = t .before in
+    let q = n .before in
+    let p = q .before .before in
+    let s = p .before .before .before in
+    let asked = simp (read (s .fits .start), read (s .fits .«start-offset»), read (s .fits .end), read (s .fits .«end-offset»)) at (q .c-asked2 .ensures) in
+    let first = simp asked at (n .c-to-n2 .ensures) in
+    c .lay-g2 .ensures
+    ∙ ap (laid gLaid) (rw first at (t .then-no-genome .ensures) ∙ sym (ask-length _ _ (sym (p .before .before .known-of .ensures) ∙ p .length .given .1)))
 
--- src/lib.rt:207:1
 returns-4 : tie.Need-returns-4
-returns-4 c = search needs
+returns-4 c =
+    let m = c .before in
+    c .refusal-of .ensures ∙ ap (laid gLaid) (sym (ask-broken _ _ (sym (m .before .before .known-of .ensures) ∙ m .enum-told3 .given .1)))
 
 pub c-to-g-spec : {M : Type 1} → statement M
 c-to-g-spec =
     tie.close
     (tie.spec
-    known-of-requires
-    enum-known-at
-    enum-known-cds
-    is-same-requires
+    (λ c κs. search needs)
+    (λ c. search needs)
+    (λ c. search needs)
+    (λ c κs. search needs)
     lone-c-requires
-    enum-known-lone
+    (λ c. search needs)
     sure-g-requires
     returns
-    enum-told
-    enum-told-2
+    (λ c. search needs)
+    (λ c. search needs)
     alignment-requires
     last-requires
-    c-asked-requires
+    (λ c κs. search needs)
     coding-of-requires
-    c-to-n-requires
+    (λ c κs. search needs)
     then-n-to-g-requires
-    lay-g-requires
-    enum-known-length
-    c-asked-requires-2
-    c-to-n-requires-2
-    then-no-genome-requires
-    lay-g-requires-2
-    enum-told-3
-    refusal-of-requires
+    (λ c κs. search needs)
+    (λ c. search needs)
+    (λ c κs. search needs)
+    (λ c κs. search needs)
+    (λ c κs. search needs)
+    (λ c κs. search needs)
+    (λ c. search needs)
+    (λ c κs. search needs)
     returns-2
     returns-3
     returns-4)

@@ -1,159 +1,149 @@
+-- `telling::g_to_c` meets its contract: what is lent is known once. A lone base is answered by its spot, any other interval as g. to n. and then n. to c. say, and a missing end is 19. Assumes nothing.
+use mathlib.Core.Path.{_≡_, sym, ap, _∙_}
+use lib.IntN.{ℤ}
+use mir.Syntax.{w32}
+use mir.Val.{toZ, ofZ}
+use Rattle.whole.specs.laws.Whole.{read, told}
+use Rattle.refusals.specs.Outcome.{answered}
+use Rattle.holding.specs.Holding.{lent}
+use Rattle.layout.specs.Layout.{cLaid, laid, gAsked}
+use Rattle.mapper.specs.Asking.{given, askGToC, askGToN}
+use Rattle.mapper.specs.Knowing.{knownOf, paperGiven}
+use Rattle.mapper.specs.declared.knowing.Known.the-variants as known
+use Rattle.mapper.specs.laws.Known.{known-lies, natural-bounds, ask-length, ask-broken}
+use Rattle.telling.proofs.Ways.{c-by-ends, one-base-c}
 use borrow.Author.Needs.{needs}
 use Rattle.telling.proofs.g_to_c.Statement.{statement}
 use Rattle.telling.proofs.g_to_c.Tie as tie
-use Rattle.telling.proofs.g_to_c.Reads as reads
-use Rattle.telling.proofs.g_to_c.Lts as lts
-use Rattle.layout.proofs.lay.lay_c.Reads as lay-c-reads
-use Rattle.layout.proofs.lay.refusal_of.Reads as refusal-of-reads
-use Rattle.layout.proofs.take.g_asked.Reads as g-asked-reads
-use Rattle.mapper.proofs.knowing.alignment.Reads as alignment-reads
-use Rattle.mapper.proofs.knowing.coding_of.Reads as coding-of-reads
-use Rattle.mapper.proofs.knowing.known_of.Reads as known-of-reads
-use Rattle.mapper.proofs.steps.both_ends.Reads as both-ends-reads
-use Rattle.mapper.proofs.steps.then_n_to_c.Reads as then-n-to-c-reads
-use Rattle.places.proofs.last.Reads as last-reads
-use Rattle.places.proofs.lone_g.Reads as lone-g-reads
-use Rattle.places.proofs.to_n.Reads as to-n-reads
-use Rattle.telling.proofs.sure_c.Reads as sure-c-reads
 
--- src/lib.rt:139:11
-known-of-requires : tie.Need-known-of-requires
-known-of-requires c κs = search needs
+-- the ends that the question gives
+ends-are : (c : tie.After-both-ends) →
+    let a = c .before .before .before .before .before .before .args in
+    paperGiven (c .both-ends .result) ≡ given (gAsked (a .start) (a .end) (a .missing))
+ends-are c =
+    let s = c .before .before .before .before .before .before in
+    c .both-ends .ensures ∙ ap given (simp (read (s .fits .start), read (s .fits .end)) at (c .before .g-asked .ensures))
 
--- src/lib.rt:140:24
-enum-known-at : tie.Need-enum-known-at
-enum-known-at c = search needs
+both-are : (c : tie.After-known-told2) →
+    let p = c .before in
+    let a = p .before .before .before .before .before .before .before .before .args in
+    answered (record { from = p .from .given .0 .0; to = p .from .given .0 .1 .0 }) ≡ given (gAsked (a .start) (a .end) (a .missing))
+both-are c = rw (c .before .from .given .1) at (ends-are (c .before .before .before))
 
--- src/lib.rt:140:59
-g-asked-requires : tie.Need-g-asked-requires
-g-asked-requires c κs = search needs
+-- what is lent, and how it lies
+known-is : (p : tie.After-at) →
+    let a = p .before .before .before .args in
+    knownOf (lent (a .head) (a .genome .now) (a .transcript .now) (a .letters .now) (a .exons .now)) ≡ known.Aligned (p .at .given .0 .0) (p .at .given .0 .1 .0)
+known-is p = sym (p .before .before .known-of .ensures) ∙ p .at .given .1
 
--- src/lib.rt:140:42
-both-ends-requires : tie.Need-both-ends-requires
-both-ends-requires c κs = search needs
+abbrev at-from : tie.After-known-told2 → tie.After-at
+at-from c = c .before .before .before .before .before .before
 
--- src/lib.rt:141:25
-enum-known-from : tie.Need-enum-known-from
-enum-known-from c = search needs
-
--- src/lib.rt:142:36
-enum-known-cds : tie.Need-enum-known-cds
-enum-known-cds c = search needs
-
--- src/lib.rt:144:29
 lone-g-requires : tie.Need-lone-g-requires
-lone-g-requires c κs = search needs
+lone-g-requires c κs = known-lies _ _ _ (known-is (at-from (c .before .before .before .before))) .sound
 
--- src/lib.rt:145:43
-enum-known-lone : tie.Need-enum-known-lone
-enum-known-lone c = search needs
-
--- src/lib.rt:146:29
 sure-c-requires : tie.Need-sure-c-requires
-sure-c-requires c κs = search needs
+sure-c-requires c κs =
+    let l = c .before .before .before in
+    let (small, on) = rw (c .before .lone .given .1) at (l .lone-g .ensures .1) in
+    (known-lies _ _ _ (known-is (at-from (l .before .before .before .before .before))) .sound .count-to, small, on)
 
--- src/lib.rt:146:29
+-- the ends as they were read, which fit 32 bits
+from-is : (c : tie.After-known-told2) → _≡_ {A = ℤ} (toZ w32 (ofZ w32 (c .before .from .given .0 .0))) (c .before .from .given .0 .0)
+from-is c = told w32 (c .before .from .given .0 .0) (c .known-told2 .given .0 .1)
+
+to-is : (c : tie.After-known-told2) → _≡_ {A = ℤ} (toZ w32 (ofZ w32 (c .before .from .given .0 .1 .0))) (c .before .from .given .0 .1 .0)
+to-is c = told w32 (c .before .from .given .0 .1 .0) (c .known-told2 .given .1 .0 .1)
+
 returns : tie.Need-returns
-returns c = search needs
+returns c =
+    let m = c .before .before in
+    let l = m .before .before in
+    let d = l .before .before .before in
+    let e = d .before .before in
+    let from = from-is e in
+    let to = to-is e in
+    let bits = l .before .if1 .taken in
+    let one : e .before .from .given .0 .0 ≡ e .before .from .given .0 .1 .0 = cc in
+    let spot = rw (m .lone .given .1) at (simp from at (l .lone-g .ensures .0)) in
+    c .sure-c .ensures ∙ ap (laid cLaid) (sym (one-base-c _ _ _ (known-is (at-from e)) _ _ _ _ _ _ _ (both-are e) one (d .cds .given .1) spot))
 
-enum-told : tie.Need-enum-told
-enum-told c = search needs
-
-enum-told-2 : tie.Need-enum-told-2
-enum-told-2 c = search needs
-
--- src/lib.rt:150:21
 alignment-requires : tie.Need-alignment-requires
-alignment-requires c κs = search needs
+alignment-requires c κs = known-lies _ _ _ (known-is (at-from (c .before))) .head
 
--- src/lib.rt:152:21
+at-is : (c : tie.After-alignment) → c .alignment .result ≡ at-from (c .before .before) .at .given .0 .0
+at-is c = c .alignment .ensures ∙ known-lies _ _ _ (known-is (at-from (c .before .before))) .at
+
 last-requires : tie.Need-last-requires
-last-requires c κs = search needs
+last-requires c κs = rw (at-is c) (known-lies _ _ _ (known-is (at-from (c .before .before))) .sound .count-to)
 
--- src/lib.rt:153:21
 to-n-requires : tie.Need-to-n-requires
-to-n-requires c κs = search needs
+to-n-requires c κs =
+    let m = c .before in
+    rw (at-is m) (known-lies _ _ _ (known-is (at-from (m .before .before))) .sound)
 
--- src/lib.rt:163:58
 coding-of-requires : tie.Need-coding-of-requires
-coding-of-requires c κs = search needs
+coding-of-requires c κs = natural-bounds _ (known-lies _ _ _ (known-is (at-from (c .before .before .before .before))) .held)
 
--- src/lib.rt:163:28
-then-n-to-c-requires : tie.Need-then-n-to-c-requires
-then-n-to-c-requires c κs = search needs
-
--- src/lib.rt:163:17
-lay-c-requires : tie.Need-lay-c-requires
-lay-c-requires c κs = search needs
-
--- src/lib.rt:165:31
-enum-told-3 : tie.Need-enum-told-3
-enum-told-3 c = search needs
-
--- src/lib.rt:165:31
-refusal-of-requires : tie.Need-refusal-of-requires
-refusal-of-requires c κs = search needs
-
--- src/lib.rt:167:34
-enum-told-4 : tie.Need-enum-told-4
-enum-told-4 c = search needs
-
--- src/lib.rt:167:34
-refusal-of-requires-2 : tie.Need-refusal-of-requires-2
-refusal-of-requires-2 c κs = search needs
-
--- src/lib.rt:168:26
-enum-told-5 : tie.Need-enum-told-5
-enum-told-5 c = search needs
-
--- src/lib.rt:168:26
-refusal-of-requires-3 : tie.Need-refusal-of-requires-3
-refusal-of-requires-3 c κs = search needs
-
--- src/lib.rt:126:1
 returns-2 : tie.Need-returns-2
-returns-2 c = search needs
+returns-2 c =
+    let s = c .before in
+    let d = s .before in
+    let t = d .before in
+    let l = t .before in
+    let e = l .before .before .before in
+    let k = known-is (at-from e) in
+    let n = simp (at-is (l .before), from-is e, to-is e) at (t .to-n .ensures) in
+    let long = simp (at-is (l .before)) at (l .last .ensures) in
+    let coding = d .coding-of .ensures ∙ known-lies _ _ _ k .cds in
+    c .lay-c .ensures ∙ ap (laid cLaid) (simp (n, long, coding) at (s .then-n-to-c .ensures) ∙ sym (c-by-ends _ _ _ k _ _ _ (both-are e)))
 
--- src/lib.rt:126:1
 returns-3 : tie.Need-returns-3
-returns-3 c = search needs
+returns-3 c =
+    let m = c .before in
+    let b = m .before .before in
+    let p = b .before .before .before in
+    c .refusal-of .ensures ∙ ap (laid cLaid) (sym (c-by-ends _ _ _ (known-is p) _ _ _ (rw (m .enum-told3 .given .1) at (ends-are b))))
 
--- src/lib.rt:126:1
 returns-4 : tie.Need-returns-4
-returns-4 c = search needs
+unfolding askGToC askGToN
+returns-4 c =
+    let m = c .before in
+    c .refusal-of2 .ensures ∙ ap (laid cLaid) (sym (ask-length _ _ (sym (m .before .before .known-of .ensures) ∙ m .enum-told4 .given .1)))
 
--- src/lib.rt:126:1
 returns-5 : tie.Need-returns-5
-returns-5 c = search needs
+returns-5 c =
+    let m = c .before in
+    c .refusal-of3 .ensures ∙ ap (laid cLaid) (sym (ask-broken _ _ (sym (m .before .before .known-of .ensures) ∙ m .enum-told5 .given .1)))
 
 pub g-to-c-spec : {M : Type 1} → statement M
 g-to-c-spec =
     tie.close
     (tie.spec
-    known-of-requires
-    enum-known-at
-    g-asked-requires
-    both-ends-requires
-    enum-known-from
-    enum-known-cds
+    (λ c κs. search needs)
+    (λ c. search needs)
+    (λ c κs. search needs)
+    (λ c κs. search needs)
+    (λ c. search needs)
+    (λ c. search needs)
     lone-g-requires
-    enum-known-lone
+    (λ c. search needs)
     sure-c-requires
     returns
-    enum-told
-    enum-told-2
+    (λ c. search needs)
+    (λ c. search needs)
     alignment-requires
     last-requires
     to-n-requires
     coding-of-requires
-    then-n-to-c-requires
-    lay-c-requires
-    enum-told-3
-    refusal-of-requires
-    enum-told-4
-    refusal-of-requires-2
-    enum-told-5
-    refusal-of-requires-3
+    (λ c κs. search needs)
+    (λ c κs. search needs)
+    (λ c. search needs)
+    (λ c κs. search needs)
+    (λ c. search needs)
+    (λ c κs. search needs)
+    (λ c. search needs)
+    (λ c κs. search needs)
     returns-2
     returns-3
     returns-4

@@ -1,132 +1,132 @@
+-- `telling::g_to_n` meets its contract: what is lent is known once. A lone base is answered by its spot, any other interval as g. to n. says, and a missing end is 19. Assumes nothing.
+use mathlib.Core.Path.{_≡_, sym, ap, _∙_}
+use lib.IntN.{ℤ}
+use mir.Syntax.{w32}
+use mir.Val.{toZ, ofZ}
+use Rattle.whole.specs.laws.Whole.{read, told}
+use Rattle.refusals.specs.Outcome.{answered}
+use Rattle.holding.specs.Holding.{lent}
+use Rattle.layout.specs.Layout.{nLaid, laid, gAsked}
+use Rattle.mapper.specs.Asking.{given, askGToN}
+use Rattle.mapper.specs.Knowing.{knownOf, paperGiven}
+use Rattle.mapper.specs.declared.knowing.Known.the-variants as known
+use Rattle.mapper.specs.laws.Known.{known-lies, ask-length, ask-broken}
+use Rattle.telling.proofs.Ways.{n-by-ends, one-base}
 use borrow.Author.Needs.{needs}
 use Rattle.telling.proofs.g_to_n.Statement.{statement}
 use Rattle.telling.proofs.g_to_n.Tie as tie
-use Rattle.telling.proofs.g_to_n.Reads as reads
-use Rattle.telling.proofs.g_to_n.Lts as lts
-use Rattle.layout.proofs.lay.lay_n.Reads as lay-n-reads
-use Rattle.layout.proofs.lay.refusal_of.Reads as refusal-of-reads
-use Rattle.layout.proofs.take.g_asked.Reads as g-asked-reads
-use Rattle.mapper.proofs.knowing.alignment.Reads as alignment-reads
-use Rattle.mapper.proofs.knowing.known_of.Reads as known-of-reads
-use Rattle.mapper.proofs.steps.both_ends.Reads as both-ends-reads
-use Rattle.places.proofs.lone_g.Reads as lone-g-reads
-use Rattle.places.proofs.to_n.Reads as to-n-reads
-use Rattle.telling.proofs.sure_n.Reads as sure-n-reads
 
--- src/lib.rt:71:11
-known-of-requires : tie.Need-known-of-requires
-known-of-requires c κs = search needs
+-- the ends that the question gives
+ends-are : (c : tie.After-both-ends) →
+    let a = c .before .before .before .before .before .before .args in
+    paperGiven (c .both-ends .result) ≡ given (gAsked (a .start) (a .end) (a .missing))
+ends-are c =
+    let s = c .before .before .before .before .before .before in
+    c .both-ends .ensures ∙ ap given (simp (read (s .fits .start), read (s .fits .end)) at (c .before .g-asked .ensures))
 
--- src/lib.rt:72:24
-enum-known-at : tie.Need-enum-known-at
-enum-known-at c = search needs
+both-are : (c : tie.After-known-told2) →
+    let p = c .before in
+    let a = p .before .before .before .before .before .before .before .before .args in
+    answered (record { from = p .from .given .0 .0; to = p .from .given .0 .1 .0 }) ≡ given (gAsked (a .start) (a .end) (a .missing))
+both-are c = rw (c .before .from .given .1) at (ends-are (c .before .before .before))
 
--- src/lib.rt:72:57
-g-asked-requires : tie.Need-g-asked-requires
-g-asked-requires c κs = search needs
+-- what is lent, and how it lies
+known-is : (p : tie.After-at) →
+    let a = p .before .before .before .args in
+    knownOf (lent (a .head) (a .genome .now) (a .transcript .now) (a .letters .now) (a .exons .now)) ≡ known.Aligned (p .at .given .0 .0) (p .at .given .0 .1 .0)
+known-is p = sym (p .before .before .known-of .ensures) ∙ p .at .given .1
 
--- src/lib.rt:72:40
-both-ends-requires : tie.Need-both-ends-requires
-both-ends-requires c κs = search needs
+abbrev at-from : tie.After-known-told2 → tie.After-at
+at-from c = c .before .before .before .before .before .before
 
--- src/lib.rt:73:25
-enum-known-from : tie.Need-enum-known-from
-enum-known-from c = search needs
-
--- src/lib.rt:75:25
 lone-g-requires : tie.Need-lone-g-requires
-lone-g-requires c κs = search needs
+lone-g-requires c κs = known-lies _ _ _ (known-is (at-from (c .before))) .sound
 
--- src/lib.rt:76:39
-enum-known-lone : tie.Need-enum-known-lone
-enum-known-lone c = search needs
-
--- src/lib.rt:77:25
 sure-n-requires : tie.Need-sure-n-requires
-sure-n-requires c κs = search needs
+sure-n-requires c κs =
+    let l = c .before .before .before in
+    let (small, on) = rw (c .before .lone .given .1) at (l .lone-g .ensures .1) in
+    (known-lies _ _ _ (known-is (at-from (l .before .before))) .sound .count-to, small, on)
 
--- src/lib.rt:77:25
+-- the ends as they were read, which fit 32 bits
+from-is : (c : tie.After-known-told2) → _≡_ {A = ℤ} (toZ w32 (ofZ w32 (c .before .from .given .0 .0))) (c .before .from .given .0 .0)
+from-is c = told w32 (c .before .from .given .0 .0) (c .known-told2 .given .0 .1)
+
+to-is : (c : tie.After-known-told2) → _≡_ {A = ℤ} (toZ w32 (ofZ w32 (c .before .from .given .0 .1 .0))) (c .before .from .given .0 .1 .0)
+to-is c = told w32 (c .before .from .given .0 .1 .0) (c .known-told2 .given .1 .0 .1)
+
 returns : tie.Need-returns
-returns c = search needs
+returns c =
+    let m = c .before .before in
+    let l = m .before .before in
+    let e = l .before .before in
+    let p = at-from e in
+    let from = from-is e in
+    let to = to-is e in
+    let bits = l .before .if1 .taken in
+    let one : e .before .from .given .0 .0 ≡ e .before .from .given .0 .1 .0 = cc in
+    let spot = rw (m .lone .given .1) at (simp from at (l .lone-g .ensures .0)) in
+    c .sure-n .ensures
+    ∙ ap (laid nLaid) (sym (n-by-ends _ _ _ (known-is p) _ _ _ (both-are e) ∙ one-base _ _ _ (known-is p) _ _ _ _ one spot))
 
-enum-told : tie.Need-enum-told
-enum-told c = search needs
-
--- src/lib.rt:80:21
 alignment-requires : tie.Need-alignment-requires
-alignment-requires c κs = search needs
+alignment-requires c κs = known-lies _ _ _ (known-is (at-from (c .before))) .head
 
--- src/lib.rt:81:21
 to-n-requires : tie.Need-to-n-requires
-to-n-requires c κs = search needs
+to-n-requires c κs =
+    let lies = known-lies _ _ _ (known-is (at-from (c .before .before))) in
+    rw (c .alignment .ensures ∙ lies .at) (lies .sound)
 
--- src/lib.rt:91:17
-lay-n-requires : tie.Need-lay-n-requires
-lay-n-requires c κs = search needs
-
--- src/lib.rt:93:31
-enum-told-2 : tie.Need-enum-told-2
-enum-told-2 c = search needs
-
--- src/lib.rt:93:31
-refusal-of-requires : tie.Need-refusal-of-requires
-refusal-of-requires c κs = search needs
-
--- src/lib.rt:95:34
-enum-told-3 : tie.Need-enum-told-3
-enum-told-3 c = search needs
-
--- src/lib.rt:95:34
-refusal-of-requires-2 : tie.Need-refusal-of-requires-2
-refusal-of-requires-2 c κs = search needs
-
--- src/lib.rt:96:26
-enum-told-4 : tie.Need-enum-told-4
-enum-told-4 c = search needs
-
--- src/lib.rt:96:26
-refusal-of-requires-3 : tie.Need-refusal-of-requires-3
-refusal-of-requires-3 c κs = search needs
-
--- src/lib.rt:58:1
 returns-2 : tie.Need-returns-2
-returns-2 c = search needs
+returns-2 c =
+    let t = c .before in
+    let e = t .before .before .before in
+    let p = at-from e in
+    let at = t .before .alignment .ensures ∙ known-lies _ _ _ (known-is p) .at in
+    c .lay-n .ensures
+    ∙ ap (laid nLaid) (simp (at, from-is e, to-is e) at (t .to-n .ensures) ∙ sym (n-by-ends _ _ _ (known-is p) _ _ _ (both-are e)))
 
--- src/lib.rt:58:1
 returns-3 : tie.Need-returns-3
-returns-3 c = search needs
+returns-3 c =
+    let m = c .before in
+    let b = m .before .before in
+    let p = b .before .before .before in
+    c .refusal-of .ensures ∙ ap (laid nLaid) (sym (n-by-ends _ _ _ (known-is p) _ _ _ (rw (m .enum-told2 .given .1) at (ends-are b))))
 
--- src/lib.rt:58:1
 returns-4 : tie.Need-returns-4
-returns-4 c = search needs
+unfolding askGToN
+returns-4 c =
+    let m = c .before in
+    c .refusal-of2 .ensures ∙ ap (laid nLaid) (sym (ask-length _ _ (sym (m .before .before .known-of .ensures) ∙ m .enum-told3 .given .1)))
 
--- src/lib.rt:58:1
 returns-5 : tie.Need-returns-5
-returns-5 c = search needs
+returns-5 c =
+    let m = c .before in
+    c .refusal-of3 .ensures ∙ ap (laid nLaid) (sym (ask-broken _ _ (sym (m .before .before .known-of .ensures) ∙ m .enum-told4 .given .1)))
 
 pub g-to-n-spec : {M : Type 1} → statement M
 g-to-n-spec =
     tie.close
     (tie.spec
-    known-of-requires
-    enum-known-at
-    g-asked-requires
-    both-ends-requires
-    enum-known-from
+    (λ c κs. search needs)
+    (λ c. search needs)
+    (λ c κs. search needs)
+    (λ c κs. search needs)
+    (λ c. search needs)
     lone-g-requires
-    enum-known-lone
+    (λ c. search needs)
     sure-n-requires
     returns
-    enum-told
+    (λ c. search needs)
     alignment-requires
     to-n-requires
-    lay-n-requires
-    enum-told-2
-    refusal-of-requires
-    enum-told-3
-    refusal-of-requires-2
-    enum-told-4
-    refusal-of-requires-3
+    (λ c κs. search needs)
+    (λ c. search needs)
+    (λ c κs. search needs)
+    (λ c. search needs)
+    (λ c κs. search needs)
+    (λ c. search needs)
+    (λ c κs. search needs)
     returns-2
     returns-3
     returns-4

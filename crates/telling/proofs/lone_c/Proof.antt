@@ -1,48 +1,31 @@
+-- `telling::lone_c` meets its contract: `n_position` gives the n. position, and `lone_n` its one spot. Assumes nothing.
+use mir.Syntax.{w32}
+use Rattle.whole.specs.laws.Whole.{told}
 use borrow.Author.Needs.{needs}
 use Rattle.telling.proofs.lone_c.Statement.{statement}
 use Rattle.telling.proofs.lone_c.Tie as tie
-use Rattle.telling.proofs.lone_c.Reads as reads
-use Rattle.telling.proofs.lone_c.Lts as lts
-use Rattle.coding.proofs.n_position.Reads as n-position-reads
-use Rattle.places.proofs.last.Reads as last-reads
-use Rattle.places.proofs.lone_n.Reads as lone-n-reads
 
--- src/lib.rt:188:38
-last-requires : tie.Need-last-requires
-last-requires c κs = search needs
-
--- src/lib.rt:188:11
-n-position-requires : tie.Need-n-position-requires
-n-position-requires c κs = search needs
-
--- src/lib.rt:189:18
-enum-known-n : tie.Need-enum-known-n
-enum-known-n c = search needs
-
--- src/lib.rt:189:24
-lone-n-requires : tie.Need-lone-n-requires
-lone-n-requires c κs = search needs
-
--- src/lib.rt:190:29
-enum-told : tie.Need-enum-told
-enum-told c = search needs
-
--- src/lib.rt:173:1
 returns : tie.Need-returns
-returns c = search needs
+returns c =
+    let t = c .before in
+    let n = t .before .before in
+    let e = n .before .before in
+    let spot = simp (told w32 (n .n .given .0 .0 .base) (t .struct-told .given .0 .1)) at (c .lone-n .ensures .0) in
+    (simp (← e .before .last .ensures, ← e .n-position .ensures, n .n .given .1) spot, c .lone-n .ensures .1)
 
--- src/lib.rt:173:1
 returns-2 : tie.Need-returns-2
-returns-2 c = search needs
+returns-2 c =
+    let e = c .before .before in
+    (simp (← e .before .last .ensures, ← e .n-position .ensures, c .enum-told .given .1), tt)
 
 pub lone-c-spec : {M : Type 1} → statement M
 lone-c-spec =
     tie.close
     (tie.spec
-    last-requires
-    n-position-requires
-    enum-known-n
-    lone-n-requires
-    enum-told
+    (λ c κs. search needs)
+    (λ c κs. search needs)
+    (λ c. search needs)
+    (λ c κs. search needs)
+    (λ c. search needs)
     returns
     returns-2)

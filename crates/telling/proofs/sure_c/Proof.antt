@@ -1,86 +1,60 @@
+-- `telling::sure_c` meets its contract: the spot's n. position, or 17, is numbered once in c., or refused, and stands at both ends with the one exon's number. Assumes nothing.
+use mathlib.Core.Path.{_≡_, sym, ap, _∙_}
+use Rattle.segments.specs.laws.Sizes.{wider}
+use Rattle.segments.specs.Paper.{spotSaid}
+use Rattle.positions.specs.Answers.{certain, ends}
+use Rattle.positions.specs.Paper.{paperCEnd}
+use Rattle.layout.specs.Layout.{cLaid, laid}
+use Rattle.telling.specs.Telling.{sureC}
+use Rattle.telling.proofs.Ways.{c-once}
 use borrow.Author.Needs.{needs}
 use Rattle.telling.proofs.sure_c.Statement.{statement}
 use Rattle.telling.proofs.sure_c.Tie as tie
-use Rattle.telling.proofs.sure_c.Reads as reads
-use Rattle.telling.proofs.sure_c.Lts as lts
-use Rattle.coding.proofs.one_to_c.Reads as one-to-c-reads
-use Rattle.layout.proofs.lay.lay_one_c.Reads as lay-one-c-reads
-use Rattle.layout.proofs.lay.refusal_of.Reads as refusal-of-reads
-use Rattle.places.proofs.found_exon.Reads as found-exon-reads
-use Rattle.places.proofs.last.Reads as last-reads
-use Rattle.places.proofs.n_of_spot.Reads as n-of-spot-reads
 
--- src/lib.rt:114:9
-found-exon-requires : tie.Need-found-exon-requires
-found-exon-requires c κs = search needs
+-- the n. position is there, and is numbered once in c.
+numbered : (c : tie.After-one-to-c) →
+    let e = c .before .before .before .before in
+    let a = e .before .before .before .args in
+    sureC (a .strict) (a .at) (a .transcript .now) (a .exons .now) (a .s) (a .e) (spotSaid (a .spot))
+    ≡ laid cLaid (ends (certain (record { from = e .before .before .found-exon .result; to = e .before .before .found-exon .result })) (paperCEnd (c .one-to-c .result)) (paperCEnd (c .one-to-c .result)))
+numbered c =
+    let p = c .before .before in
+    let e = p .before .before in
+    let l = e .before in
+    simp (← l .before .found-exon .ensures, ← l .last .ensures, ← e .n-of-spot .ensures, p .n .given .1, c .one-to-c .ensures)
+    (ap (laid cLaid) (c-once _ _ _ _ _ _))
 
--- src/lib.rt:115:9
-last-requires : tie.Need-last-requires
-last-requires c κs = search needs
-
--- src/lib.rt:116:11
-n-of-spot-requires : tie.Need-n-of-spot-requires
-n-of-spot-requires c κs = search needs
-
--- src/lib.rt:117:18
-enum-known-n : tie.Need-enum-known-n
-enum-known-n c = search needs
-
--- src/lib.rt:117:30
-one-to-c-requires : tie.Need-one-to-c-requires
-one-to-c-requires c κs = search needs
-
--- src/lib.rt:118:22
-enum-known-c : tie.Need-enum-known-c
-enum-known-c c = search needs
-
--- src/lib.rt:118:28
-lay-one-c-requires : tie.Need-lay-one-c-requires
-lay-one-c-requires c κs = search needs
-
--- src/lib.rt:119:27
-enum-known-k : tie.Need-enum-known-k
-enum-known-k c = search needs
-
--- src/lib.rt:119:33
-refusal-of-requires : tie.Need-refusal-of-requires
-refusal-of-requires c κs = search needs
-
--- src/lib.rt:121:23
-enum-known-k-2 : tie.Need-enum-known-k-2
-enum-known-k-2 c = search needs
-
--- src/lib.rt:121:29
-refusal-of-requires-2 : tie.Need-refusal-of-requires-2
-refusal-of-requires-2 c κs = search needs
-
--- src/lib.rt:101:1
 returns : tie.Need-returns
-returns c = search needs
+returns c =
+    let p = c .before .before in
+    c .lay-one-c .ensures ∙ sym (rw (p .c .given .1) at (numbered (p .before .before)))
 
--- src/lib.rt:101:1
 returns-2 : tie.Need-returns-2
-returns-2 c = search needs
+returns-2 c =
+    let p = c .before .before in
+    c .refusal-of .ensures ∙ sym (rw (p .k .given .1) at (numbered (p .before .before)))
 
--- src/lib.rt:101:1
 returns-3 : tie.Need-returns-3
-returns-3 c = search needs
+returns-3 c =
+    let p = c .before .before in
+    let e = p .before .before in
+    simp (c .refusal-of2 .ensures, ← e .before .last .ensures, ← e .n-of-spot .ensures, p .k2 .given .1)
 
 pub sure-c-spec : {M : Type 1} → statement M
 sure-c-spec =
     tie.close
     (tie.spec
-    found-exon-requires
-    last-requires
-    n-of-spot-requires
-    enum-known-n
-    one-to-c-requires
-    enum-known-c
-    lay-one-c-requires
-    enum-known-k
-    refusal-of-requires
-    enum-known-k-2
-    refusal-of-requires-2
+    (λ c κs. search needs)
+    (λ c κs. search needs)
+    (λ c κs. wider (c .before .before .pre .1))
+    (λ c. search needs)
+    (λ c κs. search needs)
+    (λ c. search needs)
+    (λ c κs. search needs)
+    (λ c. search needs)
+    (λ c κs. search needs)
+    (λ c. search needs)
+    (λ c κs. search needs)
     returns
     returns-2
     returns-3)
