@@ -1,8 +1,6 @@
 // A question of one of the six mappings as one value: what is said to it, and the entry of a log that says so.
 ghost use mathlib.Core.Path.{_≡_};
-ghost use Rattle.holding.specs.Holding.{lent, checked};
-ghost use Rattle.positions.specs.Paper.{paperCQuestion, paperG};
-ghost use Rattle.mapper.specs.Asking.{askCToG};
+ghost use Rattle.holding.specs.Holding.{lent};
 ghost use Rattle.log.specs.Logs.{appendedOf, logAfter};
 ghost use Rattle.asking.specs.Asking.{named, asked, recording, recordedLaid};
 use layout::lay;
@@ -18,9 +16,6 @@ use log::Entry;
 use log::canonical;
 use log::logs;
 use log::logs::Appended;
-use positions::CQuestion;
-use positions::GAnswer;
-use positions::NPlain;
 use refusals::MOST_SEGMENTS;
 use refusals::MOST_STARTS;
 use refusals::NO_LOG;

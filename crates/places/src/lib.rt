@@ -284,9 +284,9 @@ pub fn lone_n(
 {
     let count = at.count;
     let len = last(transcript, count);
-    let p = place_of_n(at.forward, len, base);
-    if is_inside(strict, len, p) {
-        let spot = spot_of_n(at, genome, transcript, letters, p, End::Start);
+    let place = place_of_n(at.forward, len, base);
+    if is_inside(strict, len, place) {
+        let spot = spot_of_n(at, genome, transcript, letters, place, End::Start);
         if spot.sure {
             return Lone::Sure(spot);
         }

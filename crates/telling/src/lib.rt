@@ -1,10 +1,9 @@
 // What a host is told of the three questions that it asks most, laid out. One base that is sure goes a short way, which asks for no more than it needs; every other question goes the way that logs and alleles go too.
 // An answer is laid out where it is found: one that is handed on as it is would be copied in other pieces than it was stored in, and wait for them.
 ghost use mathlib.Core.Path.{_≡_};
-ghost use mathlib.Core.Bool.{true};
 ghost use Prim.Native.Nat.{_≤_, _<_};
-ghost use lib.ListN.{getD};
 ghost use Rattle.refusals.specs.Numbers.{mostSegments};
+ghost use Rattle.whole.specs.Whole.{eqZ};
 ghost use Rattle.segments.specs.Tables.{tables};
 ghost use Rattle.segments.specs.Paper.{Small, spotSaid};
 ghost use Rattle.holding.specs.Holding.{lent, checked};
@@ -35,6 +34,13 @@ use refusals::NO_GENOME;
 use refusals::NOT_TOGETHER;
 use segments::Spot;
 use transcript::Head;
+
+// Whether an interval is one base.
+fn is_base(from: i32, to: i32) -> bool
+    ensures { λ r. ⌜ r ≡ eqZ from to ⌝ }
+{
+    from == to
+}
 
 // The n. answer of a sure base, by its spot.
 fn sure_n(
@@ -71,7 +77,7 @@ pub fn g_to_n(
     match knowing::known_of(head, genome, transcript, letters, exons) {
         Known::Aligned(at, _) => match steps::both_ends(take::g_asked(start, end, missing)) {
             Given::Ends(from, to) => {
-                if from == to {
+                if is_base(from, to) {
                     let lone = places::lone_g(at, genome, transcript, letters, from, strict);
                     if let Lone::Sure(spot) = lone {
                         return sure_n(at, transcript, exons, spot);
@@ -140,7 +146,7 @@ pub fn g_to_c(
         Known::Aligned(at, cds) => match steps::both_ends(take::g_asked(start, end, missing)) {
             Given::Ends(from, to) => {
                 if let Coding::Cds(s, e) = cds {
-                    if from == to {
+                    if is_base(from, to) {
                         let lone = places::lone_g(at, genome, transcript, letters, from, strict);
                         if let Lone::Sure(spot) = lone {
                             return sure_c(at, transcript, exons, s, e, spot, strict);

@@ -6,6 +6,7 @@ use mir.Val.{toZ, ofZ}
 use Rattle.whole.specs.laws.Whole.{read, told}
 use Rattle.refusals.specs.Outcome.{answered}
 use Rattle.holding.specs.Holding.{lent}
+use Rattle.coding.specs.laws.Same.{number-says}
 use Rattle.layout.specs.Layout.{cLaid, laid, gAsked}
 use Rattle.mapper.specs.Asking.{given, askGToC, askGToN}
 use Rattle.mapper.specs.Knowing.{knownOf, paperGiven}
@@ -40,13 +41,13 @@ abbrev at-from : tie.After-known-told2 → tie.After-at
 at-from c = c .before .before .before .before .before .before
 
 lone-g-requires : tie.Need-lone-g-requires
-lone-g-requires c κs = known-lies _ _ _ (known-is (at-from (c .before .before .before .before))) .sound
+lone-g-requires c κs = known-lies _ _ _ (known-is (at-from (c .before .before .before .before .before))) .sound
 
 sure-c-requires : tie.Need-sure-c-requires
 sure-c-requires c κs =
     let l = c .before .before .before in
     let (small, on) = rw (c .before .lone .given .1) at (l .lone-g .ensures .1) in
-    (known-lies _ _ _ (known-is (at-from (l .before .before .before .before .before))) .sound .count-to, small, on)
+    (known-lies _ _ _ (known-is (at-from (l .before .before .before .before .before .before))) .sound .count-to, small, on)
 
 -- the ends as they were read, which fit 32 bits
 from-is : (c : tie.After-known-told2) → _≡_ {A = ℤ} (toZ w32 (ofZ w32 (c .before .from .given .0 .0))) (c .before .from .given .0 .0)
@@ -55,17 +56,20 @@ from-is c = told w32 (c .before .from .given .0 .0) (c .known-told2 .given .0 .1
 to-is : (c : tie.After-known-told2) → _≡_ {A = ℤ} (toZ w32 (ofZ w32 (c .before .from .given .0 .1 .0))) (c .before .from .given .0 .1 .0)
 to-is c = told w32 (c .before .from .given .0 .1 .0) (c .known-told2 .given .1 .0 .1)
 
+-- where the interval is one base, both are one number
+one-is : (c : tie.Then1) → let p = c .before .before .before .before .before .before in p .from .given .0 .0 ≡ p .from .given .0 .1 .0
+one-is c =
+    let e = c .before .before .before .before .before in
+    number-says _ _ (sym (simp (from-is e, to-is e) at (c .before .is-base .ensures)) ∙ c .if1 .taken)
+
 returns : tie.Need-returns
 returns c =
     let m = c .before .before in
     let l = m .before .before in
-    let d = l .before .before .before in
+    let d = l .before .before .before .before in
     let e = d .before .before in
-    let from = from-is e in
-    let to = to-is e in
-    let bits = l .before .if1 .taken in
-    let one : e .before .from .given .0 .0 ≡ e .before .from .given .0 .1 .0 = cc in
-    let spot = rw (m .lone .given .1) at (simp from at (l .lone-g .ensures .0)) in
+    let one = one-is (l .before) in
+    let spot = rw (m .lone .given .1) at (simp (from-is e) at (l .lone-g .ensures .0)) in
     c .sure-c .ensures ∙ ap (laid cLaid) (sym (one-base-c _ _ _ (known-is (at-from e)) _ _ _ _ _ _ _ (both-are e) one (d .cds .given .1) spot))
 
 alignment-requires : tie.Need-alignment-requires
@@ -126,6 +130,7 @@ g-to-c-spec =
     (λ c κs. search needs)
     (λ c. search needs)
     (λ c. search needs)
+    (λ c κs. search needs)
     lone-g-requires
     (λ c. search needs)
     sure-c-requires
