@@ -6,13 +6,14 @@ use mathlib.Core.Path.{_≡_, refl, sym, ap, _∙_}
 use lib.IntN.{ℤ}
 use lib.ListN.{getD}
 use Rattle.refusals.specs.Outcome.{Outcome, answered, refused, andThen, through}
+use Rattle.refusals.specs.Numbers.{notCoding}
 use Rattle.holding.specs.Holding.{Lent, checked}
 use Rattle.segments.specs.Places.{Spot}
-use Rattle.transcript.specs.Transcript.{Transcript, cds}
+use Rattle.transcript.specs.Transcript.{Transcript, noCds, cds}
 use Rattle.positions.specs.Positions.{Interval, GAsked, CAsked, NPosition, asksN}
 use Rattle.positions.specs.Answers.{certain, unmarked, Answer, once, ends, after, chain}
 use Rattle.positions.specs.laws.Ends.{ends-after}
-use Rattle.coding.specs.Coding.{nPosition, oneToC, nToC, cToN}
+use Rattle.coding.specs.Coding.{cOfInterval, nPosition, oneToC, nToC, cToN}
 use Rattle.coding.specs.laws.Once.{one-to-c, one-to-n, offset-stays}
 use Rattle.places.specs.Mapping.{gToN, nToG}
 use Rattle.places.specs.Aligned.{alignedBy}
@@ -34,6 +35,11 @@ c-once strict len from to exon n =
     let end = oneToC strict len from to (asksN n) in
     ap (through (after (certain (record { from = exon; to = exon })))) (one-to-c strict len from to (asksN n)) ∙ ends-after true (record { from = exon; to = exon }) end end
 
+-- 13 after the first step, where there is no CDS
+pub c-missing : (strict : Bool) (len exon : ℕ) (n : NPosition) → chain asksN (once exon n) (nToC strict len noCds) ≡ refused notCoding
+unfolding nToC cOfInterval
+c-missing strict len exon n = refl
+
 module _ (x : Lent) (a : Alignment) (c : Coding) (k : knownOf x ≡ known.Aligned a c) (strict : Bool) where
   abbrev lies : Transcript
   lies = alignedBy a (x .tables) (x .exons)
@@ -52,12 +58,9 @@ module _ (x : Lent) (a : Alignment) (c : Coding) (k : knownOf x ≡ known.Aligne
   pub one-base : (g h : ℤ) (s : Spot) → g ≡ h → sure s ≡ loneG strict a (x .tables) g → gToN strict lies (record { from = g; to = h }) ≡ nOnce a (x .tables .transcript) (x .exons) s
   one-base g h s e l = rw (← e) (lone-to-n a (x .tables) (x .exons) (known-lies x a c k .sound) strict s g (sym l))
 
-  pub one-base-c : (q : Interval GAsked) (g h : ℤ) (from to : ℕ) (s : Spot) → answered (record { from = g; to = h }) ≡ given q → g ≡ h → c ≡ coding.Cds from to → sure s ≡ loneG strict a (x .tables) g
-      → checked x (askGToC strict q) ≡ chain asksN (nOnce a (x .tables .transcript) (x .exons) s) (nToC strict long (cds from to))
-  one-base-c q g h from to s e one d l =
-      c-by-ends q _ e
-      ∙ (ap (λ (i : Answer NPosition). chain asksN i (nToC strict long (paperCoding c))) (one-base g h s one l)
-      ∙ ap (λ (i : Coding). chain asksN (nOnce a (x .tables .transcript) (x .exons) s) (nToC strict long (paperCoding i))) d)
+  pub one-base-c : (q : Interval GAsked) (g h : ℤ) (s : Spot) → answered (record { from = g; to = h }) ≡ given q → g ≡ h → sure s ≡ loneG strict a (x .tables) g
+      → checked x (askGToC strict q) ≡ chain asksN (nOnce a (x .tables .transcript) (x .exons) s) (nToC strict long (paperCoding c))
+  one-base-c q g h s e one l = c-by-ends q _ e ∙ ap (λ (i : Answer NPosition). chain asksN i (nToC strict long (paperCoding c))) (one-base g h s one l)
 
   -- ---- from c.
 

@@ -7,7 +7,7 @@ use lib.ListN.{getD}
 use Rattle.refusals.specs.Outcome.{Outcome, answered, refused}
 use Rattle.segments.specs.Tables.{Tables}
 use Rattle.segments.specs.Places.{Spot}
-use Rattle.transcript.specs.Transcript.{cds}
+use Rattle.transcript.specs.Transcript.{Cds}
 use Rattle.positions.specs.Positions.{CAsked, NPosition, asksN}
 use Rattle.positions.specs.Answers.{chain}
 use Rattle.coding.specs.Coding.{nPosition, nToC}
@@ -16,12 +16,12 @@ use Rattle.places.specs.declared.Alignment.{Alignment}
 use Rattle.layout.specs.Layout.{gLaid, nLaid, cLaid, laid}
 use Rattle.layout.specs.declared.lay.Answer.{Answer}
 
--- the answers of a base with the spot s, by a table of the transcript's starts and one of exon numbers: in n.; in c., with the CDS's start and end; and in g., with the number's own offset
+-- the answers of a base with the spot s, by a table of the transcript's starts and one of exon numbers: in n.; in c.; and in g., with the number's own offset
 abbrev pub sureN : Alignment → List ℕ → List ℕ → Spot → Answer
 sureN a transcript exons s = laid nLaid (nOnce a transcript exons s)
 
-abbrev pub sureC : Bool → Alignment → List ℕ → List ℕ → ℕ → ℕ → Spot → Answer
-sureC strict a transcript exons from to s = laid cLaid (chain asksN (nOnce a transcript exons s) (nToC strict (getD transcript (a .count) 0) (cds from to)))
+abbrev pub sureC : Bool → Alignment → List ℕ → List ℕ → Cds → Spot → Answer
+sureC strict a transcript exons coding s = laid cLaid (chain asksN (nOnce a transcript exons s) (nToC strict (getD transcript (a .count) 0) coding))
 
 abbrev pub sureG : Alignment → List ℕ → Spot → ℤ → Answer
 sureG a exons s o = laid gLaid (gOnce a exons s o)

@@ -11,6 +11,7 @@ ghost use Rattle.positions.specs.Paper.{paperCAsked};
 ghost use Rattle.places.specs.Aligned.{Aligns};
 ghost use Rattle.places.specs.Lone.{paperLone, RoomyLone};
 ghost use Rattle.mapper.specs.Asking.{askGToN, askGToC, askCToG};
+ghost use Rattle.mapper.specs.Knowing.{paperCoding};
 ghost use Rattle.layout.specs.Layout.{gAsked, cAsked, gLaid, nLaid, cLaid, laid};
 ghost use Rattle.telling.specs.Telling.{sureN, sureC, sureG, loneC};
 use layout::lay;
@@ -31,6 +32,7 @@ use refusals::MISSING_END;
 use refusals::MOST_SEGMENTS;
 use refusals::MOST_STARTS;
 use refusals::NO_GENOME;
+use refusals::NOT_CODING;
 use refusals::NOT_TOGETHER;
 use segments::Spot;
 use transcript::Head;
@@ -103,26 +105,28 @@ pub fn g_to_n(
     }
 }
 
-// The c. answer of a sure base, by its spot, with the CDS's start s and end e.
+// The c. answer of a sure base, by its spot.
 fn sure_c(
     at: Alignment,
     transcript: &[u32; MOST_STARTS],
     exons: &[u16; MOST_SEGMENTS],
-    s: u32,
-    e: u32,
+    cds: Coding,
     spot: Spot,
     strict: bool,
 ) -> Answer
     requires { ⌜ (at .count ≤ mostSegments) × Small 37 spot × (spot .number < at .count) ⌝ }
-    ensures { λ r. ⌜ r ≡ sureC strict at (now (transcript .entry)) (now (exons .entry)) s e (spotSaid spot) ⌝ }
+    ensures { λ r. ⌜ r ≡ sureC strict at (now (transcript .entry)) (now (exons .entry)) (paperCoding cds) (spotSaid spot) ⌝ }
 {
     let count = at.count;
     let exon = places::found_exon(at, exons, spot);
     let len = places::last(transcript, count);
     match places::n_of_spot(at.forward, len, spot) {
-        NEnd::At(n) => match coding::one_to_c(strict, len, s, e, n) {
-            CEnd::At(c) => lay::lay_one_c(exon, c),
-            CEnd::Refused(k) => lay::refusal_of(k),
+        NEnd::At(n) => match cds {
+            Coding::Cds(s, e) => match coding::one_to_c(strict, len, s, e, n) {
+                CEnd::At(c) => lay::lay_one_c(exon, c),
+                CEnd::Refused(k) => lay::refusal_of(k),
+            },
+            Coding::Missing => lay::refusal_of(NOT_CODING),
         },
         NEnd::Refused(k) => lay::refusal_of(k),
     }
@@ -145,12 +149,10 @@ pub fn g_to_c(
     match knowing::known_of(head, genome, transcript, letters, exons) {
         Known::Aligned(at, cds) => match steps::both_ends(take::g_asked(start, end, missing)) {
             Given::Ends(from, to) => {
-                if let Coding::Cds(s, e) = cds {
-                    if is_base(from, to) {
-                        let lone = places::lone_g(at, genome, transcript, letters, from, strict);
-                        if let Lone::Sure(spot) = lone {
-                            return sure_c(at, transcript, exons, s, e, spot, strict);
-                        }
+                if is_base(from, to) {
+                    let lone = places::lone_g(at, genome, transcript, letters, from, strict);
+                    if let Lone::Sure(spot) = lone {
+                        return sure_c(at, transcript, exons, cds, spot, strict);
                     }
                 }
                 let again = knowing::alignment(head);

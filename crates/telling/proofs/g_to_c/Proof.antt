@@ -41,13 +41,13 @@ abbrev at-from : tie.After-known-told2 → tie.After-at
 at-from c = c .before .before .before .before .before .before
 
 lone-g-requires : tie.Need-lone-g-requires
-lone-g-requires c κs = known-lies _ _ _ (known-is (at-from (c .before .before .before .before .before))) .sound
+lone-g-requires c κs = known-lies _ _ _ (known-is (at-from (c .before .before))) .sound
 
 sure-c-requires : tie.Need-sure-c-requires
 sure-c-requires c κs =
     let l = c .before .before .before in
     let (small, on) = rw (c .before .lone .given .1) at (l .lone-g .ensures .1) in
-    (known-lies _ _ _ (known-is (at-from (l .before .before .before .before .before .before))) .sound .count-to, small, on)
+    (known-lies _ _ _ (known-is (at-from (l .before .before .before))) .sound .count-to, small, on)
 
 -- the ends as they were read, which fit 32 bits
 from-is : (c : tie.After-known-told2) → _≡_ {A = ℤ} (toZ w32 (ofZ w32 (c .before .from .given .0 .0))) (c .before .from .given .0 .0)
@@ -57,37 +57,37 @@ to-is : (c : tie.After-known-told2) → _≡_ {A = ℤ} (toZ w32 (ofZ w32 (c .be
 to-is c = told w32 (c .before .from .given .0 .1 .0) (c .known-told2 .given .1 .0 .1)
 
 -- where the interval is one base, both are one number
-one-is : (c : tie.Then1) → let p = c .before .before .before .before .before .before in p .from .given .0 .0 ≡ p .from .given .0 .1 .0
+one-is : (c : tie.Then1) → let p = c .before .before .before in p .from .given .0 .0 ≡ p .from .given .0 .1 .0
 one-is c =
-    let e = c .before .before .before .before .before in
+    let e = c .before .before in
     number-says _ _ (sym (simp (from-is e, to-is e) at (c .before .is-base .ensures)) ∙ c .if1 .taken)
 
 returns : tie.Need-returns
 returns c =
     let m = c .before .before in
     let l = m .before .before in
-    let d = l .before .before .before .before in
-    let e = d .before .before in
+    let e = l .before .before .before in
+    let p = at-from e in
     let one = one-is (l .before) in
     let spot = rw (m .lone .given .1) at (simp (from-is e) at (l .lone-g .ensures .0)) in
-    c .sure-c .ensures ∙ ap (laid cLaid) (sym (one-base-c _ _ _ (known-is (at-from e)) _ _ _ _ _ _ _ (both-are e) one (d .cds .given .1) spot))
+    c .sure-c .ensures ∙ ap (laid cLaid) (sym (one-base-c _ _ _ (known-is p) _ _ _ _ _ (both-are e) one spot))
 
 alignment-requires : tie.Need-alignment-requires
-alignment-requires c κs = known-lies _ _ _ (known-is (at-from (c .before))) .head
+alignment-requires c κs = known-lies _ _ _ (known-is (at-from (c .before .before))) .head
 
-at-is : (c : tie.After-alignment) → c .alignment .result ≡ at-from (c .before .before) .at .given .0 .0
-at-is c = c .alignment .ensures ∙ known-lies _ _ _ (known-is (at-from (c .before .before))) .at
+at-is : (c : tie.After-alignment) → c .alignment .result ≡ at-from (c .before .before .before) .at .given .0 .0
+at-is c = c .alignment .ensures ∙ known-lies _ _ _ (known-is (at-from (c .before .before .before))) .at
 
 last-requires : tie.Need-last-requires
-last-requires c κs = rw (at-is c) (known-lies _ _ _ (known-is (at-from (c .before .before))) .sound .count-to)
+last-requires c κs = rw (at-is c) (known-lies _ _ _ (known-is (at-from (c .before .before .before))) .sound .count-to)
 
 to-n-requires : tie.Need-to-n-requires
 to-n-requires c κs =
     let m = c .before in
-    rw (at-is m) (known-lies _ _ _ (known-is (at-from (m .before .before))) .sound)
+    rw (at-is m) (known-lies _ _ _ (known-is (at-from (m .before .before .before))) .sound)
 
 coding-of-requires : tie.Need-coding-of-requires
-coding-of-requires c κs = natural-bounds _ (known-lies _ _ _ (known-is (at-from (c .before .before .before .before))) .held)
+coding-of-requires c κs = natural-bounds _ (known-lies _ _ _ (known-is (at-from (c .before .before .before .before .before))) .held)
 
 returns-2 : tie.Need-returns-2
 returns-2 c =
@@ -95,7 +95,7 @@ returns-2 c =
     let d = s .before in
     let t = d .before in
     let l = t .before in
-    let e = l .before .before .before in
+    let e = l .before .before .before .before in
     let k = known-is (at-from e) in
     let n = simp (at-is (l .before), from-is e, to-is e) at (t .to-n .ensures) in
     let long = simp (at-is (l .before)) at (l .last .ensures) in
@@ -107,18 +107,18 @@ returns-3 c =
     let m = c .before in
     let b = m .before .before in
     let p = b .before .before .before in
-    c .refusal-of .ensures ∙ ap (laid cLaid) (sym (c-by-ends _ _ _ (known-is p) _ _ _ (rw (m .enum-told3 .given .1) at (ends-are b))))
+    c .refusal-of .ensures ∙ ap (laid cLaid) (sym (c-by-ends _ _ _ (known-is p) _ _ _ (rw (m .enum-told2 .given .1) at (ends-are b))))
 
 returns-4 : tie.Need-returns-4
 unfolding askGToC askGToN
 returns-4 c =
     let m = c .before in
-    c .refusal-of2 .ensures ∙ ap (laid cLaid) (sym (ask-length _ _ (sym (m .before .before .known-of .ensures) ∙ m .enum-told4 .given .1)))
+    c .refusal-of2 .ensures ∙ ap (laid cLaid) (sym (ask-length _ _ (sym (m .before .before .known-of .ensures) ∙ m .enum-told3 .given .1)))
 
 returns-5 : tie.Need-returns-5
 returns-5 c =
     let m = c .before in
-    c .refusal-of3 .ensures ∙ ap (laid cLaid) (sym (ask-broken _ _ (sym (m .before .before .known-of .ensures) ∙ m .enum-told5 .given .1)))
+    c .refusal-of3 .ensures ∙ ap (laid cLaid) (sym (ask-broken _ _ (sym (m .before .before .known-of .ensures) ∙ m .enum-told4 .given .1)))
 
 pub g-to-c-spec : {M : Type 1} → statement M
 g-to-c-spec =
@@ -129,13 +129,11 @@ g-to-c-spec =
     (λ c κs. search needs)
     (λ c κs. search needs)
     (λ c. search needs)
-    (λ c. search needs)
     (λ c κs. search needs)
     lone-g-requires
     (λ c. search needs)
     sure-c-requires
     returns
-    (λ c. search needs)
     (λ c. search needs)
     alignment-requires
     last-requires
