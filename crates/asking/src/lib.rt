@@ -1,8 +1,6 @@
 // A question of one of the six mappings as one value: what is said to it, and the entry of a log that says so.
 ghost use mathlib.Core.Path.{_≡_};
-ghost use Rattle.holding.specs.Holding.{lent, checked};
-ghost use Rattle.positions.specs.Paper.{paperCQuestion, paperG};
-ghost use Rattle.mapper.specs.Asking.{askCToG};
+ghost use Rattle.holding.specs.Holding.{lent};
 ghost use Rattle.log.specs.Logs.{appendedOf, logAfter};
 ghost use Rattle.asking.specs.Asking.{named, asked, recording, recordedLaid};
 use layout::lay;
@@ -18,9 +16,6 @@ use log::Entry;
 use log::canonical;
 use log::logs;
 use log::logs::Appended;
-use positions::CQuestion;
-use positions::GAnswer;
-use positions::NPlain;
 use refusals::MOST_SEGMENTS;
 use refusals::MOST_STARTS;
 use refusals::NO_LOG;
@@ -32,28 +27,6 @@ pub struct Recorded {
     pub number: u32,
     pub length: usize,
     pub answer: Answer,
-}
-
-// c. to g. as the two mappings that it is, each asked for itself. It costs a second look at what is lent; the host's own c. to g. is so the only caller of the mapper's, and the
-// compiler weaves that one into it.
-fn c_to_g(
-    head: Head,
-    genome: &[u32; MOST_STARTS],
-    transcript: &[u32; MOST_STARTS],
-    letters: &[u8; MOST_SEGMENTS],
-    exons: &[u16; MOST_SEGMENTS],
-    q: CQuestion,
-    strict: bool,
-) -> GAnswer
-    ensures { λ r. ⌜ paperG r ≡ checked (lent head (now (genome .entry)) (now (transcript .entry)) (now (letters .entry)) (now (exons .entry))) (askCToG strict (paperCQuestion q)) ⌝ }
-{
-    match mapper::c_to_n(head, genome, transcript, letters, exons, q, strict) {
-        NPlain::Told(i) => {
-            let n = positions::asked_again(i);
-            mapper::n_to_g(head, genome, transcript, letters, exons, n, strict)
-        }
-        NPlain::Refused(k) => GAnswer::Refused(k),
-    }
 }
 
 // What the mapping says that a question names. Its interval is read in each unit, and the kind says which is meant.
@@ -92,7 +65,7 @@ fn answer_of(
         let told = mapper::g_to_c(head, genome, transcript, letters, exons, g, strict);
         return lay::lay_c(told);
     }
-    let told = c_to_g(head, genome, transcript, letters, exons, c, strict);
+    let told = mapper::c_to_g(head, genome, transcript, letters, exons, c, strict);
     lay::lay_g(told)
 }
 

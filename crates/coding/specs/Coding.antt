@@ -35,6 +35,12 @@ cOfInterval strict len (cds s e) i =
 unfoldable pub nToC : Bool → ℕ → Cds → Interval NAsked → Answer CPosition
 nToC strict len coding i = fitting cFits (cOfInterval strict len coding i)
 
+-- of one position, which is both ends of its interval: 15, then 17
+unfoldable pub oneToC : Bool → ℕ → ℕ → ℕ → NAsked → Outcome CPosition
+oneToC strict len s e a =
+    if beyond strict len (a .base) then refused nOutside
+    else ifFits cFits (cPosition s e a)
+
 -- ---- c. to n.: 13, then the start's 16 and 17, then the end's
 
 unfoldable pub nPosition : Bool → ℕ → ℕ → ℕ → CAsked → Outcome NPosition

@@ -4,15 +4,17 @@ ghost use lib.IntN.{pos};
 ghost use Rattle.whole.specs.Whole.{Within};
 ghost use Rattle.numbering.specs.Numbers.{nOfC};
 ghost use Rattle.positions.specs.Answers.{ifFits, cFits};
-ghost use Rattle.positions.specs.Paper.{paperCAsked, paperNQuestion, paperCQuestion, paperNEnd, paperCEnd, paperNPlain, paperCPlain};
+ghost use Rattle.positions.specs.Positions.{asksN};
+ghost use Rattle.positions.specs.Paper.{paperCAsked, paperNQuestion, paperCQuestion, paperNPosition, paperNEnd, paperCEnd, paperNPlain, paperCPlain};
 ghost use Rattle.transcript.specs.Transcript.{Cds.cds};
-ghost use Rattle.coding.specs.Coding.{beyond, cPosition, nPosition, nToC, cToN, sameC};
+ghost use Rattle.coding.specs.Coding.{beyond, cPosition, oneToC, nPosition, nToC, cToN, sameC};
 use numbering::CNumber;
 use numbering::NNumber;
 use positions::CAsked;
 use positions::CPlain;
 use positions::CQuestion;
 use positions::NPlain;
+use positions::NPosition;
 use positions::NQuestion;
 use positions::fitting;
 use positions::fitting::CEnd;
@@ -54,7 +56,7 @@ fn n_number(s: u32, e: u32, c: CAsked) -> NNumber
 }
 
 // A position as n.: its number crosses over, its offset stays; 16, then 17.
-fn n_position(strict: bool, len: u32, s: u32, e: u32, c: CAsked) -> NEnd
+pub fn n_position(strict: bool, len: u32, s: u32, e: u32, c: CAsked) -> NEnd
     ensures { λ r. ⌜ paperNEnd r ≡ nPosition strict len s e (paperCAsked c) ⌝ }
 {
     let n = n_number(s, e, c);
@@ -82,8 +84,19 @@ pub fn to_c(strict: bool, len: u32, s: u32, e: u32, q: NQuestion) -> CPlain
     )
 }
 
+// n. to c. of one position, which is both ends of its interval: 15, then 17.
+pub fn one_to_c(strict: bool, len: u32, s: u32, e: u32, n: NPosition) -> CEnd
+    ensures { λ r. ⌜ paperCEnd r ≡ oneToC strict len s e (asksN (paperNPosition n)) ⌝ }
+{
+    let number = fitting::whole_n(n.base);
+    if is_beyond(strict, len, number) {
+        return CEnd::Refused(refusals::N_OUTSIDE);
+    }
+    c_position(s, e, number, n.offset)
+}
+
 // Whether two c. positions are one.
-fn is_same(a: CAsked, b: CAsked) -> bool
+pub fn is_same(a: CAsked, b: CAsked) -> bool
     ensures { λ r. ⌜ r ≡ sameC (paperCAsked a) (paperCAsked b) ⌝ }
 {
     (a.base == b.base) & (a.star == b.star) & (a.offset == b.offset)

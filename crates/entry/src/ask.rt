@@ -23,16 +23,17 @@ pub extern "C" fn txc_g_to_n(
 ) -> Answer
     ensures { λ r. ⌜ r ≡ toldGToN (lentAt (now (head .entry)) (now (genome .entry)) (now (transcript .entry)) (now (letters .entry)) (now (exons .entry))) start end missing strict ⌝ }
 {
-    let g = take::g_asked(start, end, missing);
-    lay::lay_n(mapper::g_to_n(
+    telling::g_to_n(
         take::head_of(head),
         genome,
         transcript,
         letters,
         exons,
-        g,
+        start,
+        end,
+        missing,
         strict,
-    ))
+    )
 }
 
 #[no_mangle]
@@ -49,16 +50,17 @@ pub extern "C" fn txc_g_to_c(
 ) -> Answer
     ensures { λ r. ⌜ r ≡ toldGToC (lentAt (now (head .entry)) (now (genome .entry)) (now (transcript .entry)) (now (letters .entry)) (now (exons .entry))) start end missing strict ⌝ }
 {
-    let g = take::g_asked(start, end, missing);
-    lay::lay_c(mapper::g_to_c(
+    telling::g_to_c(
         take::head_of(head),
         genome,
         transcript,
         letters,
         exons,
-        g,
+        start,
+        end,
+        missing,
         strict,
-    ))
+    )
 }
 
 #[no_mangle]
@@ -161,16 +163,20 @@ pub extern "C" fn txc_c_to_g(
 ) -> Answer
     ensures { λ r. ⌜ r ≡ toldCToG (lentAt (now (head .entry)) (now (genome .entry)) (now (transcript .entry)) (now (letters .entry)) (now (exons .entry))) start «start_offset» «start_star» end «end_offset» «end_star» strict ⌝ }
 {
-    let c = take::c_asked(start, start_offset, start_star, end, end_offset, end_star);
-    lay::lay_g(mapper::c_to_g(
+    telling::c_to_g(
         take::head_of(head),
         genome,
         transcript,
         letters,
         exons,
-        c,
+        start,
+        start_offset,
+        start_star,
+        end,
+        end_offset,
+        end_star,
         strict,
-    ))
+    )
 }
 
 // Whether a g. interval lies in the bounds of the alignment.

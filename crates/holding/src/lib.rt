@@ -5,7 +5,9 @@ ghost use Prim.Native.Nat.{_≤_};
 ghost use lib.IntN.{pos, natAbs};
 ghost use lib.Signed.{leZ};
 ghost use Rattle.refusals.specs.Numbers.{mostSegments};
-ghost use Rattle.holding.specs.Holding.{segmentsIn, recordsIn, isForward, headHolds, cdsHolds, totalsHold, lent, lengthHolds, holds};
+ghost use Rattle.segments.specs.Tables.{tables};
+ghost use Rattle.holding.specs.Holding.{segmentsIn, recordsIn, isForward, headHolds, cdsHolds, totalsHold, lent, holds};
+ghost use Rattle.holding.specs.Parts.{basesOf, tablesHold};
 use refusals::MOST_BASES;
 use refusals::MOST_RECORDS;
 use refusals::MOST_SEGMENTS;
@@ -96,20 +98,62 @@ fn totals_hold(first: u32, genome: u32, transcript: u32) -> bool
     ((first as u64) + (genome as u64) <= (MOST_BASES as u64)) & (transcript <= MOST_BASES)
 }
 
-// Whether a transcript built from a length holds together.
-fn length_holds(head: Head) -> bool
-    ensures { λ r. ⌜ r ≡ lengthHolds head ⌝ }
-{
-    let length = head.length;
-    if length < 0 {
-        return false;
-    }
-    let bases = natural(length);
-    (bases <= MOST_BASES) & cds_holds(head, bases)
+// How many bases a transcript has, which is known only where the head's own tests pass.
+enum Bases {
+    Known(u32),
+    Unknown,
 }
 
-// Whether a transcript of either kind holds together. Both kinds are judged here, so that a question has one call of one function. The segments are looked at before the totals:
-// an entry that is at hand before that is woven into it at a cost.
+// Of records it has as many as the transcript's table says, of a length as many as that.
+fn bases_of(head: Head, transcript: &[u32; MOST_STARTS]) -> Bases
+    ensures { λ r. ⌜ r ≡ basesOf head (now (transcript .entry)) ⌝ }
+{
+    let kind = head.kind;
+    if kind == OF_RECORDS {
+        if head_holds(head) {
+            let count = segment_count(head);
+            return Bases::Known(transcript[count]);
+        }
+        return Bases::Unknown;
+    }
+    if kind == OF_LENGTH {
+        let length = head.length;
+        if length < 0 {
+            return Bases::Unknown;
+        }
+        let bases = natural(length);
+        if bases <= MOST_BASES {
+            return Bases::Known(bases);
+        }
+    }
+    Bases::Unknown
+}
+
+// Whether the tables of a right head hold. The segments are looked at before the totals: an entry that is at hand before that is woven into it at a cost. Counts stand
+// before the tables, as the compiler then hands the host's own pointers on without moving them.
+fn tables_hold(
+    count: usize,
+    records: u16,
+    genome: &[u32; MOST_STARTS],
+    transcript: &[u32; MOST_STARTS],
+    letters: &[u8; MOST_SEGMENTS],
+    exons: &[u16; MOST_SEGMENTS],
+    forward: bool,
+    first: u32,
+) -> bool
+    requires { ⌜ (1 ≤ count) × (count ≤ mostSegments) ⌝ }
+    ensures { λ r. ⌜ r ≡ tablesHold forward records first (tables (now (genome .entry)) (now (transcript .entry)) (now (letters .entry))) (now (exons .entry)) count ⌝ }
+{
+    if together::segments_hold(genome, transcript, letters, count) {
+        if totals_hold(first, genome[count], transcript[count]) {
+            return exons::numbers_hold(letters, exons, count, forward, records);
+        }
+    }
+    false
+}
+
+// Whether a transcript of either kind holds together. Both kinds are judged here, so that a question has one call of one function. What the head says, also of the CDS, is looked at first:
+// the tables are one last call.
 pub fn check(
     head: Head,
     genome: &[u32; MOST_STARTS],
@@ -119,23 +163,26 @@ pub fn check(
 ) -> bool
     ensures { λ r. ⌜ r ≡ holds (lent head (now (genome .entry)) (now (transcript .entry)) (now (letters .entry)) (now (exons .entry))) ⌝ }
 {
-    let kind = head.kind;
-    if kind == OF_RECORDS {
-        if head_holds(head) {
-            let first = first_start(head);
-            let count = segment_count(head);
-            let forward = is_forward(head);
-            let records = record_count(head);
-            let segments = together::segments_hold(genome, transcript, letters, count);
-            let numbers = exons::numbers_hold(letters, exons, count, forward, records);
-            let totals = totals_hold(first, genome[count], transcript[count]);
-            let cds = cds_holds(head, transcript[count]);
-            return segments & numbers & totals & cds;
+    match bases_of(head, transcript) {
+        Bases::Known(bases) => {
+            if cds_holds(head, bases) {
+                let kind = head.kind;
+                if kind == OF_RECORDS {
+                    return tables_hold(
+                        segment_count(head),
+                        record_count(head),
+                        genome,
+                        transcript,
+                        letters,
+                        exons,
+                        is_forward(head),
+                        first_start(head),
+                    );
+                }
+                return true;
+            }
+            false
         }
-        return false;
+        Bases::Unknown => false,
     }
-    if kind == OF_LENGTH {
-        return length_holds(head);
-    }
-    false
 }

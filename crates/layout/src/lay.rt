@@ -1,5 +1,6 @@
 // Answers as the host has them: a `#[repr(C)]` struct of numbers for each kind, all 0 but its number where it is a refusal.
 ghost use mathlib.Core.Path.{_≡_};
+ghost use Rattle.positions.specs.Answers.{once};
 ghost use Rattle.positions.specs.Paper.{paperG, paperN, paperC, paperNPlain, paperCPlain, paperSaid, paperGPosition, paperNPosition, paperCPosition};
 ghost use Rattle.layout.specs.Layout.{starOf, gLaid, nLaid, cLaid, refusal, laid, saidLaid};
 use positions::CAnswer;
@@ -106,6 +107,39 @@ pub fn refusal_of(k: u8) -> Answer
             exon: 0,
         },
     }
+}
+
+// A certain answer whose two ends are one position, as a base has it that is sure.
+fn twice(at: Position) -> Answer
+    ensures { λ r. ⌜ r ≡ record { number = 0; mark = 1; start = at; end = at } ⌝ }
+{
+    Answer {
+        number: 0,
+        mark: 1,
+        start: at,
+        end: at,
+    }
+}
+
+// A certain g. answer of one position, with its exon.
+pub fn lay_one_g(exon: u16, a: GPosition) -> Answer
+    ensures { λ r. ⌜ r ≡ laid gLaid (once exon (paperGPosition a)) ⌝ }
+{
+    twice(g_position(exon, a))
+}
+
+// The same in n.
+pub fn lay_one_n(exon: u16, a: NPosition) -> Answer
+    ensures { λ r. ⌜ r ≡ laid nLaid (once exon (paperNPosition a)) ⌝ }
+{
+    twice(n_position(exon, a))
+}
+
+// The same in c.
+pub fn lay_one_c(exon: u16, a: CPosition) -> Answer
+    ensures { λ r. ⌜ r ≡ laid cLaid (once exon (paperCPosition a)) ⌝ }
+{
+    twice(c_position(exon, a))
 }
 
 // An interval laid out, with its mark's number and its exons.

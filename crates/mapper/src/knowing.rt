@@ -41,7 +41,7 @@ pub fn alignment(head: Head) -> Alignment
 }
 
 // The CDS of a head that holds together.
-fn coding_of(head: Head) -> Coding
+pub fn coding_of(head: Head) -> Coding
     requires { ⌜ NaturalBounds head ⌝ }
     ensures { λ r. ⌜ r ≡ codingIn head ⌝ }
 {

@@ -20,7 +20,7 @@ use refusals::NOT_TOGETHER;
 use transcript::Head;
 
 pub mod knowing;
-mod steps;
+pub mod steps;
 
 // g. to n.: 23, 18, 19, 14, 17.
 pub fn g_to_n(

@@ -39,7 +39,7 @@ pub enum Given {
 }
 
 // The two ends of a g. interval, where both are given; 19.
-fn both_ends(q: GQuestion) -> Given
+pub fn both_ends(q: GQuestion) -> Given
     ensures { λ r. ⌜ paperGiven r ≡ given (paperGQuestion q) ⌝ }
 {
     let a = q.from;

@@ -1,5 +1,5 @@
 -- What the proofs of several functions use.
 --     Sizes    how large places, their turns and g. numbers can be
---     Spans    g. to n. and back as the code goes
+--     Alone    when a base has one spot
 pub mod Sizes
-pub mod Spans
+pub mod Alone

@@ -9,10 +9,11 @@ ghost use Rattle.numbering.specs.Numbers.{placeOfN};
 ghost use Rattle.segments.specs.Tables.{tables};
 ghost use Rattle.segments.specs.Paper.{Small, endSaid, spotSaid, toTranscript, toGenome};
 ghost use Rattle.segments.specs.Places.{stopOf};
-ghost use Rattle.segments.specs.Exons.{lastNumber};
+ghost use Rattle.segments.specs.Exons.{lastNumber, exonFound, exonChosen};
 ghost use Rattle.positions.specs.Answers.{gFits, fitting};
 ghost use Rattle.positions.specs.Paper.{paperNAsked, paperNQuestion, paperGEnd, paperNEnd, paperExons, paperG, paperN};
 ghost use Rattle.places.specs.Mapping.{inside, turned, signed, foundExons, chosenExons, placeOfG, gToN, gOfEnds, nToG, inBounds};
+ghost use Rattle.places.specs.Lone.{loneG, loneN, paperLone, RoomyLone};
 ghost use Rattle.places.specs.Aligned.{alignedBy, numberBy, Aligns, InSegment, nEndAt, nJoined, gEndAt, gJoined};
 use numbering::Place;
 use positions::Exons;
@@ -109,7 +110,7 @@ fn place_of_n(forward: bool, len: u32, base: i32) -> Place
 }
 
 // The n. position of a spot of the transcript: place and offset turned; 17.
-fn n_of_spot(forward: bool, len: u32, s: Spot) -> NEnd
+pub fn n_of_spot(forward: bool, len: u32, s: Spot) -> NEnd
     requires { ⌜ Small 38 s ⌝ }
     ensures { λ r. ⌜ paperNEnd r ≡ nEndAt forward len (spotSaid s) ⌝ }
 {
@@ -120,7 +121,7 @@ fn n_of_spot(forward: bool, len: u32, s: Spot) -> NEnd
 }
 
 // The g. number of a place of the genome with an n. number's own offset, which is turned; 17.
-fn g_of_place(forward: bool, first: u32, p: Place, offset: i32) -> GEnd
+pub fn g_of_place(forward: bool, first: u32, p: Place, offset: i32) -> GEnd
     requires { ⌜ Within 38 (p .0) ⌝ }
     ensures { λ r. ⌜ paperGEnd r ≡ gEndAt forward first (p .0) offset ⌝ }
 {
@@ -238,31 +239,78 @@ fn n_of_one(forward: bool, len: u32, number: u16, start: Spot) -> NAnswer
     n_answer(forward, len, both, start, segments::stop_of(start))
 }
 
-// g. to n. of an interval of one base.
-fn one_to_n(
+// A base by itself: its one spot, where it lies inside and is sure. What it is answered with follows from that, so that a host's question about one base needs no more; any other goes the long way.
+pub enum Lone {
+    Sure(Spot),
+    Other,
+}
+
+// A lone base by its g. number.
+pub fn lone_g(
     at: Alignment,
     genome: &[u32; MOST_STARTS],
     transcript: &[u32; MOST_STARTS],
     letters: &[u8; MOST_SEGMENTS],
-    exons: &[u16; MOST_SEGMENTS],
     g: i32,
     strict: bool,
-) -> NAnswer
+) -> Lone
     requires { ⌜ Aligns at (tables (now genome) (now transcript) (now letters)) ⌝ }
-    ensures { λ r. ⌜ paperN r ≡ gToN strict (alignedBy at (tables (now (genome .entry)) (now (transcript .entry)) (now (letters .entry))) (now (exons .entry))) (record { from = g; to = g }) ⌝ }
+    ensures said { λ r. ⌜ paperLone r ≡ loneG strict at (tables (now (genome .entry)) (now (transcript .entry)) (now (letters .entry))) g ⌝ }
+    ensures roomy { λ r. ⌜ RoomyLone (at .count) r ⌝ }
 {
-    let forward = at.forward;
     let count = at.count;
     let p = place_of_g(at.first, g);
     if is_inside(strict, last(genome, count), p) {
-        let start = spot_of_g(at, genome, transcript, letters, p, End::Start);
-        let exon = exons::found(exons, count, behind(at), start);
-        return n_of_one(forward, last(transcript, count), exon, start);
+        let spot = spot_of_g(at, genome, transcript, letters, p, End::Start);
+        if spot.sure {
+            return Lone::Sure(spot);
+        }
     }
-    NAnswer::Refused(refusals::OUTSIDE)
+    Lone::Other
 }
 
-// The same in strict mode, by the number of the segment that holds the base, which is at hand.
+// A lone base by its n. number.
+pub fn lone_n(
+    at: Alignment,
+    genome: &[u32; MOST_STARTS],
+    transcript: &[u32; MOST_STARTS],
+    letters: &[u8; MOST_SEGMENTS],
+    base: i32,
+    strict: bool,
+) -> Lone
+    requires { ⌜ Aligns at (tables (now genome) (now transcript) (now letters)) ⌝ }
+    ensures said { λ r. ⌜ paperLone r ≡ loneN strict at (tables (now (genome .entry)) (now (transcript .entry)) (now (letters .entry))) base ⌝ }
+    ensures roomy { λ r. ⌜ RoomyLone (at .count) r ⌝ }
+{
+    let count = at.count;
+    let len = last(transcript, count);
+    let place = place_of_n(at.forward, len, base);
+    if is_inside(strict, len, place) {
+        let spot = spot_of_n(at, genome, transcript, letters, place, End::Start);
+        if spot.sure {
+            return Lone::Sure(spot);
+        }
+    }
+    Lone::Other
+}
+
+// The exon number of a spot of the transcript.
+pub fn found_exon(at: Alignment, exons: &[u16; MOST_SEGMENTS], spot: Spot) -> u16
+    requires { ⌜ (spot .number < at .count) × (at .count ≤ mostSegments) ⌝ }
+    ensures { λ r. ⌜ r ≡ exonFound (numberBy at (now (exons .entry))) (spotSaid spot) ⌝ }
+{
+    exons::found(exons, at.count, behind(at), spot)
+}
+
+// The exon number of a spot of the genome.
+pub fn chosen_exon(at: Alignment, exons: &[u16; MOST_SEGMENTS], spot: Spot) -> u16
+    requires { ⌜ (spot .number < at .count) × (at .count ≤ mostSegments) ⌝ }
+    ensures { λ r. ⌜ r ≡ exonChosen (at .forward) (numberBy at (now (exons .entry))) (spotSaid spot) ⌝ }
+{
+    exons::chosen(at.forward, exons, at.count, behind(at), spot)
+}
+
+// g. to n. of one base in strict mode, by the number of the segment that holds it, which is at hand.
 pub fn one_to_n_at(
     at: Alignment,
     genome: &[u32; MOST_STARTS],
@@ -309,9 +357,6 @@ pub fn to_n(
     requires { ⌜ Aligns at (tables (now genome) (now transcript) (now letters)) ⌝ }
     ensures { λ r. ⌜ paperN r ≡ gToN strict (alignedBy at (tables (now (genome .entry)) (now (transcript .entry)) (now (letters .entry))) (now (exons .entry))) (record { from = from; to = to }) ⌝ }
 {
-    if from == to {
-        return one_to_n(at, genome, transcript, letters, exons, from, strict);
-    }
     let forward = at.forward;
     let count = at.count;
     let p = place_of_g(at.first, from);

@@ -33,6 +33,10 @@ Answer P = Outcome (Marked P)
 abbrev pub certainly : {P : Type 0} → Interval ℕ → Interval P → Answer P
 certainly exons i = answered (record { mark = certain exons; interval = i })
 
+-- a certain answer whose two ends are one position, with its exon
+abbrev pub once : {P : Type 0} → ℕ → P → Answer P
+once exon a = certainly (record { from = exon; to = exon }) (record { from = a; to = a })
+
 abbrev pub uncertainly : {P : Type 0} → Interval ℕ → Interval P → Answer P
 uncertainly exons i = answered (record { mark = uncertain exons; interval = i })
 

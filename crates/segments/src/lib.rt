@@ -60,7 +60,7 @@ fn find_few(starts: &[u32; MOST_STARTS], count: usize, p: i64) -> usize
     let mut low = 0;
     let mut high = count - 1;
     while low < high {
-        let middle = low + (high - low) / 2;
+        let middle = (low + high) / 2;
         if is_above(starts[middle + 1], p) {
             high = middle;
         } else {

@@ -178,50 +178,50 @@ module _ (letters exons : List ℕ) (n : ℕ) (some : 1 ≤ n) (few : n ≤ 2048
   )
 
   -- on strand 1 the first number is 1, and each is counted up from it
-  decided-up : (records : ℕ) → (eqb (e 0) 1 && (allBelow (steppedAt letters exons 0 1) (n - 1) && stepped (c (n - 1)) (e (n - 1)) records)) ≡ numbersHold true records letters exons n
+  decided-up : (records : ℕ) → (allBelow (steppedAt letters exons 0 1) (n - 1) && (eqb (e 0) 1 && stepped (c (n - 1)) (e (n - 1)) records)) ≡ numbersHold true records letters exons n
   unfolding numbersHold
   decided-up records = equal-where _ _ seen-holds holds-seen
     where
-      seen-holds : (eqb (e 0) 1 && (allBelow (steppedAt letters exons 0 1) (n - 1) && stepped (c (n - 1)) (e (n - 1)) records)) ≡ true
+      seen-holds : (allBelow (steppedAt letters exons 0 1) (n - 1) && (eqb (e 0) 1 && stepped (c (n - 1)) (e (n - 1)) records)) ≡ true
           → (eqb (number records 0) 1 && allBelow (goesOnAt true letters (number records)) n) ≡ true
       seen-holds h =
-          let (first, rest) = both (eqb (e 0) 1) _ h in
-          let (steps, ends) = both (allBelow (steppedAt letters exons 0 1) (n - 1)) _ rest in
+          let (steps, rest) = both (allBelow (steppedAt letters exons 0 1) (n - 1)) _ h in
+          let (first, ends) = both (eqb (e 0) 1) _ rest in
           let begins : number records 0 ≡ 1 = own records 0 some ∙ eqb-true (e 0) 1 first in
           both-of (eq-eqb (number records 0) 1 begins)
           (all-of _ n (goes-up c (number records) n few begins (up-joined records (all-at _ (n - 1) steps) ends)))
 
       holds-seen : (eqb (number records 0) 1 && allBelow (goesOnAt true letters (number records)) n) ≡ true
-          → (eqb (e 0) 1 && (allBelow (steppedAt letters exons 0 1) (n - 1) && stepped (c (n - 1)) (e (n - 1)) records)) ≡ true
+          → (allBelow (steppedAt letters exons 0 1) (n - 1) && (eqb (e 0) 1 && stepped (c (n - 1)) (e (n - 1)) records)) ≡ true
       holds-seen h =
           let (first, goes) = both (eqb (number records 0) 1) _ h in
           let (steps, ends) = up-split records (λ i l. goes-by true (c i) (number records i) (number records (i + 1)) (all-at (goesOnAt true letters (number records)) n goes i l)) in
-          both-of (eq-eqb (e 0) 1 (sym (own records 0 some) ∙ eqb-true (number records 0) 1 first)) (both-of (all-of _ (n - 1) steps) ends)
+          both-of (all-of _ (n - 1) steps) (both-of (eq-eqb (e 0) 1 (sym (own records 0 some) ∙ eqb-true (number records 0) 1 first)) ends)
 
   -- on strand -1 what stands behind the last segment is 1, and each is counted down to it
-  decided-down : (records : ℕ) → (eqb (e 0) records && (allBelow (steppedAt letters exons 1 0) (n - 1) && stepped (c (n - 1)) 1 (e (n - 1)))) ≡ numbersHold false records letters exons n
+  decided-down : (records : ℕ) → (allBelow (steppedAt letters exons 1 0) (n - 1) && (eqb (e 0) records && stepped (c (n - 1)) 1 (e (n - 1)))) ≡ numbersHold false records letters exons n
   unfolding numbersHold
   decided-down records = equal-where _ _ seen-holds holds-seen
     where
       ends-with : number 1 n ≡ 1
       ends-with = rw (le-ltb n n (omega arith))
 
-      seen-holds : (eqb (e 0) records && (allBelow (steppedAt letters exons 1 0) (n - 1) && stepped (c (n - 1)) 1 (e (n - 1)))) ≡ true
+      seen-holds : (allBelow (steppedAt letters exons 1 0) (n - 1) && (eqb (e 0) records && stepped (c (n - 1)) 1 (e (n - 1)))) ≡ true
           → (eqb (number 1 0) records && allBelow (goesOnAt false letters (number 1)) n) ≡ true
       seen-holds h =
-          let (first, rest) = both (eqb (e 0) records) _ h in
-          let (steps, ends) = both (allBelow (steppedAt letters exons 1 0) (n - 1)) _ rest in
+          let (steps, rest) = both (allBelow (steppedAt letters exons 1 0) (n - 1)) _ h in
+          let (first, ends) = both (eqb (e 0) records) _ rest in
           both-of (eq-eqb (number 1 0) records (own 1 0 some ∙ eqb-true (e 0) records first))
           (all-of _ n (goes-down c (number 1) n few ends-with (down-joined (all-at _ (n - 1) steps) ends)))
 
       holds-seen : (eqb (number 1 0) records && allBelow (goesOnAt false letters (number 1)) n) ≡ true
-          → (eqb (e 0) records && (allBelow (steppedAt letters exons 1 0) (n - 1) && stepped (c (n - 1)) 1 (e (n - 1)))) ≡ true
+          → (allBelow (steppedAt letters exons 1 0) (n - 1) && (eqb (e 0) records && stepped (c (n - 1)) 1 (e (n - 1)))) ≡ true
       holds-seen h =
           let (first, goes) = both (eqb (number 1 0) records) _ h in
           let (steps, ends) = down-split (λ i l. goes-by false (c i) (number 1 i) (number 1 (i + 1)) (all-at (goesOnAt false letters (number 1)) n goes i l)) in
-          both-of (eq-eqb (e 0) records (sym (own 1 0 some) ∙ eqb-true (number 1 0) records first)) (both-of (all-of _ (n - 1) steps) ends)
+          both-of (all-of _ (n - 1) steps) (both-of (eq-eqb (e 0) records (sym (own 1 0 some) ∙ eqb-true (number 1 0) records first)) ends)
 
   pub numbers-decided : (forward : Bool) (records : ℕ)
-      → (eqb (e 0) (firstNumber forward records) && (allBelow (steppedAt letters exons (cond forward 0 1) (cond forward 1 0)) (n - 1) && endStepped forward records (c (n - 1)) (e (n - 1)))) ≡ numbersHold forward records letters exons n
+      → (allBelow (steppedAt letters exons (cond forward 0 1) (cond forward 1 0)) (n - 1) && (eqb (e 0) (firstNumber forward records) && endStepped forward records (c (n - 1)) (e (n - 1)))) ≡ numbersHold forward records letters exons n
   numbers-decided true records = decided-up records
   numbers-decided false records = decided-down records

@@ -1,6 +1,6 @@
 // Whether the exon numbers of lent tables hold, which every question asks too. A step is taken as a difference that may wrap: where the numbers begin and end
-// as they are to and no step is above 1, none comes near to wrapping. So one pass that gathers how far steps are above what the letter lets them be
-// decides, with no early way out, and is vectorised. From which of two neighbours a step is taken is a matter of the strand: the loop is told by two numbers, 0 and 1.
+// as they are to and no step is above 1, none comes near to wrapping. So one pass gathers how far steps are above what the letter lets them be, with no early
+// way out, and is vectorised; where none is above, both ends decide. From which of two neighbours a step is taken is a matter of the strand: the loop is told by two numbers, 0 and 1.
 ghost use mathlib.Core.Path.{_≡_};
 ghost use mathlib.Core.Bool.{cond, _&&_};
 ghost use Prim.Native.Nat.{_+_, _-_, _≤_, _<_};
@@ -63,39 +63,39 @@ fn steps_in(
     wrong
 }
 
-// What is above in so many steps from the first segment on. The compiler makes straight code of whole blocks, so the last block overlaps the others; from 16 to 31
-// steps two blocks of 16 do, from 8 to 15 two of 8, and from 4 to 7 two of 4.
-fn steps_above(
+// Whether so many steps from the first segment on are no more than they may be. The compiler makes straight code of whole blocks, so the last block overlaps the others; from 16 to 31
+// steps two blocks of 16 do, from 8 to 15 two of 8, and from 4 to 7 two of 4. No size is told by more than three tests.
+fn steps_hold(
     letters: &[u8; MOST_SEGMENTS],
     exons: &[u16; MOST_SEGMENTS],
     low: usize,
     high: usize,
     to: usize,
-) -> u16
+) -> bool
     requires { ⌜ (low ≤ 1) × (high ≤ 1) × (to < mostSegments) ⌝ }
-    ensures { λ r. ⌜ eqb r 0 ≡ allBelow (steppedAt (now (letters .entry)) (now (exons .entry)) low high) to ⌝ }
+    ensures { λ r. ⌜ r ≡ allBelow (steppedAt (now (letters .entry)) (now (exons .entry)) low high) to ⌝ }
 {
-    if to < 4 {
-        return steps_in(letters, exons, low, high, 0, to);
-    }
-    if to < 8 {
-        let front = steps_in(letters, exons, low, high, 0, 4);
-        let back = steps_in(letters, exons, low, high, to - 4, to);
-        return with_bits(front, back);
-    }
     if to < 16 {
+        if to < 8 {
+            if to < 4 {
+                return steps_in(letters, exons, low, high, 0, to) == 0;
+            }
+            let front = steps_in(letters, exons, low, high, 0, 4);
+            let back = steps_in(letters, exons, low, high, to - 4, to);
+            return with_bits(front, back) == 0;
+        }
         let front = steps_in(letters, exons, low, high, 0, 8);
         let back = steps_in(letters, exons, low, high, to - 8, to);
-        return with_bits(front, back);
+        return with_bits(front, back) == 0;
     }
     if to < 32 {
         let front = steps_in(letters, exons, low, high, 0, 16);
         let back = steps_in(letters, exons, low, high, to - 16, to);
-        return with_bits(front, back);
+        return with_bits(front, back) == 0;
     }
     let front = steps_in(letters, exons, low, high, 0, to - to % 16);
     let back = steps_in(letters, exons, low, high, to - 16, to);
-    with_bits(front, back)
+    with_bits(front, back) == 0
 }
 
 // The neighbour from which a step is taken: the earlier one on strand 1.
@@ -112,21 +112,21 @@ fn to_neighbour(forward: bool) -> usize
     if forward { 1 } else { 0 }
 }
 
-// What the numbers are to begin with.
-fn first_number(forward: bool, records: u16) -> u16
-    ensures { λ r. ⌜ r ≡ firstNumber forward records ⌝ }
+// Whether a step is no more than the letter lets it be.
+fn is_stepped(letter: u8, low: u16, high: u16) -> bool
+    ensures { λ r. ⌜ r ≡ stepped letter low high ⌝ }
 {
-    if forward { 1 } else { records }
+    std::num::wrapping_sub_u16(high, low) <= most_after(letter)
 }
 
-// What was found above, with the step to what stands behind the last segment.
-fn end_on(wrong: u16, letter: u8, number: u16, forward: bool, records: u16) -> u16
-    ensures { λ r. ⌜ eqb r 0 ≡ (eqb wrong 0 && endStepped forward records letter number) ⌝ }
+// Whether the numbers begin and end as they are to: with the first number, and with the step from the last, at the last segment's letter, to what stands behind it.
+fn ends_hold(letter: u8, number: u16, last: u16, forward: bool, records: u16) -> bool
+    ensures { λ r. ⌜ r ≡ (eqb number (firstNumber forward records) && endStepped forward records letter last) ⌝ }
 {
     if forward {
-        return step_on(wrong, letter, number, records);
+        return (number == 1) & is_stepped(letter, last, records);
     }
-    step_on(wrong, letter, 1, number)
+    (number == records) & is_stepped(letter, 1, last)
 }
 
 // Whether the exon numbers of count segments hold.
@@ -143,9 +143,8 @@ pub fn numbers_hold(
     let last = count - 1;
     let low = from_neighbour(forward);
     let high = to_neighbour(forward);
-    let wrong = steps_above(letters, exons, low, high, last);
-    let end = end_on(wrong, letters[last], exons[last], forward, records);
-    let first = first_number(forward, records);
-    let number = exons[0];
-    (number == first) & (end == 0)
+    if steps_hold(letters, exons, low, high, last) {
+        return ends_hold(letters[last], exons[0], exons[last], forward, records);
+    }
+    false
 }

@@ -1,7 +1,7 @@
 -- Each end is mapped by itself, and the two are joined, the start's refusal first; where both are one position, its n. position is both. Assumes nothing.
 use mathlib.Core.Path.{_∙_, sym}
 use Rattle.coding.specs.Coding.{cToN}
-use Rattle.coding.proofs.Same.{same-says}
+use Rattle.coding.specs.laws.Same.{same-says}
 use borrow.Author.Needs.{needs}
 use Rattle.coding.proofs.to_n.Statement.{statement}
 use Rattle.coding.proofs.to_n.Tie as tie

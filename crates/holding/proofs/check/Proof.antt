@@ -1,115 +1,158 @@
--- `holding::check` meets its contract: the kind is 0, 1 or neither, as in `holds`. Of a transcript of records the head's tests come first. Where the totals hold the last entries are below 2 ^ 31, so that the tables were judged by the definition; where they do not, nothing else counts. Assumes nothing.
-use Prim.Native.Nat.{ℕ, _+_}
+-- `holding::check` meets its contract: where the bases are known the head's own tests pass, and what is left of `holds` is the CDS and, of a transcript of records, the tables. Assumes nothing.
+use Prim.Native.Nat.{ℕ}
 use native.Mathlib.Omega.{arith}
-use mathlib.Core.Bool.{Bool, true, false, _&&_}
+use mathlib.Core.Bool.{Bool, true, false, _&&_, and-true, and-false}
 use mathlib.Core.List.{List}
-use mathlib.Core.Path.{_≡_, refl, sym, ap, ap₂, _∙_}
-use lib.Dec.{leb}
-use lib.IntN.{pos}
+use mathlib.Core.Path.{_≡_, sym, _∙_}
+use lib.IntN.{pos, natAbs}
 use lib.ListN.{getD}
 use mir.Syntax.{w32}
-use mir.Val.{SFits}
+use mir.Val.{SFits, ofZ}
 use borrow.Author.Needs.{needs}
-use borrow.Author.Tests.{leb-true}
-use Rattle.refusals.specs.Numbers.{mostBases}
-use Rattle.whole.specs.laws.Whole.{both}
+use Rattle.whole.specs.laws.Whole.{by-test}
 use Rattle.whole.specs.laws.Machine.{same-32, other-32}
-use Rattle.together.specs.Steps.{LowEnds}
-use Rattle.holding.specs.Holding.{segmentsIn, cdsHolds, totalsHold, recordsHold, holds}
+use Rattle.transcript.specs.declared.Head.{Head}
+use Rattle.holding.specs.Holding.{Lent, ofRecords, ofLength, isForward, recordsIn, segmentsIn, segmentsOf, headHolds, cdsHolds, recordsHold, lengthHolds, holds}
+use Rattle.holding.specs.Parts.{lengthFits, basesOf, tablesHold}
+use Rattle.holding.specs.declared.Bases.{Bases}
+use Rattle.holding.specs.declared.Bases.the-variants as bases
 use Rattle.holding.proofs.check.Statement.{statement}
 use Rattle.holding.proofs.check.Tie as tie
 
--- what holds only beside a flag is the same beside it
-beside : (flag a b : Bool) → (flag ≡ true → a ≡ b) → (a && flag) ≡ (b && flag)
-beside true a b h = ap (λ (x : Bool). x && true) (h refl)
-beside false true true h = refl
-beside false true false h = refl
-beside false false true h = refl
-beside false false false h = refl
+-- the kind is told by its word
+of-records : (h : Head) → SFits w32 (h .kind) → ofZ w32 (h .kind) ≡ 0 → ofRecords h ≡ true
+of-records h kind word = same-32 {b = pos 0} kind (record { sfits = omega arith }) word
 
--- totals that hold are below 2 ^ 31
-low-where : (first : ℕ) (genome transcript : List ℕ) (n : ℕ) → totalsHold first (getD genome n 0) (getD transcript n 0) ≡ true → LowEnds genome transcript n
-low-where first genome transcript n h =
-    let (g, t) = both (leb (first + getD genome n 0) mostBases) (leb (getD transcript n 0) mostBases) h in
-    let g-most = leb-true (first + getD genome n 0) mostBases g in
-    let t-most = leb-true (getD transcript n 0) mostBases t in
-    record { genome-low = omega (arith, g-most); transcript-low = omega (arith, t-most) }
+clash : {A : Type 0} {n : ℕ} → bases.Unknown ≡ bases.Known n → A
+clash e = let z : _≡_ {A = ℕ} 0 1 = cc in absurd (omega arith)
 
-first-start-requires : tie.Need-first-start-requires
-first-start-requires c κs = sym (c .before .head-holds .ensures) ∙ c .if2 .taken
+-- of records: the head is right, and there are as many bases as the table ends with
+right-head : (h : Head) (transcript : List ℕ) {n : ℕ} → basesOf h transcript ≡ bases.Known n → ofRecords h ≡ true → (headHolds h ≡ true) × (getD transcript (segmentsIn h) 0 ≡ n)
+unfolding basesOf
+right-head h transcript e r =
+    by-test (headHolds h)
+    (λ right. let k = rw (r, right) at e in (right, (cc)))
+    (λ wrong. clash (rw (r, wrong) at e))
+
+module _ (x : Lent) where
+  abbrev h : Head
+  h = x .head
+
+  abbrev found : Bases
+  found = basesOf h (x .tables .transcript)
+
+  abbrev tables : Bool
+  tables = tablesHold (isForward h) (recordsIn h) (natAbs (h .first)) (x .tables) (x .exons) (segmentsOf x)
+
+  by-records : {n : ℕ} → found ≡ bases.Known n → ofRecords h ≡ true → holds x ≡ (tables && cdsHolds h n)
+  unfolding holds recordsHold tablesHold
+  by-records e r = let (right, is) = right-head h (x .tables .transcript) e r in rw (r, right, is)
+
+  -- where the CDS holds, the tables are left
+  by-tables : {n : ℕ} → found ≡ bases.Known n → cdsHolds h n ≡ true → ofRecords h ≡ true → holds x ≡ tables
+  by-tables e cds r = by-records e r ∙ rw (cds, and-true)
+
+  -- of a length: there are as many bases as that
+  by-length : {n : ℕ} → found ≡ bases.Known n → ofRecords h ≡ false → holds x ≡ cdsHolds h n
+  unfolding basesOf holds lengthHolds
+  by-length {n} e r =
+      by-test (ofLength h)
+      (λ l.
+      by-test (lengthFits h)
+      (λ fits. let k = rw (r, l, fits) at e in let is : natAbs (h .length) ≡ n = cc in rw (r, l, fits, is))
+      (λ not. clash (rw (r, l, not) at e)))
+      (λ l. clash (rw (r, l) at e))
+
+  -- a CDS that does not hold leaves nothing
+  by-cds : {n : ℕ} → found ≡ bases.Known n → cdsHolds h n ≡ false → holds x ≡ false
+  by-cds e cds =
+      by-test (ofRecords h)
+      (λ r. by-records e r ∙ rw (cds, and-false))
+      (λ r. by-length e r ∙ cds)
+
+  by-none : found ≡ bases.Unknown → holds x ≡ false
+  unfolding basesOf holds recordsHold lengthHolds
+  by-none e =
+      by-test (ofRecords h)
+      (λ r.
+      by-test (headHolds h)
+      (λ right. clash (sym (rw (r, right) at e)))
+      (λ wrong. rw (r, wrong)))
+      (λ r.
+      by-test (ofLength h)
+      (λ l.
+      by-test (lengthFits h)
+      (λ fits. clash (sym (rw (r, l, fits) at e)))
+      (λ not. rw (r, l, not)))
+      (λ l. rw (r, l)))
 
 segment-count-requires : tie.Need-segment-count-requires
-segment-count-requires c κs = sym (c .before .before .head-holds .ensures) ∙ c .before .if2 .taken
+segment-count-requires c κs =
+    let at-bases = c .before .before .before .before .before in
+    let h = at-bases .before .before .before .args .head in
+    let kind = of-records h (record { sfits = c .before .struct-told .given .0 .1 }) (c .if2 .taken) in
+    right-head h _ (sym (at-bases .before .before .bases-of .ensures) ∙ at-bases .bases .given .1) kind .0
 
 record-count-requires : tie.Need-record-count-requires
 record-count-requires c κs =
-    let then = c .before .before .before in
-    sym (then .before .head-holds .ensures) ∙ then .if2 .taken
+    let at-kind = c .before in
+    let at-bases = at-kind .before .before .before .before .before in
+    let h = at-bases .before .before .before .args .head in
+    let kind = of-records h (record { sfits = at-kind .before .struct-told .given .0 .1 }) (at-kind .if2 .taken) in
+    right-head h _ (sym (at-bases .before .before .bases-of .ensures) ∙ at-bases .bases .given .1) kind .0
+
+first-start-requires : tie.Need-first-start-requires
+first-start-requires c κs =
+    let at-kind = c .before .before .before in
+    let at-bases = at-kind .before .before .before .before .before in
+    let h = at-bases .before .before .before .args .head in
+    let kind = of-records h (record { sfits = at-kind .before .struct-told .given .0 .1 }) (at-kind .if2 .taken) in
+    right-head h _ (sym (at-bases .before .before .bases-of .ensures) ∙ at-bases .bases .given .1) kind .0
 
 returns : tie.Need-returns
-unfolding holds recordsHold
 returns c =
-    let at-totals = c .before .before in
-    let at-numbers = at-totals .before .before .before in
-    let at-segments = at-numbers .before in
-    let at-records = at-segments .before in
-    let at-forward = at-records .before in
-    let at-count = at-forward .before in
-    let at-then = at-count .before .before in
-    let at-head = at-then .before in
-    let at-kind = at-head .before in
-    let a = at-kind .before .before .args in
-    let kind : SFits w32 (a .head .kind) = record { sfits = at-kind .before .struct-told .given .0 .1 } in
-    let head = sym (at-head .head-holds .ensures) ∙ at-then .if2 .taken in
-    let count = at-count .segment-count .ensures .0 in
-    let totals = simp (count, at-count .before .first-start .ensures) at (at-totals .totals-hold .ensures) in
-    let segments = rw count at (at-segments .segments-hold .ensures) in
-    let numbers = simp (count, at-forward .is-forward .ensures, at-records .record-count .ensures) at (at-numbers .numbers-hold .ensures) in
-    rw (same-32 {b = pos 0} kind (record { sfits = omega arith }) (at-kind .if1 .taken), head, totals, simp count at (c .cds-holds .ensures))
-    (ap (λ (x : Bool). x && cdsHolds (a .head) (getD (a .transcript .now) (segmentsIn (a .head)) 0)) (beside _ _ _ (λ e. ap₂ _&&_ (segments (low-where _ (a .genome .now) (a .transcript .now) _ e)) numbers)))
+    let at-first = c .before in
+    let at-records = at-first .before .before in
+    let at-count = at-records .before in
+    let at-kind = at-count .before in
+    let at-cds = at-kind .before .before in
+    let at-bases = at-cds .before .before .before in
+    let h = at-bases .before .before .before .args .head in
+    let kind = of-records h (record { sfits = at-kind .before .struct-told .given .0 .1 }) (at-kind .if2 .taken) in
+    let known = sym (at-bases .before .before .bases-of .ensures) ∙ at-bases .bases .given .1 in
+    let cds = sym (at-cds .before .cds-holds .ensures) ∙ at-cds .if1 .taken in
+    let tables = simp (at-count .segment-count .ensures .0, at-records .record-count .ensures, at-first .before .is-forward .ensures, at-first .first-start .ensures) at (c .tables-hold .ensures) in
+    tables ∙ sym (by-tables _ known cds kind)
 
 returns-2 : tie.Need-returns-2
-unfolding holds recordsHold
 returns-2 c =
-    let at-kind = c .before .before in
-    let kind : SFits w32 (at-kind .before .before .args .head .kind) = record { sfits = at-kind .before .struct-told .given .0 .1 } in
-    rw (same-32 {b = pos 0} kind (record { sfits = omega arith }) (at-kind .if1 .taken), sym (c .before .head-holds .ensures) ∙ c .if2 .left)
+    let at-cds = c .before .before in
+    let at-bases = at-cds .before .before .before in
+    let known = sym (at-bases .before .before .bases-of .ensures) ∙ at-bases .bases .given .1 in
+    sym (by-length _ known (other-32 (at-bases .before .before .before .args .head .kind) (pos 0) (c .if2 .left)) ∙ (sym (at-cds .before .cds-holds .ensures) ∙ at-cds .if1 .taken))
 
 returns-3 : tie.Need-returns-3
-unfolding holds
 returns-3 c =
-    let at-left = c .before .before in
-    let h = at-left .before .before .args .head in
-    let kind : SFits w32 (h .kind) = record { sfits = at-left .before .struct-told .given .0 .1 } in
-    rw (other-32 (h .kind) (pos 0) (at-left .if1 .left), same-32 {b = pos 1} kind (record { sfits = omega arith }) (c .before .if3 .taken)) (c .length-holds .ensures)
+    let at-bases = c .before .before .before in
+    sym (by-cds _ (sym (at-bases .before .before .bases-of .ensures) ∙ at-bases .bases .given .1) (sym (c .before .cds-holds .ensures) ∙ c .if1 .left))
 
 returns-4 : tie.Need-returns-4
-unfolding holds
-returns-4 c =
-    let h = c .before .before .before .args .head in
-    rw (other-32 (h .kind) (pos 0) (c .before .if1 .left), other-32 (h .kind) (pos 1) (c .if3 .left))
+returns-4 c = sym (by-none _ (sym (c .before .before .bases-of .ensures) ∙ c .enum-told .given .1))
 
 pub check-spec : {M : Type 1} → statement M
 check-spec =
     tie.close
     (tie.spec
     (λ c κs. search needs)
-    first-start-requires
-    segment-count-requires
+    (λ c. search needs)
     (λ c κs. search needs)
+    segment-count-requires
     record-count-requires
     (λ c κs. search needs)
-    (λ c κs. search needs)
-    (λ c. search needs)
-    (λ c. search needs)
-    (λ c. search needs)
-    (λ c. search needs)
-    (λ c κs. search needs)
-    (λ c. search needs)
-    (λ c. search needs)
+    first-start-requires
     (λ c κs. search needs)
     returns
     returns-2
-    (λ c κs. search needs)
+    (λ c. search needs)
     returns-3
     returns-4)

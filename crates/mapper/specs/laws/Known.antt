@@ -14,8 +14,8 @@ use Rattle.segments.specs.Exons.{readNumbers}
 use Rattle.transcript.specs.Transcript.{Transcript, Source, Cds, genomeLength, transcriptLength}
 use Rattle.transcript.specs.Transcript.Source.{aligned, lengthOnly}
 use Rattle.transcript.specs.declared.Head.{Head}
-use Rattle.holding.specs.Holding.{ofRecords, bothGiven, Lent, holds, headCds, sourceOf, checked}
-use Rattle.holding.specs.laws.Held.{natural-says, together, length-right, CdsBounds, cds-bounds, source-of-records, source-of-length, some, few, held-segments, genome-length, transcript-length, checked-held, checked-broken}
+use Rattle.holding.specs.Holding.{ofRecords, bothGiven, headHolds, Lent, holds, headCds, sourceOf, checked}
+use Rattle.holding.specs.laws.Held.{natural-says, together, length-right, CdsBounds, cds-bounds, source-of-records, source-of-length, some, few, held-head, held-segments, genome-length, transcript-length, checked-held, checked-broken}
 use Rattle.positions.specs.Positions.{Interval, GAsked, NAsked, CAsked, asksN}
 use Rattle.positions.specs.Answers.{unmarked, Answer, after, chain}
 use Rattle.coding.specs.Coding.{nToC, cToN}
@@ -48,6 +48,9 @@ lying a c t exons = record { forward = a .forward; first = a .first; elements = 
 -- what is lent was built from records
 pub record Lies (x : Lent) (a : Alignment) (c : Coding) : Type 0 where
   pub held : holds x ≡ true
+  pub head : headHolds (x .head) ≡ true
+  pub at : alignmentOf (x .head) ≡ a
+  pub cds : codingIn (x .head) ≡ c
   pub source : sourceOf x ≡ aligned (lying a c (x .tables) (x .exons))
   pub sound : Aligns a (x .tables)
   pub length : transcriptLength (lying a c (x .tables) (x .exons)) ≡ getD (x .tables .transcript) (a .count) 0
@@ -64,6 +67,9 @@ module _ (x : Lent) where
       let w = together x e r in
       record {
         held = e;
+        head = held-head x w;
+        at = refl;
+        cds = refl;
         source = source-of-records x r ∙ ap (λ (c : Cds). aligned (record { forward = alignmentOf (x .head) .forward; first = natAbs (x .head .first); elements = read (x .tables) (alignmentOf (x .head) .count); numbers = readNumbers (x .exons) (alignmentOf (x .head) .count); records = alignmentOf (x .head) .records; coding = c })) (sym (coding-is (x .head)));
         sound = record { count-from = some x w; count-to = few x w; segments = held-segments x w };
         length = transcript-length x w;

@@ -6,7 +6,7 @@ use Rattle.whole.specs.laws.Whole.{told}
 use Rattle.numbering.specs.Numbers.{placeOfN}
 use Rattle.places.specs.Mapping.{turned}
 use Rattle.positions.specs.Paper.{paperNAsked}
-use Rattle.places.proofs.Spans.{g-answered, g-refused, t-inside}
+use Rattle.places.specs.laws.Spans.{g-answered, g-refused, t-inside}
 use Rattle.segments.specs.Tables.{tables}
 use Rattle.segments.specs.laws.Sizes.{wider}
 use borrow.Author.Needs.{needs}

@@ -5,7 +5,7 @@ use Rattle.whole.specs.laws.Whole.{read}
 use Rattle.numbering.specs.Numbers.{placeOfN}
 use Rattle.segments.specs.laws.Sizes.{wider}
 use Rattle.places.specs.Mapping.{inside, turned}
-use Rattle.places.proofs.Spans.{one-back, one-back-refused}
+use Rattle.places.specs.laws.Spans.{one-back, one-back-refused}
 use borrow.Author.Needs.{needs}
 use Rattle.places.proofs.g_of_one.Statement.{statement}
 use Rattle.places.proofs.g_of_one.Tie as tie

@@ -7,7 +7,7 @@ use Rattle.positions.specs.Paper.{paperNEnd}
 use Rattle.positions.specs.laws.Ends.{ends-after}
 use Rattle.segments.specs.Paper.{spotSaid}
 use Rattle.segments.specs.laws.Sizes.{wider}
-use Rattle.places.proofs.Spans.{one-joined}
+use Rattle.places.specs.laws.Spans.{one-joined}
 use borrow.Author.Needs.{needs}
 use Rattle.places.proofs.n_of_one.Statement.{statement}
 use Rattle.places.proofs.n_of_one.Tie as tie

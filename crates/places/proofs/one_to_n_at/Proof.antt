@@ -5,7 +5,7 @@ use native.Mathlib.Omega.{arith}
 use lib.ListN.{getD}
 use mir.Syntax.{w64}
 use Rattle.whole.specs.laws.Whole.{read, told}
-use Rattle.places.proofs.Spans.{one-answered, one-refused, spot-at, same-number}
+use Rattle.places.specs.laws.Spans.{one-answered, one-refused, spot-at, same-number}
 use Rattle.segments.specs.Places.{segmentAt}
 use Rattle.segments.specs.laws.Finding.{spot-number}
 use Rattle.places.specs.Mapping.{inside, placeOfG}

@@ -1,6 +1,6 @@
 -- `places::spot_of_g` meets its contract: what `genome_to_transcript` gives, whose segment is one of those that there are. Assumes nothing.
 use mathlib.Core.List.{[]}
-use Rattle.places.proofs.Spans.{on-transcript, same-number}
+use Rattle.places.specs.laws.Spans.{on-transcript, same-number}
 use borrow.Author.Needs.{needs}
 use Rattle.places.proofs.spot_of_g.Statement.{statement}
 use Rattle.places.proofs.spot_of_g.Tie as tie

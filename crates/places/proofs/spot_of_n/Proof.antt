@@ -1,6 +1,6 @@
 -- `places::spot_of_n` meets its contract: what `transcript_to_genome` gives, whose segment is one of those that there are. Assumes nothing.
 use mathlib.Core.List.{[]}
-use Rattle.places.proofs.Spans.{on-genome, same-number}
+use Rattle.places.specs.laws.Spans.{on-genome, same-number}
 use borrow.Author.Needs.{needs}
 use Rattle.places.proofs.spot_of_n.Statement.{statement}
 use Rattle.places.proofs.spot_of_n.Tie as tie

@@ -54,7 +54,6 @@ find-few-spec =
     (λ c. search needs)
     loop-holds
     (λ c. search needs)
-    (λ c. search needs)
     add-is-above
     mul-is-above
     element-copy-out-is-above

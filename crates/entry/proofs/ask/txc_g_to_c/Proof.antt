@@ -1,4 +1,4 @@
--- `entry::ask::txc_g_to_c` meets its contract: `g_asked` and `head_of` read what is handed over, the mapper's `g_to_c` answers, and `lay_c` lays the answer out. Assumes nothing.
+-- `entry::ask::txc_g_to_c` meets its contract: `head_of` reads the head, and `telling` answers. Assumes nothing.
 use Rattle.whole.specs.laws.Whole.{read}
 use borrow.Author.Needs.{needs}
 use Rattle.entry.proofs.ask.txc_g_to_c.Statement.{statement}
@@ -6,16 +6,8 @@ use Rattle.entry.proofs.ask.txc_g_to_c.Tie as tie
 
 returns : tie.Need-returns
 returns c =
-    let a = c .before .before .before .before in
-    simp (
-      c .lay-c .ensures,
-      c .before .g-to-c .ensures,
-      c .before .before .head-of .ensures,
-      c .before .before .before .g-asked .ensures,
-      read (a .fits .start),
-      read (a .fits .end),
-    )
+    let a = c .before .before in
+    simp (c .g-to-c .ensures, c .before .head-of .ensures, read (a .fits .start), read (a .fits .end))
 
 pub txc-g-to-c-spec : {M : Type 1} → statement M
-txc-g-to-c-spec =
-    tie.close (tie.spec (λ c κs. search needs) (λ c κs. search needs) (λ c κs. search needs) (λ c κs. search needs) returns)
+txc-g-to-c-spec = tie.close (tie.spec (λ c κs. search needs) (λ c κs. search needs) returns)

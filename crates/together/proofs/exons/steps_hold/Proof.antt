@@ -4,8 +4,8 @@ use mathlib.Core.Bool.{_&&_}
 use mathlib.Core.Path.{ap₂, _∙_}
 use borrow.Author.Needs.{needs}
 use Rattle.together.proofs.All.{from-start, stretched}
-use Rattle.together.proofs.exons.steps_above.Statement.{statement}
-use Rattle.together.proofs.exons.steps_above.Tie as tie
+use Rattle.together.proofs.exons.steps_hold.Statement.{statement}
+use Rattle.together.proofs.exons.steps_hold.Tie as tie
 
 returns : tie.Need-returns
 returns c = c .steps-in .ensures ∙ from-start _ _
@@ -22,8 +22,8 @@ returns-4 c = c .with-bits3 .ensures ∙ ap₂ _&&_ (c .before .before .steps-in
 returns-5 : tie.Need-returns-5
 returns-5 c = c .with-bits4 .ensures ∙ ap₂ _&&_ (c .before .before .steps-in8 .ensures) (c .before .steps-in9 .ensures) ∙ stretched _ _ _ _ (omega arith) (omega arith)
 
-pub steps-above-spec : {M : Type 1} → statement M
-steps-above-spec =
+pub steps-hold-spec : {M : Type 1} → statement M
+steps-hold-spec =
     tie.close
     (tie.spec
     (λ c κs. search needs)

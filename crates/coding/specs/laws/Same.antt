@@ -8,7 +8,7 @@ use Rattle.numbering.specs.declared.CNumber.{CNumber}
 use Rattle.positions.specs.Positions.{CAsked}
 use Rattle.coding.specs.Coding.{sameC}
 
-number-says : (a b : ℤ) → eqZ a b ≡ true → a ≡ b
+pub number-says : (a b : ℤ) → eqZ a b ≡ true → a ≡ b
 number-says a b e = eq-by a b (eq-yes-says a b e)
 
 star-says : (a b : Bool) → Bool·beq a b ≡ true → a ≡ b

@@ -25,7 +25,7 @@ use Rattle.positions.specs.Positions.{Interval, NAsked}
 use Rattle.positions.specs.Answers.{gFits, nFits, fitting, markOf, ends}
 use Rattle.positions.specs.laws.Ends.{ends-fit}
 use Rattle.places.specs.Mapping.{inside, turned, foundExons, chosenExons, placeOfG, nOfSpot, wholeN, gToN, gOfSpot, gOfEnds}
-use Rattle.places.specs.Aligned.{alignedBy, numberBy, Aligns, nEndAt, nJoined, gJoined}
+use Rattle.places.specs.Aligned.{alignedBy, numberBy, Aligns, nEndAt, nJoined, gEndAt, gJoined}
 use Rattle.places.specs.declared.Alignment.{Alignment}
 
 -- the end's exon is the start's
@@ -176,3 +176,7 @@ pub one-joined : (forward : Bool) (len : ℕ) (exons : Interval ℕ) (a : Spot) 
 unfolding nJoined stopOf
 one-joined true len exons a e = rw e refl
 one-joined false len exons a e = rw e refl
+
+pub one-joined-back : (forward : Bool) (first : ℕ) (exons : Interval ℕ) (a : Spot) (o : ℤ) → a .sure ≡ true → gJoined forward first exons a (stopOf a) o o ≡ ends (markOf true exons) (gEndAt forward first (a .place) o) (gEndAt forward first (a .place) o)
+unfolding gJoined stopOf
+one-joined-back forward first exons a o e = rw e refl

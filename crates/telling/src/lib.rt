@@ -1,0 +1,264 @@
+// What a host is told of the three questions that it asks most, laid out. One base that is sure goes a short way, which asks for no more than it needs; every other question goes the way that logs and alleles go too.
+// An answer is laid out where it is found: one that is handed on as it is would be copied in other pieces than it was stored in, and wait for them.
+ghost use mathlib.Core.Path.{_≡_};
+ghost use Prim.Native.Nat.{_≤_, _<_};
+ghost use Rattle.refusals.specs.Numbers.{mostSegments};
+ghost use Rattle.whole.specs.Whole.{eqZ};
+ghost use Rattle.segments.specs.Tables.{tables};
+ghost use Rattle.segments.specs.Paper.{Small, spotSaid};
+ghost use Rattle.holding.specs.Holding.{lent, checked};
+ghost use Rattle.positions.specs.Paper.{paperCAsked};
+ghost use Rattle.places.specs.Aligned.{Aligns};
+ghost use Rattle.places.specs.Lone.{paperLone, RoomyLone};
+ghost use Rattle.mapper.specs.Asking.{askGToN, askGToC, askCToG};
+ghost use Rattle.mapper.specs.Knowing.{paperCoding};
+ghost use Rattle.layout.specs.Layout.{gAsked, cAsked, gLaid, nLaid, cLaid, laid};
+ghost use Rattle.telling.specs.Telling.{sureN, sureC, sureG, loneC};
+use layout::lay;
+use layout::lay::Answer;
+use layout::take;
+use mapper::knowing;
+use mapper::knowing::Coding;
+use mapper::knowing::Known;
+use mapper::steps;
+use mapper::steps::Given;
+use places::Alignment;
+use places::Lone;
+use positions::CAsked;
+use positions::fitting::CEnd;
+use positions::fitting::GEnd;
+use positions::fitting::NEnd;
+use refusals::MISSING_END;
+use refusals::MOST_SEGMENTS;
+use refusals::MOST_STARTS;
+use refusals::NO_GENOME;
+use refusals::NOT_CODING;
+use refusals::NOT_TOGETHER;
+use segments::Spot;
+use transcript::Head;
+
+// Whether an interval is one base.
+fn is_base(from: i32, to: i32) -> bool
+    ensures { λ r. ⌜ r ≡ eqZ from to ⌝ }
+{
+    from == to
+}
+
+// The n. answer of a sure base, by its spot.
+fn sure_n(
+    at: Alignment,
+    transcript: &[u32; MOST_STARTS],
+    exons: &[u16; MOST_SEGMENTS],
+    spot: Spot,
+) -> Answer
+    requires { ⌜ (at .count ≤ mostSegments) × Small 37 spot × (spot .number < at .count) ⌝ }
+    ensures { λ r. ⌜ r ≡ sureN at (now (transcript .entry)) (now (exons .entry)) (spotSaid spot) ⌝ }
+{
+    let count = at.count;
+    let exon = places::found_exon(at, exons, spot);
+    match places::n_of_spot(at.forward, places::last(transcript, count), spot) {
+        NEnd::At(n) => lay::lay_one_n(exon, n),
+        NEnd::Refused(k) => lay::refusal_of(k),
+    }
+}
+
+// g. to n.: 23, 18, 19, 14, 17.
+pub fn g_to_n(
+    head: Head,
+    genome: &[u32; MOST_STARTS],
+    transcript: &[u32; MOST_STARTS],
+    letters: &[u8; MOST_SEGMENTS],
+    exons: &[u16; MOST_SEGMENTS],
+    start: i32,
+    end: i32,
+    missing: u32,
+    strict: bool,
+) -> Answer
+    ensures { λ r. ⌜ r ≡ laid nLaid (checked (lent head (now (genome .entry)) (now (transcript .entry)) (now (letters .entry)) (now (exons .entry))) (askGToN strict (gAsked start end missing))) ⌝ }
+{
+    match knowing::known_of(head, genome, transcript, letters, exons) {
+        Known::Aligned(at, _) => match steps::both_ends(take::g_asked(start, end, missing)) {
+            Given::Ends(from, to) => {
+                if is_base(from, to) {
+                    let lone = places::lone_g(at, genome, transcript, letters, from, strict);
+                    if let Lone::Sure(spot) = lone {
+                        return sure_n(at, transcript, exons, spot);
+                    }
+                }
+                let again = knowing::alignment(head);
+                let told = places::to_n(
+                    again,
+                    genome,
+                    transcript,
+                    letters,
+                    exons,
+                    from,
+                    to,
+                    strict,
+                );
+                lay::lay_n(told)
+            }
+            Given::Missing => lay::refusal_of(MISSING_END),
+        },
+        Known::OfLength(_, _) => lay::refusal_of(NO_GENOME),
+        Known::Broken => lay::refusal_of(NOT_TOGETHER),
+    }
+}
+
+// The c. answer of a sure base, by its spot.
+fn sure_c(
+    at: Alignment,
+    transcript: &[u32; MOST_STARTS],
+    exons: &[u16; MOST_SEGMENTS],
+    cds: Coding,
+    spot: Spot,
+    strict: bool,
+) -> Answer
+    requires { ⌜ (at .count ≤ mostSegments) × Small 37 spot × (spot .number < at .count) ⌝ }
+    ensures { λ r. ⌜ r ≡ sureC strict at (now (transcript .entry)) (now (exons .entry)) (paperCoding cds) (spotSaid spot) ⌝ }
+{
+    let count = at.count;
+    let exon = places::found_exon(at, exons, spot);
+    let len = places::last(transcript, count);
+    match places::n_of_spot(at.forward, len, spot) {
+        NEnd::At(n) => match cds {
+            Coding::Cds(s, e) => match coding::one_to_c(strict, len, s, e, n) {
+                CEnd::At(c) => lay::lay_one_c(exon, c),
+                CEnd::Refused(k) => lay::refusal_of(k),
+            },
+            Coding::Missing => lay::refusal_of(NOT_CODING),
+        },
+        NEnd::Refused(k) => lay::refusal_of(k),
+    }
+}
+
+// g. to c.: g. to n. wholly, then n. to c.
+pub fn g_to_c(
+    head: Head,
+    genome: &[u32; MOST_STARTS],
+    transcript: &[u32; MOST_STARTS],
+    letters: &[u8; MOST_SEGMENTS],
+    exons: &[u16; MOST_SEGMENTS],
+    start: i32,
+    end: i32,
+    missing: u32,
+    strict: bool,
+) -> Answer
+    ensures { λ r. ⌜ r ≡ laid cLaid (checked (lent head (now (genome .entry)) (now (transcript .entry)) (now (letters .entry)) (now (exons .entry))) (askGToC strict (gAsked start end missing))) ⌝ }
+{
+    match knowing::known_of(head, genome, transcript, letters, exons) {
+        Known::Aligned(at, cds) => match steps::both_ends(take::g_asked(start, end, missing)) {
+            Given::Ends(from, to) => {
+                if is_base(from, to) {
+                    let lone = places::lone_g(at, genome, transcript, letters, from, strict);
+                    if let Lone::Sure(spot) = lone {
+                        return sure_c(at, transcript, exons, cds, spot, strict);
+                    }
+                }
+                let again = knowing::alignment(head);
+                let count = again.count;
+                let len = places::last(transcript, count);
+                let told = places::to_n(
+                    again,
+                    genome,
+                    transcript,
+                    letters,
+                    exons,
+                    from,
+                    to,
+                    strict,
+                );
+                lay::lay_c(steps::then_n_to_c(told, len, knowing::coding_of(head), strict))
+            }
+            Given::Missing => lay::refusal_of(MISSING_END),
+        },
+        Known::OfLength(_, _) => lay::refusal_of(NO_GENOME),
+        Known::Broken => lay::refusal_of(NOT_TOGETHER),
+    }
+}
+
+// A lone base by its c. position, with the CDS's start s and end e.
+fn lone_c(
+    at: Alignment,
+    genome: &[u32; MOST_STARTS],
+    transcript: &[u32; MOST_STARTS],
+    letters: &[u8; MOST_SEGMENTS],
+    s: u32,
+    e: u32,
+    c: CAsked,
+    strict: bool,
+) -> Lone
+    requires { ⌜ Aligns at (tables (now genome) (now transcript) (now letters)) ⌝ }
+    ensures said { λ r. ⌜ paperLone r ≡ loneC strict at (tables (now (genome .entry)) (now (transcript .entry)) (now (letters .entry))) s e (paperCAsked c) ⌝ }
+    ensures roomy { λ r. ⌜ RoomyLone (at .count) r ⌝ }
+{
+    let count = at.count;
+    match coding::n_position(strict, places::last(transcript, count), s, e, c) {
+        NEnd::At(n) => places::lone_n(at, genome, transcript, letters, n.base, strict),
+        NEnd::Refused(_) => Lone::Other,
+    }
+}
+
+// The g. answer of a sure base, by its spot, with its number's own offset.
+fn sure_g(at: Alignment, exons: &[u16; MOST_SEGMENTS], spot: Spot, offset: i32) -> Answer
+    requires { ⌜ (at .count ≤ mostSegments) × Small 37 spot × (spot .number < at .count) ⌝ }
+    ensures { λ r. ⌜ r ≡ sureG at (now (exons .entry)) (spotSaid spot) offset ⌝ }
+{
+    let exon = places::chosen_exon(at, exons, spot);
+    match places::g_of_place(at.forward, at.first, spot.place, offset) {
+        GEnd::At(g) => lay::lay_one_g(exon, g),
+        GEnd::Refused(k) => lay::refusal_of(k),
+    }
+}
+
+// c. to g.: c. to n. wholly, then n. to g.
+pub fn c_to_g(
+    head: Head,
+    genome: &[u32; MOST_STARTS],
+    transcript: &[u32; MOST_STARTS],
+    letters: &[u8; MOST_SEGMENTS],
+    exons: &[u16; MOST_SEGMENTS],
+    start: i32,
+    start_offset: i32,
+    start_star: bool,
+    end: i32,
+    end_offset: i32,
+    end_star: bool,
+    strict: bool,
+) -> Answer
+    ensures { λ r. ⌜ r ≡ laid gLaid (checked (lent head (now (genome .entry)) (now (transcript .entry)) (now (letters .entry)) (now (exons .entry))) (askCToG strict (cAsked start «start_offset» «start_star» end «end_offset» «end_star»))) ⌝ }
+{
+    let from = CAsked {
+        base: start,
+        star: start_star,
+        offset: start_offset,
+    };
+    let to = CAsked {
+        base: end,
+        star: end_star,
+        offset: end_offset,
+    };
+    match knowing::known_of(head, genome, transcript, letters, exons) {
+        Known::Aligned(at, cds) => {
+            if let Coding::Cds(s, e) = cds {
+                if coding::is_same(from, to) {
+                    let lone = lone_c(at, genome, transcript, letters, s, e, from, strict);
+                    if let Lone::Sure(spot) = lone {
+                        return sure_g(at, exons, spot, start_offset);
+                    }
+                }
+            }
+            let again = knowing::alignment(head);
+            let count = again.count;
+            let len = places::last(transcript, count);
+            let c = take::c_asked(start, start_offset, start_star, end, end_offset, end_star);
+            let n = steps::c_to_n(len, knowing::coding_of(head), c, strict);
+            lay::lay_g(steps::then_n_to_g(n, again, genome, transcript, letters, exons, strict))
+        }
+        Known::OfLength(length, cds) => {
+            let c = take::c_asked(start, start_offset, start_star, end, end_offset, end_star);
+            lay::lay_g(steps::then_no_genome(steps::c_to_n(length, cds, c, strict)))
+        }
+        Known::Broken => lay::refusal_of(NOT_TOGETHER),
+    }
+}

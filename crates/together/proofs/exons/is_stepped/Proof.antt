@@ -1,0 +1,19 @@
+-- The difference is the one that wraps, by name (`wrapped16-is`). Assumes nothing.
+use native.Mathlib.Omega.{arith}
+use mathlib.Core.Path.{ap₂}
+use lib.Dec.{leb}
+use borrow.Author.Needs.{needs}
+use Rattle.together.specs.Numbers.{stepped}
+use Rattle.together.proofs.OneNumber.{wrapped16-is}
+use Rattle.together.proofs.exons.is_stepped.Statement.{statement}
+use Rattle.together.proofs.exons.is_stepped.Tie as tie
+
+returns : tie.Need-returns
+unfolding stepped
+returns c =
+    let at-step = c .before in
+    let fits = at-step .before .fits in
+    ap₂ leb (wrapped16-is _ _ _ (fits .high .fits) (fits .low .fits) (omega arith) (at-step .wrapping-sub-u16 .ensures)) (c .most-after .ensures)
+
+pub is-stepped-spec : {M : Type 1} → statement M
+is-stepped-spec = tie.close (tie.spec (λ c κs. search needs) (λ c κs. search needs) returns)
