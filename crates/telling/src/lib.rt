@@ -7,7 +7,8 @@ ghost use Rattle.whole.specs.Whole.{eqZ};
 ghost use Rattle.segments.specs.Tables.{tables};
 ghost use Rattle.segments.specs.Paper.{Small, spotSaid};
 ghost use Rattle.holding.specs.Holding.{lent, checked};
-ghost use Rattle.positions.specs.Paper.{paperCAsked};
+ghost use Rattle.positions.specs.Answers.{certain, ends};
+ghost use Rattle.positions.specs.Paper.{paperCAsked, paperNEnd};
 ghost use Rattle.places.specs.Aligned.{Aligns};
 ghost use Rattle.places.specs.Lone.{paperLone, RoomyLone};
 ghost use Rattle.mapper.specs.Asking.{askGToN, askGToC, askCToG};
@@ -44,7 +45,17 @@ fn is_base(from: i32, to: i32) -> bool
     from == to
 }
 
-// The n. answer of a sure base, by its spot.
+// An n. position, or why there is none, as the answer of a base with this exon.
+fn laid_n(exon: u16, end: NEnd) -> Answer
+    ensures { λ r. ⌜ r ≡ laid nLaid (ends (certain (record { from = exon; to = exon })) (paperNEnd end) (paperNEnd end)) ⌝ }
+{
+    match end {
+        NEnd::At(n) => lay::lay_one_n(exon, n),
+        NEnd::Refused(k) => lay::refusal_of(k),
+    }
+}
+
+// The n. answer of a sure base, by its spot. The strands part here, so that nothing is turned on strand 1.
 fn sure_n(
     at: Alignment,
     transcript: &[u32; MOST_STARTS],
@@ -56,10 +67,11 @@ fn sure_n(
 {
     let count = at.count;
     let exon = places::found_exon(at, exons, spot);
-    match places::n_of_spot(at.forward, places::last(transcript, count), spot) {
-        NEnd::At(n) => lay::lay_one_n(exon, n),
-        NEnd::Refused(k) => lay::refusal_of(k),
+    let len = places::last(transcript, count);
+    if at.forward {
+        return laid_n(exon, places::n_of_spot(true, len, spot));
     }
+    laid_n(exon, places::n_of_spot(false, len, spot))
 }
 
 // g. to n.: 23, 18, 19, 14, 17.
