@@ -310,7 +310,31 @@ pub fn chosen_exon(at: Alignment, exons: &[u16; MOST_SEGMENTS], spot: Spot) -> u
     exons::chosen(at.forward, exons, at.count, behind(at), spot)
 }
 
-// g. to n. of one base in strict mode, by the number of the segment that holds it, which is at hand.
+// g. to n. of an interval of one base.
+fn one_to_n(
+    at: Alignment,
+    genome: &[u32; MOST_STARTS],
+    transcript: &[u32; MOST_STARTS],
+    letters: &[u8; MOST_SEGMENTS],
+    exons: &[u16; MOST_SEGMENTS],
+    g: i32,
+    strict: bool,
+) -> NAnswer
+    requires { ⌜ Aligns at (tables (now genome) (now transcript) (now letters)) ⌝ }
+    ensures { λ r. ⌜ paperN r ≡ gToN strict (alignedBy at (tables (now (genome .entry)) (now (transcript .entry)) (now (letters .entry))) (now (exons .entry))) (record { from = g; to = g }) ⌝ }
+{
+    let forward = at.forward;
+    let count = at.count;
+    let place = place_of_g(at.first, g);
+    if is_inside(strict, last(genome, count), place) {
+        let start = spot_of_g(at, genome, transcript, letters, place, End::Start);
+        let exon = exons::found(exons, count, behind(at), start);
+        return n_of_one(forward, last(transcript, count), exon, start);
+    }
+    NAnswer::Refused(refusals::OUTSIDE)
+}
+
+// The same in strict mode, by the number of the segment that holds the base, which is at hand.
 pub fn one_to_n_at(
     at: Alignment,
     genome: &[u32; MOST_STARTS],
@@ -357,6 +381,9 @@ pub fn to_n(
     requires { ⌜ Aligns at (tables (now genome) (now transcript) (now letters)) ⌝ }
     ensures { λ r. ⌜ paperN r ≡ gToN strict (alignedBy at (tables (now (genome .entry)) (now (transcript .entry)) (now (letters .entry))) (now (exons .entry))) (record { from = from; to = to }) ⌝ }
 {
+    if from == to {
+        return one_to_n(at, genome, transcript, letters, exons, from, strict);
+    }
     let forward = at.forward;
     let count = at.count;
     let p = place_of_g(at.first, from);
