@@ -1,6 +1,6 @@
--- A base by itself, start and end of its interval alike: where it lies inside and is sure it has one spot, which both ends are answered by. Assumes nothing.
+-- A base by itself, start and end of its interval alike: where it lies inside and is sure it has one spot, which both ends are answered by; where it is not sure, the segment that it was found in is known. Assumes nothing.
 use Prim.Native.Nat.{ℕ, _<_}
-use mathlib.Core.Bool.{Bool, _&&_}
+use mathlib.Core.Bool.{Bool}
 use mathlib.Core.List.{List}
 use lib.IntN.{ℤ}
 use lib.ListN.{getD}
@@ -18,14 +18,15 @@ use Rattle.places.specs.Aligned.{numberBy, nEndAt, gEndAt}
 use Rattle.places.specs.declared.Alignment.{Alignment}
 use Rattle.places.specs.declared.Lone as code
 
--- the one spot, or the word that there is none
+-- the one spot, or the number of the segment of a base that is not sure, or the word that there is neither
 pub data Lone : Type 0 where
   sure : Spot → Lone
+  unsure : ℕ → Lone
   other : Lone
 
--- the spot of a place, where it lies inside and is sure
+-- of a place by its spot, where it lies inside
 abbrev pub loneIf : Bool → Spot → Lone
-loneIf within s = if within && s .sure then sure s else other
+loneIf within s = if within then (if s .sure then sure s else unsure (s .number)) else other
 
 -- of a g. number
 unfoldable pub loneG : Bool → Alignment → Tables → ℤ → Lone
@@ -60,9 +61,11 @@ gOnce a exons s o =
 
 abbrev pub paperLone : code.Lone → Lone
 paperLone (code.the-variants.Sure s) = sure (spotSaid s)
+paperLone (code.the-variants.Unsure number) = unsure number
 paperLone code.the-variants.Other = other
 
 -- a spot that is told leaves room for a few sums, and its segment is one of so many
 abbrev pub RoomyLone : ℕ → code.Lone → Type 0
 RoomyLone count (code.the-variants.Sure s) = Small 37 s × (s .number < count)
+RoomyLone count (code.the-variants.Unsure number) = Unit
 RoomyLone count code.the-variants.Other = Unit

@@ -11,7 +11,8 @@ ghost use Rattle.segments.specs.Paper.{Small, endSaid, spotSaid, toTranscript, 
 ghost use Rattle.segments.specs.Places.{stopOf};
 ghost use Rattle.segments.specs.Exons.{lastNumber, exonFound, exonChosen};
 ghost use Rattle.positions.specs.Answers.{gFits, fitting};
-ghost use Rattle.positions.specs.Paper.{paperNAsked, paperNQuestion, paperGEnd, paperNEnd, paperExons, paperG, paperN};
+ghost use Rattle.positions.specs.Positions.{asksN};
+ghost use Rattle.positions.specs.Paper.{paperNAsked, paperNPosition, paperNQuestion, paperGEnd, paperNEnd, paperExons, paperG, paperN};
 ghost use Rattle.places.specs.Mapping.{inside, turned, signed, foundExons, chosenExons, placeOfG, gToN, gOfEnds, nToG, inBounds};
 ghost use Rattle.places.specs.Lone.{loneG, loneN, paperLone, RoomyLone};
 ghost use Rattle.places.specs.Aligned.{alignedBy, numberBy, Aligns, InSegment, nEndAt, nJoined, gEndAt, gJoined};
@@ -20,6 +21,7 @@ use positions::Exons;
 use positions::GAnswer;
 use positions::NAnswer;
 use positions::NAsked;
+use positions::NPosition;
 use positions::NQuestion;
 use positions::fitting;
 use positions::fitting::GEnd;
@@ -239,9 +241,11 @@ fn n_of_one(forward: bool, len: u32, number: u16, start: Spot) -> NAnswer
     n_answer(forward, len, both, start, segments::stop_of(start))
 }
 
-// A base by itself: its one spot, where it lies inside and is sure. What it is answered with follows from that, so that a host's question about one base needs no more; any other goes the long way.
+// A base by itself that lies inside: its one spot, where it is sure. What it is answered with follows from that, so that a host's question about one base needs no more. Of one that is not
+// sure the number of its segment, so that it is not looked for again; any other goes the long way.
 pub enum Lone {
     Sure(Spot),
+    Unsure(usize),
     Other,
 }
 
@@ -265,6 +269,7 @@ pub fn lone_g(
         if spot.sure {
             return Lone::Sure(spot);
         }
+        return Lone::Unsure(spot.number);
     }
     Lone::Other
 }
@@ -290,6 +295,7 @@ pub fn lone_n(
         if spot.sure {
             return Lone::Sure(spot);
         }
+        return Lone::Unsure(spot.number);
     }
     Lone::Other
 }
@@ -334,7 +340,7 @@ fn one_to_n(
     NAnswer::Refused(refusals::OUTSIDE)
 }
 
-// The same in strict mode, by the number of the segment that holds the base, which is at hand.
+// The same by the number of the segment that holds the base, which is at hand.
 pub fn one_to_n_at(
     at: Alignment,
     genome: &[u32; MOST_STARTS],
@@ -343,21 +349,22 @@ pub fn one_to_n_at(
     exons: &[u16; MOST_SEGMENTS],
     number: usize,
     g: i32,
+    strict: bool,
 ) -> NAnswer
     requires { ⌜ Aligns at (tables (now genome) (now transcript) (now letters)) ⌝ }
-    requires { ⌜ InSegment at (now genome) number g ⌝ }
-    ensures { λ r. ⌜ paperN r ≡ gToN true (alignedBy at (tables (now (genome .entry)) (now (transcript .entry)) (now (letters .entry))) (now (exons .entry))) (record { from = g; to = g }) ⌝ }
+    requires { ⌜ InSegment strict (now genome) (at .count) number (placeOfG (at .first) g) ⌝ }
+    ensures { λ r. ⌜ paperN r ≡ gToN strict (alignedBy at (tables (now (genome .entry)) (now (transcript .entry)) (now (letters .entry))) (now (exons .entry))) (record { from = g; to = g }) ⌝ }
 {
     let forward = at.forward;
     let count = at.count;
-    let p = place_of_g(at.first, g);
-    if is_inside(true, last(genome, count), p) {
+    let here = place_of_g(at.first, g);
+    if is_inside(strict, last(genome, count), here) {
         let start = segments::map_at(
             genome,
             transcript,
             letters,
             number,
-            p.0,
+            here.0,
             End::Start,
             forward,
         );
@@ -411,6 +418,54 @@ fn g_answer(forward: bool, first: u32, exons: Exons, a: Spot, b: Spot, o: i32, u
     )
 }
 
+// The g. interval of two positions with one number, by its spot as an interval's start, and their offsets o and u.
+fn g_of_start(at: Alignment, exons: &[u16; MOST_SEGMENTS], start: Spot, o: i32, u: i32) -> GAnswer
+    requires { ⌜ Small 37 start × (start .number < at .count) × (at .count ≤ mostSegments) ⌝ }
+    ensures { λ r. ⌜ paperG r ≡ gJoined (at .forward) (at .first) (record { from = exonChosen (at .forward) (numberBy at (now (exons .entry))) (spotSaid start); to = exonChosen (at .forward) (numberBy at (now (exons .entry))) (spotSaid start) }) (spotSaid start) (stopOf (spotSaid start)) o u ⌝ }
+{
+    let forward = at.forward;
+    let number = chosen_exon(at, exons, start);
+    let both = Exons {
+        from: number,
+        to: number,
+    };
+    g_answer(
+        forward,
+        at.first,
+        both,
+        start,
+        segments::stop_of(start),
+        o,
+        u,
+    )
+}
+
+// n. to g. of a position that is both ends, by the number of the segment that holds its place, which is at hand.
+pub fn one_to_g_at(
+    at: Alignment,
+    genome: &[u32; MOST_STARTS],
+    transcript: &[u32; MOST_STARTS],
+    letters: &[u8; MOST_SEGMENTS],
+    exons: &[u16; MOST_SEGMENTS],
+    number: usize,
+    n: NPosition,
+    strict: bool,
+) -> GAnswer
+    requires { ⌜ Aligns at (tables (now genome) (now transcript) (now letters)) ⌝ }
+    requires { ⌜ InSegment strict (now transcript) (at .count) number (turned (at .forward) (getD (now transcript) (at .count) 0) (placeOfN (n .base))) ⌝ }
+    ensures { λ r. ⌜ paperG r ≡ nToG strict (alignedBy at (tables (now (genome .entry)) (now (transcript .entry)) (now (letters .entry))) (now (exons .entry))) (record { from = asksN (paperNPosition n); to = asksN (paperNPosition n) }) ⌝ }
+{
+    let count = at.count;
+    let len = last(transcript, count);
+    let p = place_of_n(at.forward, len, n.base);
+    let offset = n.offset;
+    if is_inside(strict, len, p) {
+        let start = segments::map_at(transcript, genome, letters, number, p.0, End::Start, true);
+        return g_of_start(at, exons, start, offset, offset);
+    }
+    GAnswer::Refused(refusals::OUTSIDE)
+}
+
 // n. to g. of two positions with one number, whose offsets are o and u: its place is looked for once.
 fn g_of_one(
     at: Alignment,
@@ -432,20 +487,7 @@ fn g_of_one(
     let p = place_of_n(forward, len, base);
     if is_inside(strict, len, p) {
         let start = spot_of_n(at, genome, transcript, letters, p, End::Start);
-        let number = exons::chosen(forward, exons, count, behind(at), start);
-        let both = Exons {
-            from: number,
-            to: number,
-        };
-        return g_answer(
-            forward,
-            at.first,
-            both,
-            start,
-            segments::stop_of(start),
-            o,
-            u,
-        );
+        return g_of_start(at, exons, start, o, u);
     }
     GAnswer::Refused(refusals::OUTSIDE)
 }

@@ -1,4 +1,4 @@
--- `places::lone_n` meets its contract: `place_of_n` gives the turned place, so that the test made is 14's; by it, and by whether its spot is sure, there is the one spot or none. Assumes nothing.
+-- `places::lone_n` meets its contract: `place_of_n` gives the turned place, so that the test made is 14's; by it, and by whether its spot is sure, there is the one spot, the number of its segment, or neither. Assumes nothing.
 use mathlib.Core.Path.{_≡_, sym, _∙_}
 use lib.ListN.{getD}
 use Rattle.whole.specs.laws.Whole.{read}
