@@ -1,4 +1,4 @@
-// What a host is told of the three questions that it asks most, laid out. One base that is sure goes a short way, which asks for no more than it needs; every other question goes the way that logs and alleles go too.
+// What a host is told of the three questions that it asks most, laid out. One base that is sure goes a short way, which asks for no more than it needs; one that is not is answered by the segment that it was found in, and every other question goes the way that logs and alleles go too.
 // An answer is laid out where it is found: one that is handed on as it is would be copied in other pieces than it was stored in, and wait for them.
 ghost use mathlib.Core.Path.{_≡_};
 ghost use Prim.Native.Nat.{_≤_, _<_};
