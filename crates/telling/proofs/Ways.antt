@@ -1,4 +1,4 @@
--- What each of the three questions is, where the transcript lies on the genome: of one sure base by its spot, and of any interval. Assumes nothing.
+-- What each of the three questions is, where the transcript lies on the genome: of one sure base by its spot, of one that is not by its segment, and of any interval. Assumes nothing.
 use Prim.Native.Nat.{ℕ}
 use native.Mathlib.Omega.{arith}
 use mathlib.Core.Bool.{Bool, true}
@@ -15,10 +15,10 @@ use Rattle.positions.specs.Answers.{certain, unmarked, Answer, once, ends, afte
 use Rattle.positions.specs.laws.Ends.{ends-after}
 use Rattle.coding.specs.Coding.{cOfInterval, nPosition, oneToC, nToC, cToN}
 use Rattle.coding.specs.laws.Once.{one-to-c, one-to-n, offset-stays}
-use Rattle.places.specs.Mapping.{gToN, nToG}
-use Rattle.places.specs.Aligned.{alignedBy}
-use Rattle.places.specs.Lone.{sure, loneG, nOnce, gOnce}
-use Rattle.places.specs.laws.Lone.{lone-to-n, lone-to-g}
+use Rattle.places.specs.Mapping.{placeOfG, gToN, nToG}
+use Rattle.places.specs.Aligned.{alignedBy, InSegment}
+use Rattle.places.specs.Lone.{sure, unsure, loneG, nOnce, gOnce}
+use Rattle.places.specs.laws.Lone.{lone-to-n, lone-to-g, unsure-of-g}
 use Rattle.places.specs.declared.Alignment.{Alignment}
 use Rattle.mapper.specs.Asking.{given, askGToN, askGToC, askCToG}
 use Rattle.mapper.specs.Knowing.{knownOf, paperCoding}
@@ -26,7 +26,7 @@ use Rattle.mapper.specs.laws.Known.{known-lies, lying-g-to-n, lying-g-to-c, lyi
 use Rattle.mapper.specs.declared.knowing.Coding.{Coding}
 use Rattle.mapper.specs.declared.knowing.Coding.the-variants as coding
 use Rattle.mapper.specs.declared.knowing.Known.the-variants as known
-use Rattle.telling.specs.Telling.{loneAt, loneC}
+use Rattle.telling.specs.Telling.{bothToG, loneAt, loneC}
 
 -- an n. position that is both ends, numbered once in c.
 pub c-once : (strict : Bool) (len from to : ℕ) (exon : ℕ) (n : NPosition)
@@ -55,28 +55,51 @@ module _ (x : Lent) (a : Alignment) (c : Coding) (k : knownOf x ≡ known.Aligne
   pub c-by-ends : (q : Interval GAsked) (o : Outcome (Interval ℤ)) → o ≡ given q → checked x (askGToC strict q) ≡ chain asksN (andThen o (gToN strict lies)) (nToC strict long (paperCoding c))
   c-by-ends q o e = rw e (lying-g-to-c x a c k strict q)
 
-  pub one-base : (g h : ℤ) (s : Spot) → g ≡ h → sure s ≡ loneG strict a (x .tables) g → gToN strict lies (record { from = g; to = h }) ≡ nOnce a (x .tables .transcript) (x .exons) s
-  one-base g h s e l = rw (← e) (lone-to-n a (x .tables) (x .exons) (known-lies x a c k .sound) strict s g (sym l))
+  -- by one number that both ends are
+  module _ (q : Interval GAsked) (g h : ℤ) (e : answered (record { from = g; to = h }) ≡ given q) (one : g ≡ h) where
+    pub one-place : checked x (askGToN strict q) ≡ gToN strict lies (record { from = g; to = g })
+    one-place = rw (← one) at (n-by-ends q _ e)
 
-  pub one-base-c : (q : Interval GAsked) (g h : ℤ) (s : Spot) → answered (record { from = g; to = h }) ≡ given q → g ≡ h → sure s ≡ loneG strict a (x .tables) g
-      → checked x (askGToC strict q) ≡ chain asksN (nOnce a (x .tables .transcript) (x .exons) s) (nToC strict long (paperCoding c))
-  one-base-c q g h s e one l = c-by-ends q _ e ∙ ap (λ (i : Answer NPosition). chain asksN i (nToC strict long (paperCoding c))) (one-base g h s one l)
+    pub one-place-c : checked x (askGToC strict q) ≡ chain asksN (gToN strict lies (record { from = g; to = g })) (nToC strict long (paperCoding c))
+    one-place-c = rw (← one) at (c-by-ends q _ e)
+
+    -- of a base with the one spot s
+    module _ (s : Spot) (l : sure s ≡ loneG strict a (x .tables) g) where
+      its-n : gToN strict lies (record { from = g; to = g }) ≡ nOnce a (x .tables .transcript) (x .exons) s
+      its-n = lone-to-n a (x .tables) (x .exons) (known-lies x a c k .sound) strict s g (sym l)
+
+      pub one-base : checked x (askGToN strict q) ≡ nOnce a (x .tables .transcript) (x .exons) s
+      one-base = one-place ∙ its-n
+
+      pub one-base-c : checked x (askGToC strict q) ≡ chain asksN (nOnce a (x .tables .transcript) (x .exons) s) (nToC strict long (paperCoding c))
+      one-base-c = one-place-c ∙ ap (λ (i : Answer NPosition). chain asksN i (nToC strict long (paperCoding c))) its-n
+
+  -- where a base is not sure, its segment has the number that is told
+  pub unsure-base : (g : ℤ) (number : ℕ) → unsure number ≡ loneG strict a (x .tables) g → InSegment strict (x .tables .genome) (a .count) number (placeOfG (a .first) g)
+  unsure-base g number l = unsure-of-g a (x .tables) (x .exons) (known-lies x a c k .sound) strict number g (sym l)
 
   -- ---- from c.
 
-  -- an n. position with the one spot s
-  by-spot : (s : Spot) (n : Outcome NPosition) (o : ℤ) → ((p : NPosition) → n ≡ answered p → p .offset ≡ o) → sure s ≡ loneAt strict a (x .tables) n
-      → chain asksN (ends unmarked n n) (nToG strict lies) ≡ gOnce a (x .exons) s o
+  -- both ends are one n. position, or refused by one number
+  both-ends : (n : Outcome NPosition) → chain asksN (ends unmarked n n) (nToG strict lies) ≡ bothToG strict lies n
+  both-ends (answered p) = plain-first _
+  both-ends (refused k) = refl
+
+  -- one with the one spot s
+  by-spot : (s : Spot) (n : Outcome NPosition) (o : ℤ) → ((p : NPosition) → n ≡ answered p → p .offset ≡ o) → sure s ≡ loneAt strict a (x .tables) n → bothToG strict lies n ≡ gOnce a (x .exons) s o
   by-spot s (answered p) o offset l =
-      plain-first _
-      ∙ (lone-to-g a (x .tables) (x .exons) (known-lies x a c k .sound) strict s (p .base) (p .offset) (sym l)
-      ∙ ap (gOnce a (x .exons) s) (offset p refl))
+      lone-to-g a (x .tables) (x .exons) (known-lies x a c k .sound) strict s (p .base) (p .offset) (sym l)
+      ∙ ap (gOnce a (x .exons) s) (offset p refl)
   by-spot s (refused e) o offset l = let z : _≡_ {A = ℕ} 0 1 = cc in absurd (omega arith)
 
-  pub one-name : (p q : CAsked) (from to : ℕ) (s : Spot) → c ≡ coding.Cds from to → p ≡ q → sure s ≡ loneC strict a (x .tables) from to p
-      → checked x (askCToG strict (record { from = p; to = q })) ≡ gOnce a (x .exons) s (p .offset)
-  one-name p q from to s d e l =
-      rw (← e)
-      (lying-c-to-g x a c k strict (record { from = p; to = p })
-      ∙ (ap (λ (i : Answer NPosition). chain asksN i (nToG strict lies)) (ap (λ (i : Coding). cToN strict long (paperCoding i) (record { from = p; to = p })) d ∙ one-to-n strict long from to p)
-      ∙ by-spot s (nPosition strict long from to p) (p .offset) (offset-stays strict long from to p) l))
+  -- of one name, and of one with the one spot s
+  module _ (p q : CAsked) (from to : ℕ) (d : c ≡ coding.Cds from to) (e : p ≡ q) where
+    pub one-name : checked x (askCToG strict (record { from = p; to = q })) ≡ bothToG strict lies (nPosition strict long from to p)
+    one-name =
+        rw (← e)
+        (lying-c-to-g x a c k strict (record { from = p; to = p })
+        ∙ (ap (λ (i : Answer NPosition). chain asksN i (nToG strict lies)) (ap (λ (i : Coding). cToN strict long (paperCoding i) (record { from = p; to = p })) d ∙ one-to-n strict long from to p)
+        ∙ both-ends (nPosition strict long from to p)))
+
+    pub one-sure-name : (s : Spot) → sure s ≡ loneC strict a (x .tables) from to p → checked x (askCToG strict (record { from = p; to = q })) ≡ gOnce a (x .exons) s (p .offset)
+    one-sure-name s l = one-name ∙ by-spot s (nPosition strict long from to p) (p .offset) (offset-stays strict long from to p) l

@@ -1,6 +1,7 @@
 // What a host is told of the three questions that it asks most, laid out. One base that is sure goes a short way, which asks for no more than it needs; one that is not is answered by the segment that it was found in, and every other question goes the way that logs and alleles go too.
 // An answer is laid out where it is found: one that is handed on as it is would be copied in other pieces than it was stored in, and wait for them.
 ghost use mathlib.Core.Path.{_≡_};
+ghost use lib.ListN.{getD};
 ghost use Prim.Native.Nat.{_≤_, _<_};
 ghost use Rattle.refusals.specs.Numbers.{mostSegments};
 ghost use Rattle.whole.specs.Whole.{eqZ};
@@ -8,13 +9,14 @@ ghost use Rattle.segments.specs.Tables.{tables};
 ghost use Rattle.segments.specs.Paper.{Small, spotSaid};
 ghost use Rattle.holding.specs.Holding.{lent, checked};
 ghost use Rattle.positions.specs.Answers.{certain, ends};
-ghost use Rattle.positions.specs.Paper.{paperCAsked, paperNEnd};
-ghost use Rattle.places.specs.Aligned.{Aligns};
-ghost use Rattle.places.specs.Lone.{paperLone, RoomyLone};
+ghost use Rattle.positions.specs.Paper.{paperCAsked, paperNEnd, paperG};
+ghost use Rattle.coding.specs.Coding.{nPosition};
+ghost use Rattle.places.specs.Aligned.{alignedBy, Aligns};
+ghost use Rattle.places.specs.Lone.{unsure, paperLone, RoomyLone};
 ghost use Rattle.mapper.specs.Asking.{askGToN, askGToC, askCToG};
 ghost use Rattle.mapper.specs.Knowing.{paperCoding};
 ghost use Rattle.layout.specs.Layout.{gAsked, cAsked, gLaid, nLaid, cLaid, laid};
-ghost use Rattle.telling.specs.Telling.{sureN, sureC, sureG, loneC};
+ghost use Rattle.telling.specs.Telling.{sureN, sureC, sureG, bothToG, loneC};
 use layout::lay;
 use layout::lay::Answer;
 use layout::take;
@@ -26,6 +28,7 @@ use mapper::steps::Given;
 use places::Alignment;
 use places::Lone;
 use positions::CAsked;
+use positions::GAnswer;
 use positions::fitting::CEnd;
 use positions::fitting::GEnd;
 use positions::fitting::NEnd;
@@ -95,6 +98,20 @@ pub fn g_to_n(
                     let lone = places::lone_g(at, genome, transcript, letters, from, strict);
                     if let Lone::Sure(spot) = lone {
                         return sure_n(at, transcript, exons, spot);
+                    }
+                    if let Lone::Unsure(number) = lone {
+                        let here = knowing::alignment(head);
+                        let one = places::one_to_n_at(
+                            here,
+                            genome,
+                            transcript,
+                            letters,
+                            exons,
+                            number,
+                            from,
+                            strict,
+                        );
+                        return lay::lay_n(one);
                     }
                 }
                 let again = knowing::alignment(head);
@@ -166,6 +183,27 @@ pub fn g_to_c(
                     if let Lone::Sure(spot) = lone {
                         return sure_c(at, transcript, exons, cds, spot, strict);
                     }
+                    if let Lone::Unsure(number) = lone {
+                        let here = knowing::alignment(head);
+                        let count = here.count;
+                        let len = places::last(transcript, count);
+                        let one = places::one_to_n_at(
+                            here,
+                            genome,
+                            transcript,
+                            letters,
+                            exons,
+                            number,
+                            from,
+                            strict,
+                        );
+                        return lay::lay_c(steps::then_n_to_c(
+                            one,
+                            len,
+                            knowing::coding_of(head),
+                            strict,
+                        ));
+                    }
                 }
                 let again = knowing::alignment(head);
                 let count = again.count;
@@ -223,6 +261,39 @@ fn sure_g(at: Alignment, exons: &[u16; MOST_SEGMENTS], spot: Spot, offset: i32) 
     }
 }
 
+// The g. interval of a base that is not sure, by its c. position, with the CDS's start s and end e, and the number of its segment.
+fn unsure_g(
+    at: Alignment,
+    genome: &[u32; MOST_STARTS],
+    transcript: &[u32; MOST_STARTS],
+    letters: &[u8; MOST_SEGMENTS],
+    exons: &[u16; MOST_SEGMENTS],
+    s: u32,
+    e: u32,
+    number: usize,
+    c: CAsked,
+    strict: bool,
+) -> GAnswer
+    requires { ⌜ Aligns at (tables (now genome) (now transcript) (now letters)) ⌝ }
+    requires { ⌜ unsure number ≡ loneC strict at (tables (now genome) (now transcript) (now letters)) s e (paperCAsked c) ⌝ }
+    ensures { λ r. ⌜ paperG r ≡ bothToG strict (alignedBy at (tables (now (genome .entry)) (now (transcript .entry)) (now (letters .entry))) (now (exons .entry))) (nPosition strict (getD (now (transcript .entry)) (at .count) 0) s e (paperCAsked c)) ⌝ }
+{
+    let count = at.count;
+    match coding::n_position(strict, places::last(transcript, count), s, e, c) {
+        NEnd::At(n) => places::one_to_g_at(
+            at,
+            genome,
+            transcript,
+            letters,
+            exons,
+            number,
+            n,
+            strict,
+        ),
+        NEnd::Refused(k) => GAnswer::Refused(k),
+    }
+}
+
 // c. to g.: c. to n. wholly, then n. to g.
 pub fn c_to_g(
     head: Head,
@@ -240,23 +311,38 @@ pub fn c_to_g(
 ) -> Answer
     ensures { λ r. ⌜ r ≡ laid gLaid (checked (lent head (now (genome .entry)) (now (transcript .entry)) (now (letters .entry)) (now (exons .entry))) (askCToG strict (cAsked start «start_offset» «start_star» end «end_offset» «end_star»))) ⌝ }
 {
-    let from = CAsked {
-        base: start,
-        star: start_star,
-        offset: start_offset,
-    };
-    let to = CAsked {
-        base: end,
-        star: end_star,
-        offset: end_offset,
-    };
+    let asked = take::c_asked(start, start_offset, start_star, end, end_offset, end_star);
     match knowing::known_of(head, genome, transcript, letters, exons) {
         Known::Aligned(at, cds) => {
             if let Coding::Cds(s, e) = cds {
-                if coding::is_same(from, to) {
-                    let lone = lone_c(at, genome, transcript, letters, s, e, from, strict);
+                if coding::is_same(asked.from, asked.to) {
+                    let lone = lone_c(at, genome, transcript, letters, s, e, asked.from, strict);
                     if let Lone::Sure(spot) = lone {
                         return sure_g(at, exons, spot, start_offset);
+                    }
+                    if let Lone::Unsure(number) = lone {
+                        let here = knowing::alignment(head);
+                        let c = take::c_asked(
+                            start,
+                            start_offset,
+                            start_star,
+                            end,
+                            end_offset,
+                            end_star,
+                        );
+                        let one = unsure_g(
+                            here,
+                            genome,
+                            transcript,
+                            letters,
+                            exons,
+                            s,
+                            e,
+                            number,
+                            c.from,
+                            strict,
+                        );
+                        return lay::lay_g(one);
                     }
                 }
             }

@@ -1,4 +1,4 @@
--- `telling::g_to_c` meets its contract: what is lent is known once. A lone base is answered by its spot, any other interval as g. to n. and then n. to c. say, and a missing end is 19. Assumes nothing.
+-- `telling::g_to_c` meets its contract: what is lent is known once. A sure base is answered by its spot, one that is not by its segment, any other interval as g. to n. and then n. to c. say, and a missing end is 19. Assumes nothing.
 use mathlib.Core.Path.{_≡_, sym, ap, _∙_}
 use lib.IntN.{ℤ}
 use mir.Syntax.{w32}
@@ -12,7 +12,8 @@ use Rattle.mapper.specs.Asking.{given, askGToC, askGToN}
 use Rattle.mapper.specs.Knowing.{knownOf, paperGiven}
 use Rattle.mapper.specs.declared.knowing.Known.the-variants as known
 use Rattle.mapper.specs.laws.Known.{known-lies, natural-bounds, ask-length, ask-broken}
-use Rattle.telling.proofs.Ways.{c-by-ends, one-base-c}
+use Rattle.places.specs.Lone.{paperLone}
+use Rattle.telling.proofs.Ways.{c-by-ends, one-place-c, one-base-c, unsure-base}
 use borrow.Author.Needs.{needs}
 use Rattle.telling.proofs.g_to_c.Statement.{statement}
 use Rattle.telling.proofs.g_to_c.Tie as tie
@@ -70,24 +71,33 @@ returns c =
     let p = at-from e in
     let one = one-is (l .before) in
     let spot = rw (m .lone .given .1) at (simp (from-is e) at (l .lone-g .ensures .0)) in
-    c .sure-c .ensures ∙ ap (laid cLaid) (sym (one-base-c _ _ _ (known-is p) _ _ _ _ _ (both-are e) one spot))
+    c .sure-c .ensures ∙ ap (laid cLaid) (sym (one-base-c _ _ _ (known-is p) _ _ _ _ (both-are e) one _ spot))
+
+-- from the number of a base that is not sure back to where it was looked for
+abbrev looked : tie.After-known-told4 → tie.After-lone-g
+looked c = c .before .before .before .before
+
+abbrev ends-from : tie.After-known-told4 → tie.After-known-told2
+ends-from c = looked c .before .before .before
 
 alignment-requires : tie.Need-alignment-requires
-alignment-requires c κs = known-lies _ _ _ (known-is (at-from (c .before .before))) .head
+alignment-requires c κs = known-lies _ _ _ (known-is (at-from (ends-from c))) .head
 
-at-is : (c : tie.After-alignment) → c .alignment .result ≡ at-from (c .before .before .before) .at .given .0 .0
-at-is c = c .alignment .ensures ∙ known-lies _ _ _ (known-is (at-from (c .before .before .before))) .at
+here-is : (c : tie.After-alignment) → c .alignment .result ≡ at-from (ends-from (c .before)) .at .given .0 .0
+here-is c = c .alignment .ensures ∙ known-lies _ _ _ (known-is (at-from (ends-from (c .before)))) .at
 
 last-requires : tie.Need-last-requires
-last-requires c κs = rw (at-is c) (known-lies _ _ _ (known-is (at-from (c .before .before .before))) .sound .count-to)
+last-requires c κs = rw (here-is c) (known-lies _ _ _ (known-is (at-from (ends-from (c .before)))) .sound .count-to)
 
-to-n-requires : tie.Need-to-n-requires
-to-n-requires c κs =
+one-to-n-at-requires : tie.Need-one-to-n-at-requires
+one-to-n-at-requires c κs =
     let m = c .before in
-    rw (at-is m) (known-lies _ _ _ (known-is (at-from (m .before .before .before))) .sound)
+    let e = ends-from (m .before) in
+    let told = sym (ap paperLone (m .before .before .lone2 .given .1)) ∙ simp (from-is e) at (looked (m .before) .lone-g .ensures .0) in
+    rw (here-is m) (known-lies _ _ _ (known-is (at-from e)) .sound, rw (from-is e) (unsure-base _ _ _ (known-is (at-from e)) _ _ _ told))
 
 coding-of-requires : tie.Need-coding-of-requires
-coding-of-requires c κs = natural-bounds _ (known-lies _ _ _ (known-is (at-from (c .before .before .before .before .before))) .held)
+coding-of-requires c κs = natural-bounds _ (known-lies _ _ _ (known-is (at-from (ends-from (c .before .before .before)))) .held)
 
 returns-2 : tie.Need-returns-2
 returns-2 c =
@@ -95,30 +105,61 @@ returns-2 c =
     let d = s .before in
     let t = d .before in
     let l = t .before in
-    let e = l .before .before .before .before in
+    let m = l .before in
+    let e = ends-from (m .before) in
     let k = known-is (at-from e) in
-    let n = simp (at-is (l .before), from-is e, to-is e) at (t .to-n .ensures) in
-    let long = simp (at-is (l .before)) at (l .last .ensures) in
+    let n = simp (here-is m, from-is e) at (t .one-to-n-at .ensures) in
+    let long = simp (here-is m) at (l .last .ensures) in
     let coding = d .coding-of .ensures ∙ known-lies _ _ _ k .cds in
-    c .lay-c .ensures ∙ ap (laid cLaid) (simp (n, long, coding) at (s .then-n-to-c .ensures) ∙ sym (c-by-ends _ _ _ k _ _ _ (both-are e)))
+    c .lay-c .ensures ∙ ap (laid cLaid) (simp (n, long, coding) at (s .then-n-to-c .ensures) ∙ sym (one-place-c _ _ _ k _ _ _ _ (both-are e) (one-is (looked (m .before) .before))))
+
+alignment-requires-2 : tie.Need-alignment-requires-2
+alignment-requires-2 c κs = known-lies _ _ _ (known-is (at-from (c .before .before))) .head
+
+again-is : (c : tie.After-alignment2) → c .alignment2 .result ≡ at-from (c .before .before .before) .at .given .0 .0
+again-is c = c .alignment2 .ensures ∙ known-lies _ _ _ (known-is (at-from (c .before .before .before))) .at
+
+last-requires-2 : tie.Need-last-requires-2
+last-requires-2 c κs = rw (again-is c) (known-lies _ _ _ (known-is (at-from (c .before .before .before))) .sound .count-to)
+
+to-n-requires : tie.Need-to-n-requires
+to-n-requires c κs =
+    let m = c .before in
+    rw (again-is m) (known-lies _ _ _ (known-is (at-from (m .before .before .before))) .sound)
+
+coding-of-requires-2 : tie.Need-coding-of-requires-2
+coding-of-requires-2 c κs = natural-bounds _ (known-lies _ _ _ (known-is (at-from (c .before .before .before .before .before))) .held)
 
 returns-3 : tie.Need-returns-3
 returns-3 c =
+    let s = c .before in
+    let d = s .before in
+    let t = d .before in
+    let l = t .before in
+    let e = l .before .before .before .before in
+    let k = known-is (at-from e) in
+    let n = simp (again-is (l .before), from-is e, to-is e) at (t .to-n .ensures) in
+    let long = simp (again-is (l .before)) at (l .last2 .ensures) in
+    let coding = d .coding-of2 .ensures ∙ known-lies _ _ _ k .cds in
+    c .lay-c2 .ensures ∙ ap (laid cLaid) (simp (n, long, coding) at (s .then-n-to-c2 .ensures) ∙ sym (c-by-ends _ _ _ k _ _ _ (both-are e)))
+
+returns-4 : tie.Need-returns-4
+returns-4 c =
     let m = c .before in
     let b = m .before .before in
     let p = b .before .before .before in
-    c .refusal-of .ensures ∙ ap (laid cLaid) (sym (c-by-ends _ _ _ (known-is p) _ _ _ (rw (m .enum-told2 .given .1) at (ends-are b))))
-
-returns-4 : tie.Need-returns-4
-unfolding askGToC askGToN
-returns-4 c =
-    let m = c .before in
-    c .refusal-of2 .ensures ∙ ap (laid cLaid) (sym (ask-length _ _ (sym (m .before .before .known-of .ensures) ∙ m .enum-told3 .given .1)))
+    c .refusal-of .ensures ∙ ap (laid cLaid) (sym (c-by-ends _ _ _ (known-is p) _ _ _ (rw (m .enum-told .given .1) at (ends-are b))))
 
 returns-5 : tie.Need-returns-5
+unfolding askGToC askGToN
 returns-5 c =
     let m = c .before in
-    c .refusal-of3 .ensures ∙ ap (laid cLaid) (sym (ask-broken _ _ (sym (m .before .before .known-of .ensures) ∙ m .enum-told4 .given .1)))
+    c .refusal-of2 .ensures ∙ ap (laid cLaid) (sym (ask-length _ _ (sym (m .before .before .known-of .ensures) ∙ m .enum-told2 .given .1)))
+
+returns-6 : tie.Need-returns-6
+returns-6 c =
+    let m = c .before in
+    c .refusal-of3 .ensures ∙ ap (laid cLaid) (sym (ask-broken _ _ (sym (m .before .before .known-of .ensures) ∙ m .enum-told3 .given .1)))
 
 pub g-to-c-spec : {M : Type 1} → statement M
 g-to-c-spec =
@@ -137,17 +178,24 @@ g-to-c-spec =
     (λ c. search needs)
     alignment-requires
     last-requires
-    to-n-requires
+    one-to-n-at-requires
     coding-of-requires
     (λ c κs. search needs)
     (λ c κs. search needs)
-    (λ c. search needs)
-    (λ c κs. search needs)
-    (λ c. search needs)
-    (λ c κs. search needs)
-    (λ c. search needs)
-    (λ c κs. search needs)
     returns-2
+    alignment-requires-2
+    last-requires-2
+    to-n-requires
+    coding-of-requires-2
+    (λ c κs. search needs)
+    (λ c κs. search needs)
+    (λ c. search needs)
+    (λ c κs. search needs)
+    (λ c. search needs)
+    (λ c κs. search needs)
+    (λ c. search needs)
+    (λ c κs. search needs)
     returns-3
     returns-4
-    returns-5)
+    returns-5
+    returns-6)

@@ -1,4 +1,4 @@
--- `telling::g_to_n` meets its contract: what is lent is known once. A lone base is answered by its spot, any other interval as g. to n. says, and a missing end is 19. Assumes nothing.
+-- `telling::g_to_n` meets its contract: what is lent is known once. A sure base is answered by its spot, one that is not by its segment, any other interval as g. to n. says, and a missing end is 19. Assumes nothing.
 use mathlib.Core.Path.{_≡_, sym, ap, _∙_}
 use lib.IntN.{ℤ}
 use mir.Syntax.{w32}
@@ -12,7 +12,8 @@ use Rattle.mapper.specs.Asking.{given, askGToN}
 use Rattle.mapper.specs.Knowing.{knownOf, paperGiven}
 use Rattle.mapper.specs.declared.knowing.Known.the-variants as known
 use Rattle.mapper.specs.laws.Known.{known-lies, ask-length, ask-broken}
-use Rattle.telling.proofs.Ways.{n-by-ends, one-base}
+use Rattle.places.specs.Lone.{paperLone}
+use Rattle.telling.proofs.Ways.{n-by-ends, one-place, one-base, unsure-base}
 use borrow.Author.Needs.{needs}
 use Rattle.telling.proofs.g_to_n.Statement.{statement}
 use Rattle.telling.proofs.g_to_n.Tie as tie
@@ -70,43 +71,69 @@ returns c =
     let p = at-from e in
     let one = one-is (l .before) in
     let spot = rw (m .lone .given .1) at (simp (from-is e) at (l .lone-g .ensures .0)) in
-    c .sure-n .ensures
-    ∙ ap (laid nLaid) (sym (n-by-ends _ _ _ (known-is p) _ _ _ (both-are e) ∙ one-base _ _ _ (known-is p) _ _ _ _ one spot))
+    c .sure-n .ensures ∙ ap (laid nLaid) (sym (one-base _ _ _ (known-is p) _ _ _ _ (both-are e) one _ spot))
+
+-- from the number of a base that is not sure back to where it was looked for
+abbrev looked : tie.After-known-told4 → tie.After-lone-g
+looked c = c .before .before .before .before
+
+abbrev ends-from : tie.After-known-told4 → tie.After-known-told2
+ends-from c = looked c .before .before .before
 
 alignment-requires : tie.Need-alignment-requires
-alignment-requires c κs = known-lies _ _ _ (known-is (at-from (c .before .before))) .head
+alignment-requires c κs = known-lies _ _ _ (known-is (at-from (ends-from c))) .head
 
-to-n-requires : tie.Need-to-n-requires
-to-n-requires c κs =
-    let lies = known-lies _ _ _ (known-is (at-from (c .before .before .before))) in
-    rw (c .alignment .ensures ∙ lies .at) (lies .sound)
+one-to-n-at-requires : tie.Need-one-to-n-at-requires
+one-to-n-at-requires c κs =
+    let e = ends-from (c .before) in
+    let lies = known-lies _ _ _ (known-is (at-from e)) in
+    let told = sym (ap paperLone (c .before .before .lone2 .given .1)) ∙ simp (from-is e) at (looked (c .before) .lone-g .ensures .0) in
+    rw (c .alignment .ensures ∙ lies .at) (lies .sound, rw (from-is e) (unsure-base _ _ _ (known-is (at-from e)) _ _ _ told))
 
 returns-2 : tie.Need-returns-2
 returns-2 c =
     let t = c .before in
-    let e = t .before .before .before .before in
-    let p = at-from e in
-    let at = t .before .alignment .ensures ∙ known-lies _ _ _ (known-is p) .at in
+    let m = t .before in
+    let e = ends-from (m .before) in
+    let k = known-is (at-from e) in
+    let at = m .alignment .ensures ∙ known-lies _ _ _ k .at in
     c .lay-n .ensures
-    ∙ ap (laid nLaid) (simp (at, from-is e, to-is e) at (t .to-n .ensures) ∙ sym (n-by-ends _ _ _ (known-is p) _ _ _ (both-are e)))
+    ∙ ap (laid nLaid) (simp (at, from-is e) at (t .one-to-n-at .ensures) ∙ sym (one-place _ _ _ k _ _ _ _ (both-are e) (one-is (looked (m .before) .before))))
+
+alignment-requires-2 : tie.Need-alignment-requires-2
+alignment-requires-2 c κs = known-lies _ _ _ (known-is (at-from (c .before .before))) .head
+
+to-n-requires : tie.Need-to-n-requires
+to-n-requires c κs =
+    let lies = known-lies _ _ _ (known-is (at-from (c .before .before .before))) in
+    rw (c .alignment2 .ensures ∙ lies .at) (lies .sound)
 
 returns-3 : tie.Need-returns-3
 returns-3 c =
+    let t = c .before in
+    let e = t .before .before .before .before in
+    let p = at-from e in
+    let at = t .before .alignment2 .ensures ∙ known-lies _ _ _ (known-is p) .at in
+    c .lay-n2 .ensures
+    ∙ ap (laid nLaid) (simp (at, from-is e, to-is e) at (t .to-n .ensures) ∙ sym (n-by-ends _ _ _ (known-is p) _ _ _ (both-are e)))
+
+returns-4 : tie.Need-returns-4
+returns-4 c =
     let m = c .before in
     let b = m .before .before in
     let p = b .before .before .before in
-    c .refusal-of .ensures ∙ ap (laid nLaid) (sym (n-by-ends _ _ _ (known-is p) _ _ _ (rw (m .enum-told2 .given .1) at (ends-are b))))
-
-returns-4 : tie.Need-returns-4
-unfolding askGToN
-returns-4 c =
-    let m = c .before in
-    c .refusal-of2 .ensures ∙ ap (laid nLaid) (sym (ask-length _ _ (sym (m .before .before .known-of .ensures) ∙ m .enum-told3 .given .1)))
+    c .refusal-of .ensures ∙ ap (laid nLaid) (sym (n-by-ends _ _ _ (known-is p) _ _ _ (rw (m .enum-told .given .1) at (ends-are b))))
 
 returns-5 : tie.Need-returns-5
+unfolding askGToN
 returns-5 c =
     let m = c .before in
-    c .refusal-of3 .ensures ∙ ap (laid nLaid) (sym (ask-broken _ _ (sym (m .before .before .known-of .ensures) ∙ m .enum-told4 .given .1)))
+    c .refusal-of2 .ensures ∙ ap (laid nLaid) (sym (ask-length _ _ (sym (m .before .before .known-of .ensures) ∙ m .enum-told2 .given .1)))
+
+returns-6 : tie.Need-returns-6
+returns-6 c =
+    let m = c .before in
+    c .refusal-of3 .ensures ∙ ap (laid nLaid) (sym (ask-broken _ _ (sym (m .before .before .known-of .ensures) ∙ m .enum-told3 .given .1)))
 
 pub g-to-n-spec : {M : Type 1} → statement M
 g-to-n-spec =
@@ -124,6 +151,10 @@ g-to-n-spec =
     returns
     (λ c. search needs)
     alignment-requires
+    one-to-n-at-requires
+    (λ c κs. search needs)
+    returns-2
+    alignment-requires-2
     to-n-requires
     (λ c κs. search needs)
     (λ c. search needs)
@@ -132,7 +163,7 @@ g-to-n-spec =
     (λ c κs. search needs)
     (λ c. search needs)
     (λ c κs. search needs)
-    returns-2
     returns-3
     returns-4
-    returns-5)
+    returns-5
+    returns-6)
