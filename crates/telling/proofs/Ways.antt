@@ -11,10 +11,10 @@ use Rattle.holding.specs.Holding.{Lent, checked}
 use Rattle.segments.specs.Places.{Spot}
 use Rattle.transcript.specs.Transcript.{Transcript, noCds, cds}
 use Rattle.positions.specs.Positions.{Interval, GAsked, CAsked, NPosition, asksN}
-use Rattle.positions.specs.Answers.{certain, unmarked, Answer, once, ends, after, chain}
+use Rattle.positions.specs.Answers.{certain, Answer, once, ends, after, chain}
 use Rattle.positions.specs.laws.Ends.{ends-after}
-use Rattle.coding.specs.Coding.{cOfInterval, nPosition, oneToC, nToC, cToN}
-use Rattle.coding.specs.laws.Once.{one-to-c, one-to-n, offset-stays}
+use Rattle.coding.specs.Coding.{cOfInterval, oneToC, nToC}
+use Rattle.coding.specs.laws.Once.{one-to-c}
 use Rattle.places.specs.Mapping.{placeOfG, gToN, nToG}
 use Rattle.places.specs.Aligned.{alignedBy, InSegment}
 use Rattle.places.specs.Lone.{sure, unsure, loneG, nOnce, gOnce}
@@ -24,9 +24,9 @@ use Rattle.mapper.specs.Asking.{given, askGToN, askGToC, askCToG}
 use Rattle.mapper.specs.Knowing.{knownOf, paperCoding}
 use Rattle.mapper.specs.laws.Known.{known-lies, lying-g-to-n, lying-g-to-c, lying-c-to-g, plain-first}
 use Rattle.mapper.specs.declared.knowing.Coding.{Coding}
-use Rattle.mapper.specs.declared.knowing.Coding.the-variants as coding
 use Rattle.mapper.specs.declared.knowing.Known.the-variants as known
-use Rattle.telling.specs.Telling.{bothToG, loneAt, loneC}
+use Rattle.telling.specs.Telling.{loneC}
+use Rattle.telling.proofs.Names.{named}
 
 -- an n. position that is both ends, numbered once in c.
 pub c-once : (strict : Bool) (len from to : ℕ) (exon : ℕ) (n : NPosition)
@@ -78,28 +78,13 @@ module _ (x : Lent) (a : Alignment) (c : Coding) (k : knownOf x ≡ known.Aligne
   pub unsure-base : (g : ℤ) (number : ℕ) → unsure number ≡ loneG strict a (x .tables) g → InSegment strict (x .tables .genome) (a .count) number (placeOfG (a .first) g)
   unsure-base g number l = unsure-of-g a (x .tables) (x .exons) (known-lies x a c k .sound) strict number g (sym l)
 
-  -- ---- from c.
+  -- ---- from c., by one name with the one spot s
 
-  -- both ends are one n. position, or refused by one number
-  both-ends : (n : Outcome NPosition) → chain asksN (ends unmarked n n) (nToG strict lies) ≡ bothToG strict lies n
-  both-ends (answered p) = plain-first _
-  both-ends (refused k) = refl
-
-  -- one with the one spot s
-  by-spot : (s : Spot) (n : Outcome NPosition) (o : ℤ) → ((p : NPosition) → n ≡ answered p → p .offset ≡ o) → sure s ≡ loneAt strict a (x .tables) n → bothToG strict lies n ≡ gOnce a (x .exons) s o
-  by-spot s (answered p) o offset l =
-      lone-to-g a (x .tables) (x .exons) (known-lies x a c k .sound) strict s (p .base) (p .offset) (sym l)
-      ∙ ap (gOnce a (x .exons) s) (offset p refl)
-  by-spot s (refused e) o offset l = let z : _≡_ {A = ℕ} 0 1 = cc in absurd (omega arith)
-
-  -- of one name, and of one with the one spot s
-  module _ (p q : CAsked) (from to : ℕ) (d : c ≡ coding.Cds from to) (e : p ≡ q) where
-    pub one-name : checked x (askCToG strict (record { from = p; to = q })) ≡ bothToG strict lies (nPosition strict long from to p)
-    one-name =
-        rw (← e)
-        (lying-c-to-g x a c k strict (record { from = p; to = p })
-        ∙ (ap (λ (i : Answer NPosition). chain asksN i (nToG strict lies)) (ap (λ (i : Coding). cToN strict long (paperCoding i) (record { from = p; to = p })) d ∙ one-to-n strict long from to p)
-        ∙ both-ends (nPosition strict long from to p)))
-
-    pub one-sure-name : (s : Spot) → sure s ≡ loneC strict a (x .tables) from to p → checked x (askCToG strict (record { from = p; to = q })) ≡ gOnce a (x .exons) s (p .offset)
-    one-sure-name s l = one-name ∙ by-spot s (nPosition strict long from to p) (p .offset) (offset-stays strict long from to p) l
+  pub one-name : (p q : CAsked) (s : Spot) → sure s ≡ loneC strict a (x .tables) (paperCoding c) (record { from = p; to = q }) → checked x (askCToG strict (record { from = p; to = q })) ≡ gOnce a (x .exons) s (p .offset)
+  one-name p q s l =
+      let n = named strict a (x .tables) (paperCoding c) p q (sure s) tt l in
+      lying-c-to-g x a c k strict (record { from = p; to = q })
+      ∙ (ap (λ (i : Answer NPosition). chain asksN i (nToG strict lies)) (n .both)
+      ∙ (plain-first _
+      ∙ (lone-to-g a (x .tables) (x .exons) (known-lies x a c k .sound) strict s (n .at .base) (n .at .offset) (sym (n .told))
+      ∙ ap (gOnce a (x .exons) s) (n .own))))

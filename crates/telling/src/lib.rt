@@ -8,15 +8,17 @@ ghost use Rattle.whole.specs.Whole.{eqZ};
 ghost use Rattle.segments.specs.Tables.{tables};
 ghost use Rattle.segments.specs.Paper.{Small, spotSaid};
 ghost use Rattle.holding.specs.Holding.{lent, checked};
-ghost use Rattle.positions.specs.Answers.{certain, ends};
-ghost use Rattle.positions.specs.Paper.{paperCAsked, paperNEnd, paperG};
-ghost use Rattle.coding.specs.Coding.{nPosition};
-ghost use Rattle.places.specs.Aligned.{alignedBy, Aligns};
+ghost use Rattle.positions.specs.Positions.{asksN};
+ghost use Rattle.positions.specs.Answers.{certain, ends, chain};
+ghost use Rattle.positions.specs.Paper.{paperCQuestion, paperNEnd, paperG, paperC};
+ghost use Rattle.coding.specs.Coding.{nToC, cToN};
+ghost use Rattle.places.specs.Mapping.{placeOfG, gToN, nToG};
+ghost use Rattle.places.specs.Aligned.{alignedBy, Aligns, InSegment};
 ghost use Rattle.places.specs.Lone.{unsure, paperLone, RoomyLone};
 ghost use Rattle.mapper.specs.Asking.{askGToN, askGToC, askCToG};
 ghost use Rattle.mapper.specs.Knowing.{paperCoding};
 ghost use Rattle.layout.specs.Layout.{gAsked, cAsked, gLaid, nLaid, cLaid, laid};
-ghost use Rattle.telling.specs.Telling.{sureN, sureC, sureG, bothToG, loneC};
+ghost use Rattle.telling.specs.Telling.{sureN, sureC, sureG, loneC};
 use layout::lay;
 use layout::lay::Answer;
 use layout::take;
@@ -27,8 +29,10 @@ use mapper::steps;
 use mapper::steps::Given;
 use places::Alignment;
 use places::Lone;
-use positions::CAsked;
+use positions::CAnswer;
+use positions::CQuestion;
 use positions::GAnswer;
+use positions::NPlain;
 use positions::fitting::CEnd;
 use positions::fitting::GEnd;
 use positions::fitting::NEnd;
@@ -100,9 +104,8 @@ pub fn g_to_n(
                         return sure_n(at, transcript, exons, spot);
                     }
                     if let Lone::Unsure(number) = lone {
-                        let here = knowing::alignment(head);
-                        let one = places::one_to_n_at(
-                            here,
+                        return lay::lay_n(places::one_to_n_at(
+                            knowing::alignment(head),
                             genome,
                             transcript,
                             letters,
@@ -110,13 +113,11 @@ pub fn g_to_n(
                             number,
                             from,
                             strict,
-                        );
-                        return lay::lay_n(one);
+                        ));
                     }
                 }
-                let again = knowing::alignment(head);
-                let told = places::to_n(
-                    again,
+                lay::lay_n(places::to_n(
+                    knowing::alignment(head),
                     genome,
                     transcript,
                     letters,
@@ -124,8 +125,7 @@ pub fn g_to_n(
                     from,
                     to,
                     strict,
-                );
-                lay::lay_n(told)
+                ))
             }
             Given::Missing => lay::refusal_of(MISSING_END),
         },
@@ -161,6 +161,49 @@ fn sure_c(
     }
 }
 
+// The c. interval of a base that is not sure, by the number of its segment.
+fn unsure_c(
+    at: Alignment,
+    genome: &[u32; MOST_STARTS],
+    transcript: &[u32; MOST_STARTS],
+    letters: &[u8; MOST_SEGMENTS],
+    exons: &[u16; MOST_SEGMENTS],
+    cds: Coding,
+    number: usize,
+    g: i32,
+    strict: bool,
+) -> CAnswer
+    requires { ⌜ Aligns at (tables (now genome) (now transcript) (now letters)) ⌝ }
+    requires { ⌜ InSegment strict (now genome) (at .count) number (placeOfG (at .first) g) ⌝ }
+    ensures { λ r. ⌜ paperC r ≡ chain asksN (gToN strict (alignedBy at (tables (now (genome .entry)) (now (transcript .entry)) (now (letters .entry))) (now (exons .entry))) (record { from = g; to = g })) (nToC strict (getD (now (transcript .entry)) (at .count) 0) (paperCoding cds)) ⌝ }
+{
+    let count = at.count;
+    let len = places::last(transcript, count);
+    let n = places::one_to_n_at(at, genome, transcript, letters, exons, number, g, strict);
+    steps::then_n_to_c(n, len, cds, strict)
+}
+
+// The c. interval of any g. interval.
+fn interval_c(
+    at: Alignment,
+    genome: &[u32; MOST_STARTS],
+    transcript: &[u32; MOST_STARTS],
+    letters: &[u8; MOST_SEGMENTS],
+    exons: &[u16; MOST_SEGMENTS],
+    cds: Coding,
+    from: i32,
+    to: i32,
+    strict: bool,
+) -> CAnswer
+    requires { ⌜ Aligns at (tables (now genome) (now transcript) (now letters)) ⌝ }
+    ensures { λ r. ⌜ paperC r ≡ chain asksN (gToN strict (alignedBy at (tables (now (genome .entry)) (now (transcript .entry)) (now (letters .entry))) (now (exons .entry))) (record { from = from; to = to })) (nToC strict (getD (now (transcript .entry)) (at .count) 0) (paperCoding cds)) ⌝ }
+{
+    let count = at.count;
+    let len = places::last(transcript, count);
+    let n = places::to_n(at, genome, transcript, letters, exons, from, to, strict);
+    steps::then_n_to_c(n, len, cds, strict)
+}
+
 // g. to c.: g. to n. wholly, then n. to c.
 pub fn g_to_c(
     head: Head,
@@ -184,41 +227,30 @@ pub fn g_to_c(
                         return sure_c(at, transcript, exons, cds, spot, strict);
                     }
                     if let Lone::Unsure(number) = lone {
-                        let here = knowing::alignment(head);
-                        let count = here.count;
-                        let len = places::last(transcript, count);
-                        let one = places::one_to_n_at(
-                            here,
+                        return lay::lay_c(unsure_c(
+                            knowing::alignment(head),
                             genome,
                             transcript,
                             letters,
                             exons,
+                            knowing::coding_of(head),
                             number,
                             from,
-                            strict,
-                        );
-                        return lay::lay_c(steps::then_n_to_c(
-                            one,
-                            len,
-                            knowing::coding_of(head),
                             strict,
                         ));
                     }
                 }
-                let again = knowing::alignment(head);
-                let count = again.count;
-                let len = places::last(transcript, count);
-                let told = places::to_n(
-                    again,
+                lay::lay_c(interval_c(
+                    knowing::alignment(head),
                     genome,
                     transcript,
                     letters,
                     exons,
+                    knowing::coding_of(head),
                     from,
                     to,
                     strict,
-                );
-                lay::lay_c(steps::then_n_to_c(told, len, knowing::coding_of(head), strict))
+                ))
             }
             Given::Missing => lay::refusal_of(MISSING_END),
         },
@@ -227,26 +259,30 @@ pub fn g_to_c(
     }
 }
 
-// A lone base by its c. position, with the CDS's start s and end e.
+// A lone base by its c. position, where the transcript has a CDS and both ends are that position.
 fn lone_c(
     at: Alignment,
     genome: &[u32; MOST_STARTS],
     transcript: &[u32; MOST_STARTS],
     letters: &[u8; MOST_SEGMENTS],
-    s: u32,
-    e: u32,
-    c: CAsked,
+    cds: Coding,
+    c: CQuestion,
     strict: bool,
 ) -> Lone
     requires { ⌜ Aligns at (tables (now genome) (now transcript) (now letters)) ⌝ }
-    ensures said { λ r. ⌜ paperLone r ≡ loneC strict at (tables (now (genome .entry)) (now (transcript .entry)) (now (letters .entry))) s e (paperCAsked c) ⌝ }
+    ensures said { λ r. ⌜ paperLone r ≡ loneC strict at (tables (now (genome .entry)) (now (transcript .entry)) (now (letters .entry))) (paperCoding cds) (paperCQuestion c) ⌝ }
     ensures roomy { λ r. ⌜ RoomyLone (at .count) r ⌝ }
 {
-    let count = at.count;
-    match coding::n_position(strict, places::last(transcript, count), s, e, c) {
-        NEnd::At(n) => places::lone_n(at, genome, transcript, letters, n.base, strict),
-        NEnd::Refused(_) => Lone::Other,
+    if let Coding::Cds(s, e) = cds {
+        if coding::is_same(c.from, c.to) {
+            let count = at.count;
+            let len = places::last(transcript, count);
+            if let NEnd::At(n) = coding::n_position(strict, len, s, e, c.from) {
+                return places::lone_n(at, genome, transcript, letters, n.base, strict);
+            }
+        }
     }
+    Lone::Other
 }
 
 // The g. answer of a sure base, by its spot, with its number's own offset.
@@ -261,36 +297,35 @@ fn sure_g(at: Alignment, exons: &[u16; MOST_SEGMENTS], spot: Spot, offset: i32) 
     }
 }
 
-// The g. interval of a base that is not sure, by its c. position, with the CDS's start s and end e, and the number of its segment.
+// The g. interval of a base that is not sure, by its c. position and the number of its segment.
 fn unsure_g(
     at: Alignment,
     genome: &[u32; MOST_STARTS],
     transcript: &[u32; MOST_STARTS],
     letters: &[u8; MOST_SEGMENTS],
     exons: &[u16; MOST_SEGMENTS],
-    s: u32,
-    e: u32,
+    cds: Coding,
     number: usize,
-    c: CAsked,
+    c: CQuestion,
     strict: bool,
 ) -> GAnswer
     requires { ⌜ Aligns at (tables (now genome) (now transcript) (now letters)) ⌝ }
-    requires { ⌜ unsure number ≡ loneC strict at (tables (now genome) (now transcript) (now letters)) s e (paperCAsked c) ⌝ }
-    ensures { λ r. ⌜ paperG r ≡ bothToG strict (alignedBy at (tables (now (genome .entry)) (now (transcript .entry)) (now (letters .entry))) (now (exons .entry))) (nPosition strict (getD (now (transcript .entry)) (at .count) 0) s e (paperCAsked c)) ⌝ }
+    requires { ⌜ unsure number ≡ loneC strict at (tables (now genome) (now transcript) (now letters)) (paperCoding cds) (paperCQuestion c) ⌝ }
+    ensures { λ r. ⌜ paperG r ≡ chain asksN (cToN strict (getD (now (transcript .entry)) (at .count) 0) (paperCoding cds) (paperCQuestion c)) (nToG strict (alignedBy at (tables (now (genome .entry)) (now (transcript .entry)) (now (letters .entry))) (now (exons .entry)))) ⌝ }
 {
     let count = at.count;
-    match coding::n_position(strict, places::last(transcript, count), s, e, c) {
-        NEnd::At(n) => places::one_to_g_at(
+    match steps::c_to_n(places::last(transcript, count), cds, c, strict) {
+        NPlain::Told(n) => places::one_to_g_at(
             at,
             genome,
             transcript,
             letters,
             exons,
             number,
-            n,
+            n.from,
             strict,
         ),
-        NEnd::Refused(k) => GAnswer::Refused(k),
+        NPlain::Refused(k) => GAnswer::Refused(k),
     }
 }
 
@@ -314,37 +349,23 @@ pub fn c_to_g(
     let asked = take::c_asked(start, start_offset, start_star, end, end_offset, end_star);
     match knowing::known_of(head, genome, transcript, letters, exons) {
         Known::Aligned(at, cds) => {
-            if let Coding::Cds(s, e) = cds {
-                if coding::is_same(asked.from, asked.to) {
-                    let lone = lone_c(at, genome, transcript, letters, s, e, asked.from, strict);
-                    if let Lone::Sure(spot) = lone {
-                        return sure_g(at, exons, spot, start_offset);
-                    }
-                    if let Lone::Unsure(number) = lone {
-                        let here = knowing::alignment(head);
-                        let c = take::c_asked(
-                            start,
-                            start_offset,
-                            start_star,
-                            end,
-                            end_offset,
-                            end_star,
-                        );
-                        let one = unsure_g(
-                            here,
-                            genome,
-                            transcript,
-                            letters,
-                            exons,
-                            s,
-                            e,
-                            number,
-                            c.from,
-                            strict,
-                        );
-                        return lay::lay_g(one);
-                    }
-                }
+            let lone = lone_c(at, genome, transcript, letters, cds, asked, strict);
+            if let Lone::Sure(spot) = lone {
+                return sure_g(at, exons, spot, start_offset);
+            }
+            if let Lone::Unsure(number) = lone {
+                let c = take::c_asked(start, start_offset, start_star, end, end_offset, end_star);
+                return lay::lay_g(unsure_g(
+                    knowing::alignment(head),
+                    genome,
+                    transcript,
+                    letters,
+                    exons,
+                    knowing::coding_of(head),
+                    number,
+                    c,
+                    strict,
+                ));
             }
             let again = knowing::alignment(head);
             let count = again.count;

@@ -3,15 +3,16 @@ use mathlib.Core.Path.{_≡_, sym, ap, _∙_}
 use Rattle.whole.specs.laws.Whole.{read}
 use Rattle.holding.specs.Holding.{lent}
 use Rattle.positions.specs.Positions.{Interval, CAsked}
-use Rattle.positions.specs.Paper.{paperCAsked}
-use Rattle.coding.specs.laws.Same.{same-says}
+use Rattle.positions.specs.Paper.{paperCQuestion}
+use Rattle.segments.specs.Tables.{tables}
 use Rattle.places.specs.Lone.{paperLone}
 use Rattle.layout.specs.Layout.{cAsked, gLaid, laid}
 use Rattle.mapper.specs.Asking.{askCToG, askCToN, askNToG}
-use Rattle.mapper.specs.Knowing.{knownOf}
+use Rattle.mapper.specs.Knowing.{knownOf, paperCoding}
 use Rattle.mapper.specs.declared.knowing.Known.the-variants as known
 use Rattle.mapper.specs.laws.Known.{known-lies, natural-bounds, lying-c-to-g, ask-length, ask-broken}
-use Rattle.telling.proofs.Ways.{one-name, one-sure-name}
+use Rattle.telling.specs.Telling.{loneC}
+use Rattle.telling.proofs.Ways.{one-name}
 use borrow.Author.Needs.{needs}
 use Rattle.telling.proofs.c_to_g.Statement.{statement}
 use Rattle.telling.proofs.c_to_g.Tie as tie
@@ -20,15 +21,10 @@ use Rattle.telling.proofs.c_to_g.Tie as tie
 abbrev question : tie.After-c-asked → Interval CAsked
 question c = let a = c .before .args in cAsked (a .start) (a .«start-offset») (a .«start-star») (a .end) (a .«end-offset») (a .«end-star»)
 
-from-is : (c : tie.After-c-asked) → paperCAsked (c .c-asked .result .from) ≡ question c .from
-from-is c =
+question-is : (c : tie.After-c-asked) → paperCQuestion (c .c-asked .result) ≡ question c
+question-is c =
     let f = c .before .fits in
-    ap (λ (i : Interval CAsked). i .from) (simp (read (f .start), read (f .«start-offset»), read (f .end), read (f .«end-offset»)) at (c .c-asked .ensures))
-
-to-is : (c : tie.After-c-asked) → paperCAsked (c .c-asked .result .to) ≡ question c .to
-to-is c =
-    let f = c .before .fits in
-    ap (λ (i : Interval CAsked). i .to) (simp (read (f .start), read (f .«start-offset»), read (f .end), read (f .«end-offset»)) at (c .c-asked .ensures))
+    simp (read (f .start), read (f .«start-offset»), read (f .end), read (f .«end-offset»)) at (c .c-asked .ensures)
 
 -- what is lent, and how it lies
 known-is : (p : tie.After-at) →
@@ -38,10 +34,10 @@ known-is p = sym (p .before .before .known-of .ensures) ∙ p .at .given .1
 
 -- from where a base was looked for back to how the transcript lies
 abbrev lying-from : tie.After-lone-c → tie.After-at
-lying-from l = l .before .before .before .before .before .before .before
+lying-from l = l .before .before
 
 lone-c-requires : tie.Need-lone-c-requires
-lone-c-requires c κs = known-lies _ _ _ (known-is (c .before .before .before .before .before .before)) .sound
+lone-c-requires c κs = known-lies _ _ _ (known-is (c .before)) .sound
 
 sure-g-requires : tie.Need-sure-g-requires
 sure-g-requires c κs =
@@ -49,74 +45,71 @@ sure-g-requires c κs =
     let (small, on) = rw (c .before .lone .given .1) at (l .lone-c .ensures .1) in
     (known-lies _ _ _ (known-is (lying-from l)) .sound .count-to, small, on)
 
--- both ends are one name
-one-is : (t : tie.Then1) → let q = t .before .before .before .before .before .before .before .before .before in question q .from ≡ question q .to
-one-is t =
-    let q = t .before .before .before .before .before .before .before .before .before in
-    same-says _ _ (sym (simp (from-is q, to-is q) at (t .before .is-same .ensures)) ∙ t .if1 .taken)
+-- what was looked for, in the question's words
+lone-is : (l : tie.After-lone-c) → let a = lying-from l .before .before .before .before .args in
+    paperLone (l .lone-c .result) ≡ loneC (a .strict) (lying-from l .at .given .0 .0) (tables (a .genome .now) (a .transcript .now) (a .letters .now)) (paperCoding (lying-from l .at .given .0 .1 .0)) (question (lying-from l .before .before .before))
+lone-is l = simp (question-is (lying-from l .before .before .before)) at (l .lone-c .ensures .0)
 
 returns : tie.Need-returns
 returns c =
     let m = c .before .before in
     let l = m .before .before in
-    let t = l .before in
-    let d = t .before .before .before in
     let p = lying-from l in
     let q = p .before .before .before in
-    let spot = sym (ap paperLone (m .lone .given .1)) ∙ simp (from-is q) at (l .lone-c .ensures .0) in
     simp (read (q .before .fits .«start-offset»)) at (c .sure-g .ensures)
-    ∙ ap (laid gLaid) (sym (one-sure-name _ _ _ (known-is p) _ _ _ _ _ (d .cds .given .1) (one-is t) _ spot))
+    ∙ ap (laid gLaid) (sym (one-name _ _ _ (known-is p) _ _ _ _ (sym (ap paperLone (m .lone .given .1)) ∙ lone-is l)))
 
--- from the number of a base that is not sure back to where it was looked for
-abbrev looked : tie.After-known-told4 → tie.After-lone-c
-looked c = c .before .before .before .before
+-- from the name that is taken again of a base that is not sure back to where it was looked for
+abbrev looked : tie.After-c-asked2 → tie.After-lone-c
+looked c = c .before .before .before .before .before
 
 alignment-requires : tie.Need-alignment-requires
 alignment-requires c κs = known-lies _ _ _ (known-is (lying-from (looked c))) .head
 
-here-is : (c : tie.After-alignment) → c .alignment .result ≡ lying-from (looked (c .before)) .at .given .0 .0
-here-is c = c .alignment .ensures ∙ known-lies _ _ _ (known-is (lying-from (looked (c .before)))) .at
+coding-of-requires : tie.Need-coding-of-requires
+coding-of-requires c κs = natural-bounds _ (known-lies _ _ _ (known-is (lying-from (looked (c .before)))) .held)
 
--- its name, which is taken again
-name-is : (c : tie.After-c-asked2) → paperCAsked (c .c-asked2 .result .from) ≡ question (lying-from (looked (c .before .before)) .before .before .before) .from
-name-is c =
-    let f = lying-from (looked (c .before .before)) .before .before .before .before .fits in
-    ap (λ (i : Interval CAsked). i .from) (simp (read (f .start), read (f .«start-offset»), read (f .end), read (f .«end-offset»)) at (c .c-asked2 .ensures))
+-- it is the name that was looked for
+again-asked : (c : tie.After-c-asked2) → paperCQuestion (c .c-asked2 .result) ≡ question (lying-from (looked c) .before .before .before)
+again-asked c =
+    let f = lying-from (looked c) .before .before .before .before .fits in
+    simp (read (f .start), read (f .«start-offset»), read (f .end), read (f .«end-offset»)) at (c .c-asked2 .ensures)
 
 unsure-g-requires : tie.Need-unsure-g-requires
 unsure-g-requires c κs =
-    let k = c .before .before in
-    let l = looked k in
-    let p = lying-from l in
-    let told = sym (ap paperLone (k .before .lone2 .given .1)) ∙ simp (from-is (p .before .before .before)) at (l .lone-c .ensures .0) in
-    rw (here-is (c .before), name-is c) (known-lies _ _ _ (known-is p) .sound, told)
+    let m = c .before in
+    let q = m .before in
+    let l = looked q in
+    let lies = known-lies _ _ _ (known-is (lying-from l)) in
+    rw (m .alignment .ensures ∙ lies .at, c .coding-of .ensures ∙ lies .cds, again-asked q) (lies .sound, sym (ap paperLone (q .before .before .lone2 .given .1)) ∙ lone-is l)
 
 returns-2 : tie.Need-returns-2
 returns-2 c =
     let u = c .before in
-    let q = u .before in
-    let l = looked (q .before .before) in
-    let t = l .before in
-    let d = t .before .before .before in
+    let d = u .before in
+    let m = d .before in
+    let q = m .before in
+    let k = known-is (lying-from (looked q)) in
+    let lies = known-lies _ _ _ k in
     c .lay-g .ensures
-    ∙ ap (laid gLaid) (simp (here-is (q .before), name-is q) at (u .unsure-g .ensures) ∙ sym (one-name _ _ _ (known-is (lying-from l)) _ _ _ _ _ (d .cds .given .1) (one-is t)))
+    ∙ ap (laid gLaid) (simp (m .alignment .ensures ∙ lies .at, d .coding-of .ensures ∙ lies .cds, again-asked q) at (u .unsure-g .ensures) ∙ sym (lying-c-to-g _ _ _ k _ _))
 
 alignment-requires-2 : tie.Need-alignment-requires-2
-alignment-requires-2 c κs = known-lies _ _ _ (known-is (c .before .before)) .head
+alignment-requires-2 c κs = known-lies _ _ _ (known-is (lying-from (c .before .before))) .head
 
-again-is : (c : tie.After-alignment2) → c .alignment2 .result ≡ c .before .before .before .at .given .0 .0
-again-is c = c .alignment2 .ensures ∙ known-lies _ _ _ (known-is (c .before .before .before)) .at
+again-is : (c : tie.After-alignment2) → c .alignment2 .result ≡ lying-from (c .before .before .before) .at .given .0 .0
+again-is c = c .alignment2 .ensures ∙ known-lies _ _ _ (known-is (lying-from (c .before .before .before))) .at
 
 last-requires : tie.Need-last-requires
-last-requires c κs = rw (again-is c) (known-lies _ _ _ (known-is (c .before .before .before)) .sound .count-to)
+last-requires c κs = rw (again-is c) (known-lies _ _ _ (known-is (lying-from (c .before .before .before))) .sound .count-to)
 
-coding-of-requires : tie.Need-coding-of-requires
-coding-of-requires c κs = natural-bounds _ (known-lies _ _ _ (known-is (c .before .before .before .before .before)) .held)
+coding-of-requires-2 : tie.Need-coding-of-requires-2
+coding-of-requires-2 c κs = natural-bounds _ (known-lies _ _ _ (known-is (lying-from (c .before .before .before .before .before))) .held)
 
 then-n-to-g-requires : tie.Need-then-n-to-g-requires
 then-n-to-g-requires c κs =
     let m = c .before .before .before .before in
-    rw (again-is m) (known-lies _ _ _ (known-is (m .before .before .before)) .sound)
+    rw (again-is m) (known-lies _ _ _ (known-is (lying-from (m .before .before .before))) .sound)
 
 returns-3 : tie.Need-returns-3
 returns-3 c =
@@ -125,11 +118,11 @@ returns-3 c =
     let d = n .before in
     let q = d .before in
     let l = q .before in
-    let p = l .before .before .before .before in
+    let p = lying-from (l .before .before .before .before) in
     let s = p .before .before .before .before in
     let asked = simp (read (s .fits .start), read (s .fits .«start-offset»), read (s .fits .end), read (s .fits .«end-offset»)) at (q .c-asked3 .ensures) in
     let long = simp (again-is (l .before)) at (l .last .ensures) in
-    let coding = d .coding-of .ensures ∙ known-lies _ _ _ (known-is p) .cds in
+    let coding = d .coding-of2 .ensures ∙ known-lies _ _ _ (known-is p) .cds in
     let first = simp (long, coding, asked) at (n .c-to-n .ensures) in
     c .lay-g2 .ensures ∙ ap (laid gLaid) (simp (first, again-is (l .before)) at (t .then-n-to-g .ensures) ∙ sym (lying-c-to-g _ _ _ (known-is p) _ _))
 
@@ -149,7 +142,7 @@ returns-4 c =
 returns-5 : tie.Need-returns-5
 returns-5 c =
     let m = c .before in
-    c .refusal-of .ensures ∙ ap (laid gLaid) (sym (ask-broken _ _ (sym (m .before .before .known-of .ensures) ∙ m .enum-told2 .given .1)))
+    c .refusal-of .ensures ∙ ap (laid gLaid) (sym (ask-broken _ _ (sym (m .before .before .known-of .ensures) ∙ m .enum-told .given .1)))
 
 pub c-to-g-spec : {M : Type 1} → statement M
 c-to-g-spec =
@@ -158,23 +151,21 @@ c-to-g-spec =
     (λ c κs. search needs)
     (λ c κs. search needs)
     (λ c. search needs)
-    (λ c. search needs)
-    (λ c κs. search needs)
     lone-c-requires
     (λ c. search needs)
     sure-g-requires
     returns
     (λ c. search needs)
-    alignment-requires
     (λ c κs. search needs)
+    alignment-requires
+    coding-of-requires
     unsure-g-requires
     (λ c κs. search needs)
     returns-2
-    (λ c. search needs)
     alignment-requires-2
     last-requires
     (λ c κs. search needs)
-    coding-of-requires
+    coding-of-requires-2
     (λ c κs. search needs)
     then-n-to-g-requires
     (λ c κs. search needs)

@@ -83,65 +83,50 @@ ends-from c = looked c .before .before .before
 alignment-requires : tie.Need-alignment-requires
 alignment-requires c κs = known-lies _ _ _ (known-is (at-from (ends-from c))) .head
 
-here-is : (c : tie.After-alignment) → c .alignment .result ≡ at-from (ends-from (c .before)) .at .given .0 .0
-here-is c = c .alignment .ensures ∙ known-lies _ _ _ (known-is (at-from (ends-from (c .before)))) .at
+coding-of-requires : tie.Need-coding-of-requires
+coding-of-requires c κs = natural-bounds _ (known-lies _ _ _ (known-is (at-from (ends-from (c .before)))) .held)
 
-last-requires : tie.Need-last-requires
-last-requires c κs = rw (here-is c) (known-lies _ _ _ (known-is (at-from (ends-from (c .before)))) .sound .count-to)
-
-one-to-n-at-requires : tie.Need-one-to-n-at-requires
-one-to-n-at-requires c κs =
+unsure-c-requires : tie.Need-unsure-c-requires
+unsure-c-requires c κs =
     let m = c .before in
     let e = ends-from (m .before) in
+    let lies = known-lies _ _ _ (known-is (at-from e)) in
     let told = sym (ap paperLone (m .before .before .lone2 .given .1)) ∙ simp (from-is e) at (looked (m .before) .lone-g .ensures .0) in
-    rw (here-is m) (known-lies _ _ _ (known-is (at-from e)) .sound, rw (from-is e) (unsure-base _ _ _ (known-is (at-from e)) _ _ _ told))
-
-coding-of-requires : tie.Need-coding-of-requires
-coding-of-requires c κs = natural-bounds _ (known-lies _ _ _ (known-is (at-from (ends-from (c .before .before .before)))) .held)
+    rw (m .alignment .ensures ∙ lies .at) (lies .sound, rw (from-is e) (unsure-base _ _ _ (known-is (at-from e)) _ _ _ told))
 
 returns-2 : tie.Need-returns-2
 returns-2 c =
-    let s = c .before in
-    let d = s .before in
-    let t = d .before in
-    let l = t .before in
-    let m = l .before in
+    let u = c .before in
+    let d = u .before in
+    let m = d .before in
     let e = ends-from (m .before) in
     let k = known-is (at-from e) in
-    let n = simp (here-is m, from-is e) at (t .one-to-n-at .ensures) in
-    let long = simp (here-is m) at (l .last .ensures) in
-    let coding = d .coding-of .ensures ∙ known-lies _ _ _ k .cds in
-    c .lay-c .ensures ∙ ap (laid cLaid) (simp (n, long, coding) at (s .then-n-to-c .ensures) ∙ sym (one-place-c _ _ _ k _ _ _ _ (both-are e) (one-is (looked (m .before) .before))))
+    let lies = known-lies _ _ _ k in
+    c .lay-c .ensures
+    ∙ ap (laid cLaid) (simp (m .alignment .ensures ∙ lies .at, d .coding-of .ensures ∙ lies .cds, from-is e) at (u .unsure-c .ensures) ∙ sym (one-place-c _ _ _ k _ _ _ _ (both-are e) (one-is (looked (m .before) .before))))
 
 alignment-requires-2 : tie.Need-alignment-requires-2
 alignment-requires-2 c κs = known-lies _ _ _ (known-is (at-from (c .before .before))) .head
 
-again-is : (c : tie.After-alignment2) → c .alignment2 .result ≡ at-from (c .before .before .before) .at .given .0 .0
-again-is c = c .alignment2 .ensures ∙ known-lies _ _ _ (known-is (at-from (c .before .before .before))) .at
-
-last-requires-2 : tie.Need-last-requires-2
-last-requires-2 c κs = rw (again-is c) (known-lies _ _ _ (known-is (at-from (c .before .before .before))) .sound .count-to)
-
-to-n-requires : tie.Need-to-n-requires
-to-n-requires c κs =
-    let m = c .before in
-    rw (again-is m) (known-lies _ _ _ (known-is (at-from (m .before .before .before))) .sound)
-
 coding-of-requires-2 : tie.Need-coding-of-requires-2
-coding-of-requires-2 c κs = natural-bounds _ (known-lies _ _ _ (known-is (at-from (c .before .before .before .before .before))) .held)
+coding-of-requires-2 c κs = natural-bounds _ (known-lies _ _ _ (known-is (at-from (c .before .before .before))) .held)
+
+interval-c-requires : tie.Need-interval-c-requires
+interval-c-requires c κs =
+    let m = c .before in
+    let lies = known-lies _ _ _ (known-is (at-from (m .before .before .before))) in
+    rw (m .alignment2 .ensures ∙ lies .at) (lies .sound)
 
 returns-3 : tie.Need-returns-3
 returns-3 c =
-    let s = c .before in
-    let d = s .before in
-    let t = d .before in
-    let l = t .before in
-    let e = l .before .before .before .before in
+    let i = c .before in
+    let d = i .before in
+    let m = d .before in
+    let e = m .before .before .before in
     let k = known-is (at-from e) in
-    let n = simp (again-is (l .before), from-is e, to-is e) at (t .to-n .ensures) in
-    let long = simp (again-is (l .before)) at (l .last2 .ensures) in
-    let coding = d .coding-of2 .ensures ∙ known-lies _ _ _ k .cds in
-    c .lay-c2 .ensures ∙ ap (laid cLaid) (simp (n, long, coding) at (s .then-n-to-c2 .ensures) ∙ sym (c-by-ends _ _ _ k _ _ _ (both-are e)))
+    let lies = known-lies _ _ _ k in
+    c .lay-c2 .ensures
+    ∙ ap (laid cLaid) (simp (m .alignment2 .ensures ∙ lies .at, d .coding-of2 .ensures ∙ lies .cds, from-is e, to-is e) at (i .interval-c .ensures) ∙ sym (c-by-ends _ _ _ k _ _ _ (both-are e)))
 
 returns-4 : tie.Need-returns-4
 returns-4 c =
@@ -177,17 +162,13 @@ g-to-c-spec =
     returns
     (λ c. search needs)
     alignment-requires
-    last-requires
-    one-to-n-at-requires
     coding-of-requires
-    (λ c κs. search needs)
+    unsure-c-requires
     (λ c κs. search needs)
     returns-2
     alignment-requires-2
-    last-requires-2
-    to-n-requires
     coding-of-requires-2
-    (λ c κs. search needs)
+    interval-c-requires
     (λ c κs. search needs)
     (λ c. search needs)
     (λ c κs. search needs)
