@@ -3,10 +3,9 @@ use mathlib.Core.Path.{_≡_, sym, ap, _∙_}
 use lib.IntN.{ℤ}
 use mir.Syntax.{w32}
 use mir.Val.{toZ, ofZ}
-use Rattle.whole.specs.laws.Whole.{read, told}
+use Rattle.whole.specs.laws.Whole.{read, told, eq-means}
 use Rattle.refusals.specs.Outcome.{answered}
 use Rattle.holding.specs.Holding.{lent}
-use Rattle.coding.specs.laws.Same.{number-says}
 use Rattle.layout.specs.Layout.{nLaid, laid, gAsked}
 use Rattle.mapper.specs.Asking.{given, askGToN}
 use Rattle.mapper.specs.Knowing.{knownOf, paperGiven}
@@ -61,7 +60,7 @@ to-is c = told w32 (c .before .from .given .0 .1 .0) (c .known-told2 .given .1 .
 one-is : (c : tie.Then1) → let p = c .before .before .before in p .from .given .0 .0 ≡ p .from .given .0 .1 .0
 one-is c =
     let e = c .before .before in
-    number-says _ _ (sym (simp (from-is e, to-is e) at (c .before .is-base .ensures)) ∙ c .if1 .taken)
+    eq-means _ _ (sym (simp (from-is e, to-is e) at (c .before .is-base .ensures)) ∙ c .if1 .taken)
 
 returns : tie.Need-returns
 returns c =
