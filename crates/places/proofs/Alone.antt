@@ -7,5 +7,5 @@ use Rattle.places.specs.Lone.{sure, unsure, loneIf}
 pub is-sure : {within : Bool} {s t : Spot} → within ≡ true → t ≡ s → t .sure ≡ true → sure t ≡ loneIf within s
 is-sure i e u = rw (i, ← e, u) refl
 
-pub not-sure : {within : Bool} {s t : Spot} → within ≡ true → t ≡ s → t .sure ≡ false → unsure (t .number) ≡ loneIf within s
+pub not-sure : {within : Bool} {s t : Spot} → within ≡ true → t ≡ s → t .sure ≡ false → unsure t ≡ loneIf within s
 not-sure i e u = rw (i, ← e, u) refl

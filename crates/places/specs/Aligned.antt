@@ -15,7 +15,7 @@ use Rattle.transcript.specs.Transcript.{Transcript}
 use Rattle.transcript.specs.Transcript.Cds.{noCds}
 use Rattle.positions.specs.Positions.{Interval, GPosition, NPosition}
 use Rattle.positions.specs.Answers.{Answer, markOf, ends, gFits, nFits, ifFits}
-use Rattle.places.specs.Mapping.{inside, turned, signed, earlier, later}
+use Rattle.places.specs.Mapping.{inside, turned, signed, earlier, later, placeOfG}
 use Rattle.places.specs.declared.Alignment.{Alignment}
 
 -- the transcript that lies so. Between g. and n. its CDS is not looked at
@@ -32,10 +32,10 @@ pub record Aligns (a : Alignment) (x : Tables) : Type 0 where
   pub count-to : a .count ≤ mostSegments
   pub segments : segmentsHold x (a .count) ≡ true
 
--- this is the number of a segment, by the starts of so many, and of the one that holds the place p, where that place lies inside
-pub record InSegment (strict : Bool) (starts : List ℕ) (count number : ℕ) (p : ℤ) : Type 0 where
-  pub on : number < count
-  pub here : inside strict (getD starts count 0) p ≡ true → number ≡ indexOf starts count p
+-- this is the number of a segment, and of the one that holds the place of g, where that place lies within strict bounds
+pub record InSegment (a : Alignment) (genome : List ℕ) (number : ℕ) (g : ℤ) : Type 0 where
+  pub on : number < a .count
+  pub here : inside true (getD genome (a .count) 0) (placeOfG (a .first) g) ≡ true → number ≡ indexOf genome (a .count) (placeOfG (a .first) g)
 
 -- a spot of a transcript of that strand and length as an n. position, or 17
 abbrev pub nEndAt : Bool → ℕ → Spot → Outcome NPosition

@@ -8,26 +8,25 @@ ghost use Rattle.whole.specs.Whole.{Within};
 ghost use Rattle.numbering.specs.Numbers.{placeOfN};
 ghost use Rattle.segments.specs.Tables.{tables};
 ghost use Rattle.segments.specs.Paper.{Small, endSaid, spotSaid, toTranscript, toGenome};
-ghost use Rattle.segments.specs.Places.{stopOf};
+ghost use Rattle.segments.specs.Places.{unsurely, stopOf};
 ghost use Rattle.segments.specs.Exons.{lastNumber, exonFound, exonChosen};
 ghost use Rattle.positions.specs.Answers.{gFits, fitting};
-ghost use Rattle.positions.specs.Positions.{asksN};
-ghost use Rattle.positions.specs.Paper.{paperNAsked, paperNPosition, paperNQuestion, paperGEnd, paperNEnd, paperExons, paperG, paperN};
+ghost use Rattle.positions.specs.Paper.{paperNAsked, paperNQuestion, paperGEnd, paperNEnd, paperExons, paperG, paperN};
 ghost use Rattle.places.specs.Mapping.{inside, turned, signed, foundExons, chosenExons, placeOfG, gToN, gOfEnds, nToG, inBounds};
-ghost use Rattle.places.specs.Lone.{loneG, loneN, paperLone, RoomyLone};
+ghost use Rattle.places.specs.Lone.{loneG, loneN, nBeside, gBeside, paperLone, RoomyLone};
 ghost use Rattle.places.specs.Aligned.{alignedBy, numberBy, Aligns, InSegment, nEndAt, nJoined, gEndAt, gJoined};
 use numbering::Place;
 use positions::Exons;
 use positions::GAnswer;
 use positions::NAnswer;
 use positions::NAsked;
-use positions::NPosition;
 use positions::NQuestion;
 use positions::fitting;
 use positions::fitting::GEnd;
 use positions::fitting::NEnd;
 use refusals::MOST_SEGMENTS;
 use refusals::MOST_STARTS;
+use segments::Edge;
 use segments::End;
 use segments::Spot;
 use segments::exons;
@@ -241,11 +240,10 @@ fn n_of_one(forward: bool, len: u32, number: u16, start: Spot) -> NAnswer
     n_answer(forward, len, both, start, segments::stop_of(start))
 }
 
-// A base by itself that lies inside: its one spot, where it is sure. What it is answered with follows from that, so that a host's question about one base needs no more. Of one that is not
-// sure the number of its segment, so that it is not looked for again; any other goes the long way.
+// A base by itself that lies inside, by its spot, which is sure or not. What it is answered with follows from that, so that a host's question about one base needs no more; any other goes the long way.
 pub enum Lone {
     Sure(Spot),
-    Unsure(usize),
+    Unsure(Spot),
     Other,
 }
 
@@ -269,7 +267,7 @@ pub fn lone_g(
         if spot.sure {
             return Lone::Sure(spot);
         }
-        return Lone::Unsure(spot.number);
+        return Lone::Unsure(spot);
     }
     Lone::Other
 }
@@ -295,7 +293,7 @@ pub fn lone_n(
         if spot.sure {
             return Lone::Sure(spot);
         }
-        return Lone::Unsure(spot.number);
+        return Lone::Unsure(spot);
     }
     Lone::Other
 }
@@ -314,6 +312,38 @@ pub fn chosen_exon(at: Alignment, exons: &[u16; MOST_SEGMENTS], spot: Spot) -> u
     ensures { λ r. ⌜ r ≡ exonChosen (at .forward) (numberBy at (now (exons .entry))) (spotSaid spot) ⌝ }
 {
     exons::chosen(at.forward, exons, at.count, behind(at), spot)
+}
+
+// The spot of a base beside an I or a D, by its place in the segment with this number.
+fn spot_beside(place: Place, number: usize) -> Spot
+    requires { ⌜ Within 37 (place .0) ⌝ }
+    ensures said { λ r. ⌜ spotSaid r ≡ unsurely number (place .0) ⌝ }
+    ensures small { λ r. ⌜ Small 37 r × (r .number ≡ number) ⌝ }
+{
+    Spot {
+        place,
+        offset: 0,
+        sure: false,
+        number,
+        edge: Edge::None,
+    }
+}
+
+// The n. interval of a base beside an I or a D, by its place in the segment with this number.
+pub fn beside_n(
+    at: Alignment,
+    transcript: &[u32; MOST_STARTS],
+    exons: &[u16; MOST_SEGMENTS],
+    place: Place,
+    number: usize,
+) -> NAnswer
+    requires { ⌜ Within 37 (place .0) × (number < at .count) × (at .count ≤ mostSegments) ⌝ }
+    ensures { λ r. ⌜ paperN r ≡ nBeside at (now (transcript .entry)) (now (exons .entry)) (place .0) number ⌝ }
+{
+    let count = at.count;
+    let start = spot_beside(place, number);
+    let exon = found_exon(at, exons, start);
+    n_of_one(at.forward, last(transcript, count), exon, start)
 }
 
 // g. to n. of an interval of one base.
@@ -340,7 +370,7 @@ fn one_to_n(
     NAnswer::Refused(refusals::OUTSIDE)
 }
 
-// The same by the number of the segment that holds the base, which is at hand.
+// The same in strict mode, by the number of the segment that holds the base, which is at hand.
 pub fn one_to_n_at(
     at: Alignment,
     genome: &[u32; MOST_STARTS],
@@ -349,22 +379,21 @@ pub fn one_to_n_at(
     exons: &[u16; MOST_SEGMENTS],
     number: usize,
     g: i32,
-    strict: bool,
 ) -> NAnswer
     requires { ⌜ Aligns at (tables (now genome) (now transcript) (now letters)) ⌝ }
-    requires { ⌜ InSegment strict (now genome) (at .count) number (placeOfG (at .first) g) ⌝ }
-    ensures { λ r. ⌜ paperN r ≡ gToN strict (alignedBy at (tables (now (genome .entry)) (now (transcript .entry)) (now (letters .entry))) (now (exons .entry))) (record { from = g; to = g }) ⌝ }
+    requires { ⌜ InSegment at (now genome) number g ⌝ }
+    ensures { λ r. ⌜ paperN r ≡ gToN true (alignedBy at (tables (now (genome .entry)) (now (transcript .entry)) (now (letters .entry))) (now (exons .entry))) (record { from = g; to = g }) ⌝ }
 {
     let forward = at.forward;
     let count = at.count;
-    let here = place_of_g(at.first, g);
-    if is_inside(strict, last(genome, count), here) {
+    let p = place_of_g(at.first, g);
+    if is_inside(true, last(genome, count), p) {
         let start = segments::map_at(
             genome,
             transcript,
             letters,
             number,
-            here.0,
+            p.0,
             End::Start,
             forward,
         );
@@ -440,30 +469,19 @@ fn g_of_start(at: Alignment, exons: &[u16; MOST_SEGMENTS], start: Spot, o: i32, 
     )
 }
 
-// n. to g. of a position that is both ends, by the number of the segment that holds its place, which is at hand.
-pub fn one_to_g_at(
+// The g. interval of a position beside an I or a D, by its place in the segment with this number, and its own offset.
+pub fn beside_g(
     at: Alignment,
-    genome: &[u32; MOST_STARTS],
-    transcript: &[u32; MOST_STARTS],
-    letters: &[u8; MOST_SEGMENTS],
     exons: &[u16; MOST_SEGMENTS],
+    place: Place,
     number: usize,
-    n: NPosition,
-    strict: bool,
+    offset: i32,
 ) -> GAnswer
-    requires { ⌜ Aligns at (tables (now genome) (now transcript) (now letters)) ⌝ }
-    requires { ⌜ InSegment strict (now transcript) (at .count) number (turned (at .forward) (getD (now transcript) (at .count) 0) (placeOfN (n .base))) ⌝ }
-    ensures { λ r. ⌜ paperG r ≡ nToG strict (alignedBy at (tables (now (genome .entry)) (now (transcript .entry)) (now (letters .entry))) (now (exons .entry))) (record { from = asksN (paperNPosition n); to = asksN (paperNPosition n) }) ⌝ }
+    requires { ⌜ Within 37 (place .0) × (number < at .count) × (at .count ≤ mostSegments) ⌝ }
+    ensures { λ r. ⌜ paperG r ≡ gBeside at (now (exons .entry)) (place .0) number offset ⌝ }
 {
-    let count = at.count;
-    let len = last(transcript, count);
-    let p = place_of_n(at.forward, len, n.base);
-    let offset = n.offset;
-    if is_inside(strict, len, p) {
-        let start = segments::map_at(transcript, genome, letters, number, p.0, End::Start, true);
-        return g_of_start(at, exons, start, offset, offset);
-    }
-    GAnswer::Refused(refusals::OUTSIDE)
+    let start = spot_beside(place, number);
+    g_of_start(at, exons, start, offset, offset)
 }
 
 // n. to g. of two positions with one number, whose offsets are o and u: its place is looked for once.

@@ -1,20 +1,20 @@
-// What a host is told of the three questions that it asks most, laid out. One base that is sure goes a short way, which asks for no more than it needs; one that is not is answered by the segment that it was found in, and every other question goes the way that logs and alleles go too.
+// What a host is told of the three questions that it asks most, laid out. One base that is sure goes a short way, which asks for no more than it needs; one that is not is answered by where it lies, and every other question goes the way that logs and alleles go too.
 // An answer is laid out where it is found: one that is handed on as it is would be copied in other pieces than it was stored in, and wait for them.
 ghost use mathlib.Core.Path.{_≡_};
 ghost use lib.ListN.{getD};
 ghost use Prim.Native.Nat.{_≤_, _<_};
 ghost use Rattle.refusals.specs.Numbers.{mostSegments};
-ghost use Rattle.whole.specs.Whole.{eqZ};
+ghost use Rattle.whole.specs.Whole.{eqZ, Within};
 ghost use Rattle.segments.specs.Tables.{tables};
 ghost use Rattle.segments.specs.Paper.{Small, spotSaid};
 ghost use Rattle.holding.specs.Holding.{lent, checked};
 ghost use Rattle.positions.specs.Positions.{asksN};
 ghost use Rattle.positions.specs.Answers.{certain, ends, chain};
-ghost use Rattle.positions.specs.Paper.{paperCQuestion, paperNEnd, paperG, paperC};
-ghost use Rattle.coding.specs.Coding.{nToC, cToN};
-ghost use Rattle.places.specs.Mapping.{placeOfG, gToN, nToG};
-ghost use Rattle.places.specs.Aligned.{alignedBy, Aligns, InSegment};
-ghost use Rattle.places.specs.Lone.{unsure, paperLone, RoomyLone};
+ghost use Rattle.positions.specs.Paper.{paperCQuestion, paperNEnd, paperC};
+ghost use Rattle.coding.specs.Coding.{nToC};
+ghost use Rattle.places.specs.Mapping.{gToN};
+ghost use Rattle.places.specs.Aligned.{alignedBy, Aligns};
+ghost use Rattle.places.specs.Lone.{nBeside, paperLone, RoomyLone};
 ghost use Rattle.mapper.specs.Asking.{askGToN, askGToC, askCToG};
 ghost use Rattle.mapper.specs.Knowing.{paperCoding};
 ghost use Rattle.layout.specs.Layout.{gAsked, cAsked, gLaid, nLaid, cLaid, laid};
@@ -27,12 +27,11 @@ use mapper::knowing::Coding;
 use mapper::knowing::Known;
 use mapper::steps;
 use mapper::steps::Given;
+use numbering::Place;
 use places::Alignment;
 use places::Lone;
 use positions::CAnswer;
 use positions::CQuestion;
-use positions::GAnswer;
-use positions::NPlain;
 use positions::fitting::CEnd;
 use positions::fitting::GEnd;
 use positions::fitting::NEnd;
@@ -103,16 +102,13 @@ pub fn g_to_n(
                     if let Lone::Sure(spot) = lone {
                         return sure_n(at, transcript, exons, spot);
                     }
-                    if let Lone::Unsure(number) = lone {
-                        return lay::lay_n(places::one_to_n_at(
+                    if let Lone::Unsure(spot) = lone {
+                        return lay::lay_n(places::beside_n(
                             knowing::alignment(head),
-                            genome,
                             transcript,
-                            letters,
                             exons,
-                            number,
-                            from,
-                            strict,
+                            spot.place,
+                            spot.number,
                         ));
                     }
                 }
@@ -161,25 +157,22 @@ fn sure_c(
     }
 }
 
-// The c. interval of a base that is not sure, by the number of its segment.
-fn unsure_c(
+// The c. interval of a base beside an I or a D, by its place in the segment with this number.
+fn beside_c(
     at: Alignment,
-    genome: &[u32; MOST_STARTS],
     transcript: &[u32; MOST_STARTS],
-    letters: &[u8; MOST_SEGMENTS],
     exons: &[u16; MOST_SEGMENTS],
     cds: Coding,
+    place: Place,
     number: usize,
-    g: i32,
     strict: bool,
 ) -> CAnswer
-    requires { ⌜ Aligns at (tables (now genome) (now transcript) (now letters)) ⌝ }
-    requires { ⌜ InSegment strict (now genome) (at .count) number (placeOfG (at .first) g) ⌝ }
-    ensures { λ r. ⌜ paperC r ≡ chain asksN (gToN strict (alignedBy at (tables (now (genome .entry)) (now (transcript .entry)) (now (letters .entry))) (now (exons .entry))) (record { from = g; to = g })) (nToC strict (getD (now (transcript .entry)) (at .count) 0) (paperCoding cds)) ⌝ }
+    requires { ⌜ Within 37 (place .0) × (number < at .count) × (at .count ≤ mostSegments) ⌝ }
+    ensures { λ r. ⌜ paperC r ≡ chain asksN (nBeside at (now (transcript .entry)) (now (exons .entry)) (place .0) number) (nToC strict (getD (now (transcript .entry)) (at .count) 0) (paperCoding cds)) ⌝ }
 {
     let count = at.count;
     let len = places::last(transcript, count);
-    let n = places::one_to_n_at(at, genome, transcript, letters, exons, number, g, strict);
+    let n = places::beside_n(at, transcript, exons, place, number);
     steps::then_n_to_c(n, len, cds, strict)
 }
 
@@ -226,16 +219,14 @@ pub fn g_to_c(
                     if let Lone::Sure(spot) = lone {
                         return sure_c(at, transcript, exons, cds, spot, strict);
                     }
-                    if let Lone::Unsure(number) = lone {
-                        return lay::lay_c(unsure_c(
+                    if let Lone::Unsure(spot) = lone {
+                        return lay::lay_c(beside_c(
                             knowing::alignment(head),
-                            genome,
                             transcript,
-                            letters,
                             exons,
                             knowing::coding_of(head),
-                            number,
-                            from,
+                            spot.place,
+                            spot.number,
                             strict,
                         ));
                     }
@@ -297,38 +288,6 @@ fn sure_g(at: Alignment, exons: &[u16; MOST_SEGMENTS], spot: Spot, offset: i32) 
     }
 }
 
-// The g. interval of a base that is not sure, by its c. position and the number of its segment.
-fn unsure_g(
-    at: Alignment,
-    genome: &[u32; MOST_STARTS],
-    transcript: &[u32; MOST_STARTS],
-    letters: &[u8; MOST_SEGMENTS],
-    exons: &[u16; MOST_SEGMENTS],
-    cds: Coding,
-    number: usize,
-    c: CQuestion,
-    strict: bool,
-) -> GAnswer
-    requires { ⌜ Aligns at (tables (now genome) (now transcript) (now letters)) ⌝ }
-    requires { ⌜ unsure number ≡ loneC strict at (tables (now genome) (now transcript) (now letters)) (paperCoding cds) (paperCQuestion c) ⌝ }
-    ensures { λ r. ⌜ paperG r ≡ chain asksN (cToN strict (getD (now (transcript .entry)) (at .count) 0) (paperCoding cds) (paperCQuestion c)) (nToG strict (alignedBy at (tables (now (genome .entry)) (now (transcript .entry)) (now (letters .entry))) (now (exons .entry)))) ⌝ }
-{
-    let count = at.count;
-    match steps::c_to_n(places::last(transcript, count), cds, c, strict) {
-        NPlain::Told(n) => places::one_to_g_at(
-            at,
-            genome,
-            transcript,
-            letters,
-            exons,
-            number,
-            n.from,
-            strict,
-        ),
-        NPlain::Refused(k) => GAnswer::Refused(k),
-    }
-}
-
 // c. to g.: c. to n. wholly, then n. to g.
 pub fn c_to_g(
     head: Head,
@@ -353,18 +312,13 @@ pub fn c_to_g(
             if let Lone::Sure(spot) = lone {
                 return sure_g(at, exons, spot, start_offset);
             }
-            if let Lone::Unsure(number) = lone {
-                let c = take::c_asked(start, start_offset, start_star, end, end_offset, end_star);
-                return lay::lay_g(unsure_g(
+            if let Lone::Unsure(spot) = lone {
+                return lay::lay_g(places::beside_g(
                     knowing::alignment(head),
-                    genome,
-                    transcript,
-                    letters,
                     exons,
-                    knowing::coding_of(head),
-                    number,
-                    c,
-                    strict,
+                    spot.place,
+                    spot.number,
+                    start_offset,
                 ));
             }
             let again = knowing::alignment(head);

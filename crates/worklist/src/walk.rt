@@ -6,7 +6,6 @@ ghost use Prim.Native.Nat.{_≤_};
 ghost use Rattle.refusals.specs.Numbers.{mostSegments};
 ghost use Rattle.refusals.specs.Outcome.{Outcome.answered};
 ghost use Rattle.segments.specs.Tables.{tables};
-ghost use Rattle.places.specs.Mapping.{placeOfG};
 ghost use Rattle.places.specs.Aligned.{alignedBy, Aligns, InSegment};
 ghost use Rattle.worklist.specs.Worklist.{positionsOf, neverFalls, stepsOf, stepsLaid};
 ghost use Rattle.worklist.specs.Walking.{trackBy, nextIndex, Ready, answeredBy};
@@ -40,20 +39,11 @@ fn answer_slot<'a>(
     index: usize,
     s: Slot,
 ) -> Slot
-    requires { ⌜ Aligns at (tables (now genome) (now transcript) (now letters)) × InSegment true (now genome) (at .count) index (placeOfG (at .first) (s .position)) ⌝ }
+    requires { ⌜ Aligns at (tables (now genome) (now transcript) (now letters)) × InSegment at (now genome) index (s .position) ⌝ }
     ensures { λ r. ⌜ r ≡ answeredBy (alignedBy at (tables (now (genome .entry)) (now (transcript .entry)) (now (letters .entry))) (now (exons .entry))) s ⌝ }
 {
     let position = s.position;
-    let n = places::one_to_n_at(
-        at,
-        genome,
-        transcript,
-        letters,
-        exons,
-        index,
-        position,
-        true,
-    );
+    let n = places::one_to_n_at(at, genome, transcript, letters, exons, index, position);
     let answer = lay::lay_n(n);
     Slot { position, answer }
 }

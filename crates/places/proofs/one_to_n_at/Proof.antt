@@ -1,10 +1,11 @@
--- `places::one_to_n_at` meets its contract: as for `one_to_n`, where the segment with this number is the one that the finder says (`at-transcript`). Assumes nothing.
+-- `places::one_to_n_at` meets its contract: as for `one_to_n`, where the segment with this number is the one that the finder says (`spot-at`). Assumes nothing.
+use mathlib.Core.Bool.{true}
 use mathlib.Core.Path.{_≡_, sym, _∙_}
 use native.Mathlib.Omega.{arith}
 use lib.ListN.{getD}
 use mir.Syntax.{w64}
 use Rattle.whole.specs.laws.Whole.{read, told}
-use Rattle.places.specs.laws.Spans.{at-transcript, one-answered, one-refused, same-number}
+use Rattle.places.specs.laws.Spans.{one-answered, one-refused, spot-at, same-number}
 use Rattle.segments.specs.Places.{segmentAt}
 use Rattle.segments.specs.laws.Finding.{spot-number}
 use Rattle.places.specs.Mapping.{inside, placeOfG}
@@ -18,7 +19,7 @@ place-is c = rw (read (c .before .fits .g)) at (c .place-of-g .ensures .0)
 -- the test that was made is 14's
 test-is : (c : tie.After-is-inside) →
     let a = c .before .before .before .args in
-    inside (a .strict) (getD (a .genome .now) (a .at .count) 0) (placeOfG (a .at .first) (a .g)) ≡ c .is-inside .result
+    inside true (getD (a .genome .now) (a .at .count) 0) (placeOfG (a .at .first) (a .g)) ≡ c .is-inside .result
 test-is c = sym (simp (c .before .last .ensures, place-is (c .before .before)) at (c .is-inside .ensures))
 
 map-at-requires : tie.Need-map-at-requires
@@ -43,15 +44,15 @@ returns c =
     let s = p .before in
     let a = s .args in
     let within = test-is i ∙ t .before .if1 .taken in
-    let start = rw (told w64 (p .place-of-g .result .0) (t .struct-told .given .0 .1), place-is p) at (x .map-at .ensures .0) ∙ at-transcript (a .at) _ (a .exons .now) (s .pre .0) _ _ (a .number) (s .pre .1 .here within) in
+    let start = rw (told w64 (p .place-of-g .result .0) (t .struct-told .given .0 .1), place-is p) at (x .map-at .ensures .0) ∙ spot-at (a .at) _ (a .exons .now) (s .pre .0) true (a .g) (a .number) (s .pre .1 .here within) in
     simp (f .found .ensures, f .before .behind .ensures, start, c .before .last2 .ensures) at (c .n-of-one .ensures)
-    ∙ sym (one-answered (a .at) _ _ (s .pre .0) (a .strict) (a .g) within)
+    ∙ sym (one-answered (a .at) _ _ (s .pre .0) true (a .g) within)
 
 returns-2 : tie.Need-returns-2
 returns-2 c =
     let s = c .before .before .before .before in
     let a = s .args in
-    sym (one-refused (a .at) _ _ (s .pre .0) (a .strict) (a .g) (test-is (c .before) ∙ c .if1 .left))
+    sym (one-refused (a .at) _ _ (s .pre .0) true (a .g) (test-is (c .before) ∙ c .if1 .left))
 
 pub one-to-n-at-spec : {M : Type 1} → statement M
 one-to-n-at-spec =

@@ -14,11 +14,11 @@ use Rattle.segments.specs.Tables.{Tables, read}
 use Rattle.cigar.specs.Elements.{genome, transcript}
 use Rattle.segments.specs.Places.{Spot, End, indexOf, segmentAt, spotOf, stopOf, mapByTables}
 use Rattle.segments.specs.Places.End.{start, stop}
-use Rattle.segments.specs.laws.Finding.{stop-of-place, spot-number, number-below}
+use Rattle.segments.specs.laws.Finding.{stop-of-place, number-below}
 use Rattle.segments.specs.laws.Meaning.{holds-means}
 use Rattle.segments.specs.Exons.{lastNumber, exonFound, exonChosen}
 use Rattle.segments.specs.laws.Exons.{read-number}
-use Rattle.segments.specs.laws.Reading.{read-length, last-genome, last-transcript, by-genome, by-transcript}
+use Rattle.segments.specs.laws.Reading.{read-length, last-genome, last-transcript, by-genome}
 use Rattle.segments.specs.Paper.{toTranscript, toGenome}
 use Rattle.transcript.specs.Transcript.{Transcript, exonNumber, genomeLength, transcriptLength}
 use Rattle.positions.specs.Positions.{Interval, NAsked}
@@ -45,10 +45,6 @@ both-found false number a = rw (found-once number a)
 pub both-chosen : (forward : Bool) (number : ℕ → ℕ) (a : Spot) → chosenExons forward number a (stopOf a) ≡ record { from = exonChosen forward number a; to = exonChosen forward number a }
 both-chosen forward number a = rw (chosen-once forward number a)
 
--- a spot has the number of the same spot
-numbered : {s u : Spot} {n : ℕ} → s ≡ u → s .number ≡ n → u .number ≡ n
-numbered {n = n} e h = subst (λ (a : Spot). a .number ≡ n) e h
-
 module _ (a : Alignment) (x : Tables) (exons : List ℕ) (sound : Aligns a x) where
   pub span-is : genomeLength (alignedBy a x exons) ≡ getD (x .genome) (a .count) 0
   span-is = last-genome x (a .count) (holds-means x (a .count) (sound .segments))
@@ -62,22 +58,6 @@ module _ (a : Alignment) (x : Tables) (exons : List ℕ) (sound : Aligns a x) wh
 
   pub on-genome : (p : ℤ) (e : End) → toGenome x (a .count) p e .number < a .count
   on-genome p e = rw (read-length x (a .count)) at (number-below transcript genome (read x (a .count)) p e true (omega (arith, sound .count-from, read-length x (a .count))))
-
-  -- a spot by the segment that holds the place
-  pub at-transcript : (p : ℤ) (forward : Bool) (number : ℕ) → number ≡ indexOf (x .genome) (a .count) p → spotOf (segmentAt (x .genome) (x .transcript) (x .letters) number) p start forward ≡ toTranscript x (a .count) p start forward
-  unfolding mapByTables
-  at-transcript p forward number e = rw e (by-genome x (a .count) (holds-means x (a .count) (sound .segments)) (sound .count-from) p start forward)
-
-  pub at-genome : (p : ℤ) (number : ℕ) → number ≡ indexOf (x .transcript) (a .count) p → spotOf (segmentAt (x .transcript) (x .genome) (x .letters) number) p start true ≡ toGenome x (a .count) p start
-  unfolding mapByTables
-  at-genome p number e = rw e (by-transcript x (a .count) (holds-means x (a .count) (sound .segments)) (sound .count-from) p start true)
-
-  -- whose number the spot has
-  pub in-transcript : (p : ℤ) (forward : Bool) → toTranscript x (a .count) p start forward .number ≡ indexOf (x .genome) (a .count) p
-  in-transcript p forward = numbered (at-transcript p forward _ refl) (spot-number _ p start forward)
-
-  pub in-genome : (p : ℤ) → toGenome x (a .count) p start .number ≡ indexOf (x .transcript) (a .count) p
-  in-genome p = numbered (at-genome p _ refl) (spot-number _ p start true)
 
   -- the exon numbers of two spots, by the table
   abbrev found : Spot → Spot → Interval ℕ
@@ -134,6 +114,11 @@ module _ (a : Alignment) (x : Tables) (exons : List ℕ) (sound : Aligns a x) wh
 
     pub one-refused : inside strict (getD (x .genome) (a .count) 0) (g-from strict g g) ≡ false → gToN strict (alignedBy a x exons) (record { from = g; to = g }) ≡ refused outside
     one-refused e = n-refused strict g g (rw e refl)
+
+    -- by the segment that holds its place
+    pub spot-at : (number : ℕ) → number ≡ indexOf (x .genome) (a .count) (g-from strict g g) → spotOf (segmentAt (x .genome) (x .transcript) (x .letters) number) (g-from strict g g) start (a .forward) ≡ n-from strict g g
+    unfolding mapByTables
+    spot-at number e = rw e (by-genome x (a .count) (holds-means x (a .count) (sound .segments)) (sound .count-from) (g-from strict g g) start (a .forward))
 
   -- n. to g. of two positions in genomic order, likewise
   module _ (strict : Bool) (u v : NAsked) where

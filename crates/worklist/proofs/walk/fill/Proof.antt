@@ -52,7 +52,6 @@ use denote.Triple.Walked.{says, needs, Stays, stay-slice, stay-none, stay-none-r
 use Rattle.refusals.specs.Outcome.{answered}
 use Rattle.segments.specs.Tables.{tables as tables-of}
 use Rattle.transcript.specs.Transcript.{Transcript}
-use Rattle.places.specs.Mapping.{placeOfG}
 use Rattle.places.specs.Aligned.{alignedBy, Aligns, InSegment}
 use Rattle.places.specs.declared.Alignment.{Alignment}
 use Rattle.places.proofs.Alignment as Al
@@ -214,8 +213,8 @@ module _ {M : Type 1} (𝓤 : URA M) (H : Heap 𝓤) (A : Atoms 𝓤) (W : Given
     next-is : nextIndex track (idx i) (here .position) ≡ idx (i + 1)
     next-is = subst (λ (g : ℤ). nextIndex track (idx i) g ≡ idx (i + 1)) at-here (walk-next gs sorted track (sound .count-from) i l′)
 
-    stands : InSegment true (now p) (al .count) (idx (i + 1)) (placeOfG (al .first) (here .position))
-    stands = subst (λ (g : ℤ). InSegment true (now p) (al .count) (idx (i + 1)) (placeOfG (al .first) g)) at-here (record { on = index-on track (sound .count-from) gs (i + 1); here = walk-here gs sorted track (sound .count-from) i l′ })
+    stands : InSegment al (now p) (idx (i + 1)) (here .position)
+    stands = subst (λ (g : ℤ). InSegment al (now p) (idx (i + 1)) g) at-here (record { on = index-on track (sound .count-from) gs (i + 1); here = walk-here gs sorted track (sound .count-from) i l′ })
 
     -- the step
     abbrev passed₁ : Vals step.signature (κ′, tt)
