@@ -1,14 +1,14 @@
 -- What is told of a c. interval whose ends are one position: its n. position, which is both ends too, and what that is by itself. Assumes nothing.
 use Prim.Native.Nat.{ℕ}
 use mathlib.Core.Bool.{Bool}
-use mathlib.Core.Path.{_≡_, refl, ap, _∙_}
+use mathlib.Core.Path.{_≡_, refl}
 use lib.ListN.{getD}
 use Rattle.whole.specs.laws.Whole.{by-test}
 use Rattle.refusals.specs.Outcome.{Outcome, answered, refused}
 use Rattle.segments.specs.Tables.{Tables}
 use Rattle.transcript.specs.Transcript.{Cds, noCds, cds}
 use Rattle.positions.specs.Positions.{Interval, CAsked, NPosition}
-use Rattle.positions.specs.Answers.{Answer, plainly}
+use Rattle.positions.specs.Answers.{plainly}
 use Rattle.coding.specs.Coding.{sameC, nPosition, cToN}
 use Rattle.coding.specs.laws.Once.{one-to-n, offset-stays}
 use Rattle.coding.specs.laws.Same.{same-says}
@@ -19,7 +19,7 @@ use Rattle.telling.specs.Telling.{loneAt, loneC}
 -- there is something to tell
 abbrev pub Some : Lone → Type 0
 Some (sure s) = Unit
-Some (unsure n) = Unit
+Some (unsure s) = Unit
 Some other = ⊥
 
 module _ (strict : Bool) (a : Alignment) (t : Tables) where
@@ -43,11 +43,3 @@ module _ (strict : Bool) (a : Alignment) (t : Tables) where
       by-test (sameC p q)
       (λ s. rw (← same-says p q s) (by-position from to p _ refl z some (rw s at h)))
       (λ s. absurd (rw (rw s at h) at some))
-
-  -- what c. to n. tells of it begins with that position
-  abbrev begins : NPosition → Answer NPosition → NPosition
-  begins p (answered i) = i .interval .from
-  begins p (refused k) = p
-
-  pub its-position : {coding : Cds} {q : Interval CAsked} {z : Lone} (w : Named coding q z) (i : Interval NPosition) → plainly i ≡ cToN strict long coding q → i .from ≡ w .at
-  its-position w i h = ap (begins (w .at)) (h ∙ w .both)

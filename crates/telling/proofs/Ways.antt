@@ -1,5 +1,5 @@
--- What each of the three questions is, where the transcript lies on the genome: of one sure base by its spot, of one that is not by its segment, and of any interval. Assumes nothing.
-use Prim.Native.Nat.{ℕ}
+-- What each of the three questions is, where the transcript lies on the genome: of one sure base by its spot, of one that is not by where it lies, and of any interval. Assumes nothing.
+use Prim.Native.Nat.{ℕ, _<_}
 use native.Mathlib.Omega.{arith}
 use mathlib.Core.Bool.{Bool, true}
 use mathlib.Core.Path.{_≡_, refl, sym, ap, _∙_}
@@ -9,24 +9,27 @@ use Rattle.refusals.specs.Outcome.{Outcome, answered, refused, andThen, through
 use Rattle.refusals.specs.Numbers.{notCoding}
 use Rattle.holding.specs.Holding.{Lent, checked}
 use Rattle.segments.specs.Places.{Spot}
+use Rattle.segments.specs.Paper.{Small}
+use Rattle.segments.specs.declared.Spot as spot
 use Rattle.transcript.specs.Transcript.{Transcript, noCds, cds}
-use Rattle.positions.specs.Positions.{Interval, GAsked, CAsked, NPosition, asksN}
+use Rattle.positions.specs.Positions.{Interval, GAsked, CAsked, GPosition, NPosition, asksN}
 use Rattle.positions.specs.Answers.{certain, Answer, once, ends, after, chain}
 use Rattle.positions.specs.laws.Ends.{ends-after}
 use Rattle.coding.specs.Coding.{cOfInterval, oneToC, nToC}
 use Rattle.coding.specs.laws.Once.{one-to-c}
-use Rattle.places.specs.Mapping.{placeOfG, gToN, nToG}
-use Rattle.places.specs.Aligned.{alignedBy, InSegment}
-use Rattle.places.specs.Lone.{sure, unsure, loneG, nOnce, gOnce}
-use Rattle.places.specs.laws.Lone.{lone-to-n, lone-to-g, unsure-of-g}
+use Rattle.places.specs.Mapping.{gToN, nToG}
+use Rattle.places.specs.Aligned.{alignedBy, Aligns}
+use Rattle.places.specs.Lone.{Lone, sure, unsure, loneG, loneN, nOnce, gOnce, nBeside, gBeside, RoomyLone}
+use Rattle.places.specs.laws.Lone.{lone-to-n, lone-to-g, beside-to-n, beside-to-g}
 use Rattle.places.specs.declared.Alignment.{Alignment}
+use Rattle.places.specs.declared.Lone as code
 use Rattle.mapper.specs.Asking.{given, askGToN, askGToC, askCToG}
 use Rattle.mapper.specs.Knowing.{knownOf, paperCoding}
 use Rattle.mapper.specs.laws.Known.{known-lies, lying-g-to-n, lying-g-to-c, lying-c-to-g, plain-first}
 use Rattle.mapper.specs.declared.knowing.Coding.{Coding}
 use Rattle.mapper.specs.declared.knowing.Known.the-variants as known
 use Rattle.telling.specs.Telling.{loneC}
-use Rattle.telling.proofs.Names.{named}
+use Rattle.telling.proofs.Names.{Some, named}
 
 -- an n. position that is both ends, numbered once in c.
 pub c-once : (strict : Bool) (len from to : ℕ) (exon : ℕ) (n : NPosition)
@@ -40,12 +43,19 @@ pub c-missing : (strict : Bool) (len exon : ℕ) (n : NPosition) → chain asksN
 unfolding nToC cOfInterval
 c-missing strict len exon n = refl
 
+-- a spot that is told, though it is not sure, leaves room
+pub roomy : {count : ℕ} {z : code.Lone} (s : spot.Spot) → z ≡ code.the-variants.Unsure s → RoomyLone count z → Small 37 s × (s .number < count)
+roomy s e h = rw e at h
+
 module _ (x : Lent) (a : Alignment) (c : Coding) (k : knownOf x ≡ known.Aligned a c) (strict : Bool) where
   abbrev lies : Transcript
   lies = alignedBy a (x .tables) (x .exons)
 
   abbrev long : ℕ
   long = getD (x .tables .transcript) (a .count) 0
+
+  sound : Aligns a (x .tables)
+  sound = known-lies x a c k .sound
 
   -- ---- from the genome, by the ends that are given
 
@@ -57,16 +67,16 @@ module _ (x : Lent) (a : Alignment) (c : Coding) (k : knownOf x ≡ known.Aligne
 
   -- by one number that both ends are
   module _ (q : Interval GAsked) (g h : ℤ) (e : answered (record { from = g; to = h }) ≡ given q) (one : g ≡ h) where
-    pub one-place : checked x (askGToN strict q) ≡ gToN strict lies (record { from = g; to = g })
+    one-place : checked x (askGToN strict q) ≡ gToN strict lies (record { from = g; to = g })
     one-place = rw (← one) at (n-by-ends q _ e)
 
-    pub one-place-c : checked x (askGToC strict q) ≡ chain asksN (gToN strict lies (record { from = g; to = g })) (nToC strict long (paperCoding c))
+    one-place-c : checked x (askGToC strict q) ≡ chain asksN (gToN strict lies (record { from = g; to = g })) (nToC strict long (paperCoding c))
     one-place-c = rw (← one) at (c-by-ends q _ e)
 
     -- of a base with the one spot s
     module _ (s : Spot) (l : sure s ≡ loneG strict a (x .tables) g) where
       its-n : gToN strict lies (record { from = g; to = g }) ≡ nOnce a (x .tables .transcript) (x .exons) s
-      its-n = lone-to-n a (x .tables) (x .exons) (known-lies x a c k .sound) strict s g (sym l)
+      its-n = lone-to-n a (x .tables) (x .exons) sound strict s g (sym l)
 
       pub one-base : checked x (askGToN strict q) ≡ nOnce a (x .tables .transcript) (x .exons) s
       one-base = one-place ∙ its-n
@@ -74,17 +84,36 @@ module _ (x : Lent) (a : Alignment) (c : Coding) (k : knownOf x ≡ known.Aligne
       pub one-base-c : checked x (askGToC strict q) ≡ chain asksN (nOnce a (x .tables .transcript) (x .exons) s) (nToC strict long (paperCoding c))
       one-base-c = one-place-c ∙ ap (λ (i : Answer NPosition). chain asksN i (nToC strict long (paperCoding c))) its-n
 
-  -- where a base is not sure, its segment has the number that is told
-  pub unsure-base : (g : ℤ) (number : ℕ) → unsure number ≡ loneG strict a (x .tables) g → InSegment strict (x .tables .genome) (a .count) number (placeOfG (a .first) g)
-  unsure-base g number l = unsure-of-g a (x .tables) (x .exons) (known-lies x a c k .sound) strict number g (sym l)
+    -- and of one with the spot s that is not sure
+    module _ (s : Spot) (l : unsure s ≡ loneG strict a (x .tables) g) where
+      lies-n : gToN strict lies (record { from = g; to = g }) ≡ nBeside a (x .tables .transcript) (x .exons) (s .place) (s .number)
+      lies-n = beside-to-n a (x .tables) (x .exons) sound strict s g (sym l)
 
-  -- ---- from c., by one name with the one spot s
+      pub base-beside : checked x (askGToN strict q) ≡ nBeside a (x .tables .transcript) (x .exons) (s .place) (s .number)
+      base-beside = one-place ∙ lies-n
 
-  pub one-name : (p q : CAsked) (s : Spot) → sure s ≡ loneC strict a (x .tables) (paperCoding c) (record { from = p; to = q }) → checked x (askCToG strict (record { from = p; to = q })) ≡ gOnce a (x .exons) s (p .offset)
-  one-name p q s l =
-      let n = named strict a (x .tables) (paperCoding c) p q (sure s) tt l in
+      pub base-beside-c : checked x (askGToC strict q) ≡ chain asksN (nBeside a (x .tables .transcript) (x .exons) (s .place) (s .number)) (nToC strict long (paperCoding c))
+      base-beside-c = one-place-c ∙ ap (λ (i : Answer NPosition). chain asksN i (nToC strict long (paperCoding c))) lies-n
+
+  -- ---- from c., by one name
+
+  -- what it is, by what n. to g. is of its n. position
+  by-name : (p q : CAsked) (z : Lone) (y : Answer GPosition) → Some z → z ≡ loneC strict a (x .tables) (paperCoding c) (record { from = p; to = q })
+      → ((n : ℤ) → z ≡ loneN strict a (x .tables) n → nToG strict lies (record { from = record { base = n; offset = p .offset }; to = record { base = n; offset = p .offset } }) ≡ y)
+      → checked x (askCToG strict (record { from = p; to = q })) ≡ y
+  by-name p q z y some l f =
+      let n = named strict a (x .tables) (paperCoding c) p q z some l in
+      let own = n .own in
       lying-c-to-g x a c k strict (record { from = p; to = q })
       ∙ (ap (λ (i : Answer NPosition). chain asksN i (nToG strict lies)) (n .both)
       ∙ (plain-first _
-      ∙ (lone-to-g a (x .tables) (x .exons) (known-lies x a c k .sound) strict s (n .at .base) (n .at .offset) (sym (n .told))
-      ∙ ap (gOnce a (x .exons) s) (n .own))))
+      ∙ (ap (λ (o : ℤ). nToG strict lies (record { from = record { base = n .at .base; offset = o }; to = record { base = n .at .base; offset = o } })) own
+      ∙ f (n .at .base) (n .told))))
+
+  -- with the spot s, which is sure, or not
+  module _ (p q : CAsked) (s : Spot) where
+    pub one-name : sure s ≡ loneC strict a (x .tables) (paperCoding c) (record { from = p; to = q }) → checked x (askCToG strict (record { from = p; to = q })) ≡ gOnce a (x .exons) s (p .offset)
+    one-name l = by-name p q (sure s) _ tt l (λ n t. lone-to-g a (x .tables) (x .exons) sound strict s n (p .offset) (sym t))
+
+    pub name-beside : unsure s ≡ loneC strict a (x .tables) (paperCoding c) (record { from = p; to = q }) → checked x (askCToG strict (record { from = p; to = q })) ≡ gBeside a (x .exons) (s .place) (s .number) (p .offset)
+    name-beside l = by-name p q (unsure s) _ tt l (λ n t. beside-to-g a (x .tables) (x .exons) sound strict s n (p .offset) (sym t))

@@ -1,4 +1,4 @@
--- `telling::c_to_g` meets its contract: what is lent is known once. A sure base is answered by its spot, one that is not by its segment, any other interval as c. to n. and then n. to g. say, and a length alone is 18 after the first step. Assumes nothing.
+-- `telling::c_to_g` meets its contract: what is lent is known once. A sure base is answered by its spot, one that is not by where it lies, any other interval as c. to n. and then n. to g. say, and a length alone is 18 after the first step. Assumes nothing.
 use mathlib.Core.Path.{_≡_, sym, ap, _∙_}
 use Rattle.whole.specs.laws.Whole.{read}
 use Rattle.holding.specs.Holding.{lent}
@@ -12,7 +12,7 @@ use Rattle.mapper.specs.Knowing.{knownOf, paperCoding}
 use Rattle.mapper.specs.declared.knowing.Known.the-variants as known
 use Rattle.mapper.specs.laws.Known.{known-lies, natural-bounds, lying-c-to-g, ask-length, ask-broken}
 use Rattle.telling.specs.Telling.{loneC}
-use Rattle.telling.proofs.Ways.{one-name}
+use Rattle.telling.proofs.Ways.{one-name, name-beside, roomy}
 use borrow.Author.Needs.{needs}
 use Rattle.telling.proofs.c_to_g.Statement.{statement}
 use Rattle.telling.proofs.c_to_g.Tie as tie
@@ -59,40 +59,29 @@ returns c =
     simp (read (q .before .fits .«start-offset»)) at (c .sure-g .ensures)
     ∙ ap (laid gLaid) (sym (one-name _ _ _ (known-is p) _ _ _ _ (sym (ap paperLone (m .lone .given .1)) ∙ lone-is l)))
 
--- from the name that is taken again of a base that is not sure back to where it was looked for
-abbrev looked : tie.After-c-asked2 → tie.After-lone-c
-looked c = c .before .before .before .before .before
+-- from the spot of a base that is not sure back to where it was looked for
+abbrev looked : tie.After-known-told3 → tie.After-lone-c
+looked c = c .before .before .before .before
 
 alignment-requires : tie.Need-alignment-requires
 alignment-requires c κs = known-lies _ _ _ (known-is (lying-from (looked c))) .head
 
-coding-of-requires : tie.Need-coding-of-requires
-coding-of-requires c κs = natural-bounds _ (known-lies _ _ _ (known-is (lying-from (looked (c .before)))) .held)
-
--- it is the name that was looked for
-again-asked : (c : tie.After-c-asked2) → paperCQuestion (c .c-asked2 .result) ≡ question (lying-from (looked c) .before .before .before)
-again-asked c =
-    let f = lying-from (looked c) .before .before .before .before .fits in
-    simp (read (f .start), read (f .«start-offset»), read (f .end), read (f .«end-offset»)) at (c .c-asked2 .ensures)
-
-unsure-g-requires : tie.Need-unsure-g-requires
-unsure-g-requires c κs =
+beside-g-requires : tie.Need-beside-g-requires
+beside-g-requires c κs =
     let m = c .before in
-    let q = m .before in
-    let l = looked q in
-    let lies = known-lies _ _ _ (known-is (lying-from l)) in
-    rw (m .alignment .ensures ∙ lies .at, c .coding-of .ensures ∙ lies .cds, again-asked q) (lies .sound, sym (ap paperLone (q .before .before .lone2 .given .1)) ∙ lone-is l)
+    let lies = known-lies _ _ _ (known-is (lying-from (looked m))) in
+    let (small, on) = roomy _ (m .before .lone2 .given .1) (looked m .lone-c .ensures .1) in
+    rw (c .alignment .ensures ∙ lies .at) (small .place-small, on, lies .sound .count-to)
 
 returns-2 : tie.Need-returns-2
 returns-2 c =
-    let u = c .before in
-    let d = u .before in
-    let m = d .before in
-    let q = m .before in
-    let k = known-is (lying-from (looked q)) in
-    let lies = known-lies _ _ _ k in
+    let t = c .before in
+    let m = t .before in
+    let l = looked (m .before) in
+    let p = lying-from l in
+    let at = m .alignment .ensures ∙ known-lies _ _ _ (known-is p) .at in
     c .lay-g .ensures
-    ∙ ap (laid gLaid) (simp (m .alignment .ensures ∙ lies .at, d .coding-of .ensures ∙ lies .cds, again-asked q) at (u .unsure-g .ensures) ∙ sym (lying-c-to-g _ _ _ k _ _))
+    ∙ ap (laid gLaid) (simp (at, read (p .before .before .before .before .fits .«start-offset»)) at (t .beside-g .ensures) ∙ sym (name-beside _ _ _ (known-is p) _ _ _ _ (sym (ap paperLone (m .before .before .lone2 .given .1)) ∙ lone-is l)))
 
 alignment-requires-2 : tie.Need-alignment-requires-2
 alignment-requires-2 c κs = known-lies _ _ _ (known-is (lying-from (c .before .before))) .head
@@ -103,8 +92,8 @@ again-is c = c .alignment2 .ensures ∙ known-lies _ _ _ (known-is (lying-from (
 last-requires : tie.Need-last-requires
 last-requires c κs = rw (again-is c) (known-lies _ _ _ (known-is (lying-from (c .before .before .before))) .sound .count-to)
 
-coding-of-requires-2 : tie.Need-coding-of-requires-2
-coding-of-requires-2 c κs = natural-bounds _ (known-lies _ _ _ (known-is (lying-from (c .before .before .before .before .before))) .held)
+coding-of-requires : tie.Need-coding-of-requires
+coding-of-requires c κs = natural-bounds _ (known-lies _ _ _ (known-is (lying-from (c .before .before .before .before .before))) .held)
 
 then-n-to-g-requires : tie.Need-then-n-to-g-requires
 then-n-to-g-requires c κs =
@@ -120,9 +109,9 @@ returns-3 c =
     let l = q .before in
     let p = lying-from (l .before .before .before .before) in
     let s = p .before .before .before .before in
-    let asked = simp (read (s .fits .start), read (s .fits .«start-offset»), read (s .fits .end), read (s .fits .«end-offset»)) at (q .c-asked3 .ensures) in
+    let asked = simp (read (s .fits .start), read (s .fits .«start-offset»), read (s .fits .end), read (s .fits .«end-offset»)) at (q .c-asked2 .ensures) in
     let long = simp (again-is (l .before)) at (l .last .ensures) in
-    let coding = d .coding-of2 .ensures ∙ known-lies _ _ _ (known-is p) .cds in
+    let coding = d .coding-of .ensures ∙ known-lies _ _ _ (known-is p) .cds in
     let first = simp (long, coding, asked) at (n .c-to-n .ensures) in
     c .lay-g2 .ensures ∙ ap (laid gLaid) (simp (first, again-is (l .before)) at (t .then-n-to-g .ensures) ∙ sym (lying-c-to-g _ _ _ (known-is p) _ _))
 
@@ -134,7 +123,7 @@ returns-4 c =
     let q = n .before in
     let p = q .before .before in
     let s = p .before .before .before .before in
-    let asked = simp (read (s .fits .start), read (s .fits .«start-offset»), read (s .fits .end), read (s .fits .«end-offset»)) at (q .c-asked4 .ensures) in
+    let asked = simp (read (s .fits .start), read (s .fits .«start-offset»), read (s .fits .end), read (s .fits .«end-offset»)) at (q .c-asked3 .ensures) in
     let first = simp asked at (n .c-to-n2 .ensures) in
     c .lay-g3 .ensures
     ∙ ap (laid gLaid) (rw first at (t .then-no-genome .ensures) ∙ sym (ask-length _ _ (sym (p .before .before .known-of .ensures) ∙ p .length .given .1)))
@@ -156,16 +145,14 @@ c-to-g-spec =
     sure-g-requires
     returns
     (λ c. search needs)
-    (λ c κs. search needs)
     alignment-requires
-    coding-of-requires
-    unsure-g-requires
+    beside-g-requires
     (λ c κs. search needs)
     returns-2
     alignment-requires-2
     last-requires
     (λ c κs. search needs)
-    coding-of-requires-2
+    coding-of-requires
     (λ c κs. search needs)
     then-n-to-g-requires
     (λ c κs. search needs)

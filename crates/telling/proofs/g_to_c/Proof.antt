@@ -1,4 +1,4 @@
--- `telling::g_to_c` meets its contract: what is lent is known once. A sure base is answered by its spot, one that is not by its segment, any other interval as g. to n. and then n. to c. say, and a missing end is 19. Assumes nothing.
+-- `telling::g_to_c` meets its contract: what is lent is known once. A sure base is answered by its spot, one that is not by where it lies, any other interval as g. to n. and then n. to c. say, and a missing end is 19. Assumes nothing.
 use mathlib.Core.Path.{_≡_, sym, ap, _∙_}
 use lib.IntN.{ℤ}
 use mir.Syntax.{w32}
@@ -11,8 +11,10 @@ use Rattle.mapper.specs.Asking.{given, askGToC, askGToN}
 use Rattle.mapper.specs.Knowing.{knownOf, paperGiven}
 use Rattle.mapper.specs.declared.knowing.Known.the-variants as known
 use Rattle.mapper.specs.laws.Known.{known-lies, natural-bounds, ask-length, ask-broken}
-use Rattle.places.specs.Lone.{paperLone}
-use Rattle.telling.proofs.Ways.{c-by-ends, one-place-c, one-base-c, unsure-base}
+use Rattle.segments.specs.Tables.{tables}
+use Rattle.segments.specs.Paper.{spotSaid}
+use Rattle.places.specs.Lone.{unsure, loneG, paperLone}
+use Rattle.telling.proofs.Ways.{c-by-ends, one-base-c, base-beside-c, roomy}
 use borrow.Author.Needs.{needs}
 use Rattle.telling.proofs.g_to_c.Statement.{statement}
 use Rattle.telling.proofs.g_to_c.Tie as tie
@@ -85,24 +87,29 @@ alignment-requires c κs = known-lies _ _ _ (known-is (at-from (ends-from c))) .
 coding-of-requires : tie.Need-coding-of-requires
 coding-of-requires c κs = natural-bounds _ (known-lies _ _ _ (known-is (at-from (ends-from (c .before)))) .held)
 
-unsure-c-requires : tie.Need-unsure-c-requires
-unsure-c-requires c κs =
+-- what it is answered by
+lone-is : (c : tie.After-known-told4) → let e = ends-from c in let a = at-from e .before .before .before .args in
+    unsure (spotSaid (c .before .lone2 .given .0 .0)) ≡ loneG (a .strict) (at-from e .at .given .0 .0) (tables (a .genome .now) (a .transcript .now) (a .letters .now)) (e .before .from .given .0 .0)
+lone-is c = sym (ap paperLone (c .before .lone2 .given .1)) ∙ simp (from-is (ends-from c)) at (looked c .lone-g .ensures .0)
+
+beside-c-requires : tie.Need-beside-c-requires
+beside-c-requires c κs =
     let m = c .before in
-    let e = ends-from (m .before) in
-    let lies = known-lies _ _ _ (known-is (at-from e)) in
-    let told = sym (ap paperLone (m .before .before .lone2 .given .1)) ∙ simp (from-is e) at (looked (m .before) .lone-g .ensures .0) in
-    rw (m .alignment .ensures ∙ lies .at) (lies .sound, rw (from-is e) (unsure-base _ _ _ (known-is (at-from e)) _ _ _ told))
+    let lies = known-lies _ _ _ (known-is (at-from (ends-from (m .before)))) in
+    let (small, on) = roomy _ (m .before .before .lone2 .given .1) (looked (m .before) .lone-g .ensures .1) in
+    rw (m .alignment .ensures ∙ lies .at) (small .place-small, on, lies .sound .count-to)
 
 returns-2 : tie.Need-returns-2
 returns-2 c =
-    let u = c .before in
-    let d = u .before in
+    let t = c .before in
+    let d = t .before in
     let m = d .before in
-    let e = ends-from (m .before) in
-    let k = known-is (at-from e) in
-    let lies = known-lies _ _ _ k in
+    let k = m .before in
+    let e = ends-from k in
+    let is = known-is (at-from e) in
+    let lies = known-lies _ _ _ is in
     c .lay-c .ensures
-    ∙ ap (laid cLaid) (simp (m .alignment .ensures ∙ lies .at, d .coding-of .ensures ∙ lies .cds, from-is e) at (u .unsure-c .ensures) ∙ sym (one-place-c _ _ _ k _ _ _ _ (both-are e) (one-is (looked (m .before) .before))))
+    ∙ ap (laid cLaid) (simp (m .alignment .ensures ∙ lies .at, d .coding-of .ensures ∙ lies .cds) at (t .beside-c .ensures) ∙ sym (base-beside-c _ _ _ is _ _ _ _ (both-are e) (one-is (looked k .before)) _ (lone-is k)))
 
 alignment-requires-2 : tie.Need-alignment-requires-2
 alignment-requires-2 c κs = known-lies _ _ _ (known-is (at-from (c .before .before))) .head
@@ -162,7 +169,7 @@ g-to-c-spec =
     (λ c. search needs)
     alignment-requires
     coding-of-requires
-    unsure-c-requires
+    beside-c-requires
     (λ c κs. search needs)
     returns-2
     alignment-requires-2

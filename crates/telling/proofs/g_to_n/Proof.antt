@@ -1,4 +1,4 @@
--- `telling::g_to_n` meets its contract: what is lent is known once. A sure base is answered by its spot, one that is not by its segment, any other interval as g. to n. says, and a missing end is 19. Assumes nothing.
+-- `telling::g_to_n` meets its contract: what is lent is known once. A sure base is answered by its spot, one that is not by where it lies, any other interval as g. to n. says, and a missing end is 19. Assumes nothing.
 use mathlib.Core.Path.{_≡_, sym, ap, _∙_}
 use lib.IntN.{ℤ}
 use mir.Syntax.{w32}
@@ -11,8 +11,10 @@ use Rattle.mapper.specs.Asking.{given, askGToN}
 use Rattle.mapper.specs.Knowing.{knownOf, paperGiven}
 use Rattle.mapper.specs.declared.knowing.Known.the-variants as known
 use Rattle.mapper.specs.laws.Known.{known-lies, ask-length, ask-broken}
-use Rattle.places.specs.Lone.{paperLone}
-use Rattle.telling.proofs.Ways.{n-by-ends, one-place, one-base, unsure-base}
+use Rattle.segments.specs.Tables.{tables}
+use Rattle.segments.specs.Paper.{spotSaid}
+use Rattle.places.specs.Lone.{unsure, loneG, paperLone}
+use Rattle.telling.proofs.Ways.{n-by-ends, one-base, base-beside, roomy}
 use borrow.Author.Needs.{needs}
 use Rattle.telling.proofs.g_to_n.Statement.{statement}
 use Rattle.telling.proofs.g_to_n.Tie as tie
@@ -82,22 +84,27 @@ ends-from c = looked c .before .before .before
 alignment-requires : tie.Need-alignment-requires
 alignment-requires c κs = known-lies _ _ _ (known-is (at-from (ends-from c))) .head
 
-one-to-n-at-requires : tie.Need-one-to-n-at-requires
-one-to-n-at-requires c κs =
-    let e = ends-from (c .before) in
-    let lies = known-lies _ _ _ (known-is (at-from e)) in
-    let told = sym (ap paperLone (c .before .before .lone2 .given .1)) ∙ simp (from-is e) at (looked (c .before) .lone-g .ensures .0) in
-    rw (c .alignment .ensures ∙ lies .at) (lies .sound, rw (from-is e) (unsure-base _ _ _ (known-is (at-from e)) _ _ _ told))
+-- what it is answered by
+lone-is : (c : tie.After-known-told4) → let e = ends-from c in let a = at-from e .before .before .before .args in
+    unsure (spotSaid (c .before .lone2 .given .0 .0)) ≡ loneG (a .strict) (at-from e .at .given .0 .0) (tables (a .genome .now) (a .transcript .now) (a .letters .now)) (e .before .from .given .0 .0)
+lone-is c = sym (ap paperLone (c .before .lone2 .given .1)) ∙ simp (from-is (ends-from c)) at (looked c .lone-g .ensures .0)
+
+beside-n-requires : tie.Need-beside-n-requires
+beside-n-requires c κs =
+    let m = c .before in
+    let lies = known-lies _ _ _ (known-is (at-from (ends-from m))) in
+    let (small, on) = roomy _ (m .before .lone2 .given .1) (looked m .lone-g .ensures .1) in
+    rw (c .alignment .ensures ∙ lies .at) (small .place-small, on, lies .sound .count-to)
 
 returns-2 : tie.Need-returns-2
 returns-2 c =
     let t = c .before in
     let m = t .before in
-    let e = ends-from (m .before) in
-    let k = known-is (at-from e) in
-    let at = m .alignment .ensures ∙ known-lies _ _ _ k .at in
+    let k = m .before in
+    let e = ends-from k in
+    let is = known-is (at-from e) in
     c .lay-n .ensures
-    ∙ ap (laid nLaid) (simp (at, from-is e) at (t .one-to-n-at .ensures) ∙ sym (one-place _ _ _ k _ _ _ _ (both-are e) (one-is (looked (m .before) .before))))
+    ∙ ap (laid nLaid) (simp (m .alignment .ensures ∙ known-lies _ _ _ is .at) at (t .beside-n .ensures) ∙ sym (base-beside _ _ _ is _ _ _ _ (both-are e) (one-is (looked k .before)) _ (lone-is k)))
 
 alignment-requires-2 : tie.Need-alignment-requires-2
 alignment-requires-2 c κs = known-lies _ _ _ (known-is (at-from (c .before .before))) .head
@@ -150,7 +157,7 @@ g-to-n-spec =
     returns
     (λ c. search needs)
     alignment-requires
-    one-to-n-at-requires
+    beside-n-requires
     (λ c κs. search needs)
     returns-2
     alignment-requires-2
