@@ -1,5 +1,5 @@
 -- What the proofs of several functions use.
 --     Sizes    how large places, their turns and g. numbers can be
---     Alone    when a base has one spot
+--     Alone    what is told of a base by itself
 pub mod Sizes
 pub mod Alone

@@ -8,12 +8,12 @@ ghost use Rattle.whole.specs.Whole.{Within};
 ghost use Rattle.numbering.specs.Numbers.{placeOfN};
 ghost use Rattle.segments.specs.Tables.{tables};
 ghost use Rattle.segments.specs.Paper.{Small, endSaid, spotSaid, toTranscript, toGenome};
-ghost use Rattle.segments.specs.Places.{stopOf};
+ghost use Rattle.segments.specs.Places.{unsurely, stopOf};
 ghost use Rattle.segments.specs.Exons.{lastNumber, exonFound, exonChosen};
 ghost use Rattle.positions.specs.Answers.{gFits, fitting};
 ghost use Rattle.positions.specs.Paper.{paperNAsked, paperNQuestion, paperGEnd, paperNEnd, paperExons, paperG, paperN};
 ghost use Rattle.places.specs.Mapping.{inside, turned, signed, foundExons, chosenExons, placeOfG, gToN, gOfEnds, nToG, inBounds};
-ghost use Rattle.places.specs.Lone.{loneG, loneN, paperLone, RoomyLone};
+ghost use Rattle.places.specs.Lone.{loneG, loneN, nBeside, gBeside, paperLone, RoomyLone};
 ghost use Rattle.places.specs.Aligned.{alignedBy, numberBy, Aligns, InSegment, nEndAt, nJoined, gEndAt, gJoined};
 use numbering::Place;
 use positions::Exons;
@@ -26,6 +26,7 @@ use positions::fitting::GEnd;
 use positions::fitting::NEnd;
 use refusals::MOST_SEGMENTS;
 use refusals::MOST_STARTS;
+use segments::Edge;
 use segments::End;
 use segments::Spot;
 use segments::exons;
@@ -239,9 +240,10 @@ fn n_of_one(forward: bool, len: u32, number: u16, start: Spot) -> NAnswer
     n_answer(forward, len, both, start, segments::stop_of(start))
 }
 
-// A base by itself: its one spot, where it lies inside and is sure. What it is answered with follows from that, so that a host's question about one base needs no more; any other goes the long way.
+// A base by itself that lies inside, by its spot, which is sure or not. What it is answered with follows from that, so that a host's question about one base needs no more; any other goes the long way.
 pub enum Lone {
     Sure(Spot),
+    Unsure(Spot),
     Other,
 }
 
@@ -265,6 +267,7 @@ pub fn lone_g(
         if spot.sure {
             return Lone::Sure(spot);
         }
+        return Lone::Unsure(spot);
     }
     Lone::Other
 }
@@ -290,6 +293,7 @@ pub fn lone_n(
         if spot.sure {
             return Lone::Sure(spot);
         }
+        return Lone::Unsure(spot);
     }
     Lone::Other
 }
@@ -308,6 +312,38 @@ pub fn chosen_exon(at: Alignment, exons: &[u16; MOST_SEGMENTS], spot: Spot) -> u
     ensures { λ r. ⌜ r ≡ exonChosen (at .forward) (numberBy at (now (exons .entry))) (spotSaid spot) ⌝ }
 {
     exons::chosen(at.forward, exons, at.count, behind(at), spot)
+}
+
+// The spot of a base beside an I or a D, by its place in the segment with this number.
+fn spot_beside(place: Place, number: usize) -> Spot
+    requires { ⌜ Within 37 (place .0) ⌝ }
+    ensures said { λ r. ⌜ spotSaid r ≡ unsurely number (place .0) ⌝ }
+    ensures small { λ r. ⌜ Small 37 r × (r .number ≡ number) ⌝ }
+{
+    Spot {
+        place,
+        offset: 0,
+        sure: false,
+        number,
+        edge: Edge::None,
+    }
+}
+
+// The n. interval of a base beside an I or a D, by its place in the segment with this number.
+pub fn beside_n(
+    at: Alignment,
+    transcript: &[u32; MOST_STARTS],
+    exons: &[u16; MOST_SEGMENTS],
+    place: Place,
+    number: usize,
+) -> NAnswer
+    requires { ⌜ Within 37 (place .0) × (number < at .count) × (at .count ≤ mostSegments) ⌝ }
+    ensures { λ r. ⌜ paperN r ≡ nBeside at (now (transcript .entry)) (now (exons .entry)) (place .0) number ⌝ }
+{
+    let count = at.count;
+    let start = spot_beside(place, number);
+    let exon = found_exon(at, exons, start);
+    n_of_one(at.forward, last(transcript, count), exon, start)
 }
 
 // g. to n. of an interval of one base.
@@ -411,6 +447,43 @@ fn g_answer(forward: bool, first: u32, exons: Exons, a: Spot, b: Spot, o: i32, u
     )
 }
 
+// The g. interval of two positions with one number, by its spot as an interval's start, and their offsets o and u.
+fn g_of_start(at: Alignment, exons: &[u16; MOST_SEGMENTS], start: Spot, o: i32, u: i32) -> GAnswer
+    requires { ⌜ Small 37 start × (start .number < at .count) × (at .count ≤ mostSegments) ⌝ }
+    ensures { λ r. ⌜ paperG r ≡ gJoined (at .forward) (at .first) (record { from = exonChosen (at .forward) (numberBy at (now (exons .entry))) (spotSaid start); to = exonChosen (at .forward) (numberBy at (now (exons .entry))) (spotSaid start) }) (spotSaid start) (stopOf (spotSaid start)) o u ⌝ }
+{
+    let forward = at.forward;
+    let number = chosen_exon(at, exons, start);
+    let both = Exons {
+        from: number,
+        to: number,
+    };
+    g_answer(
+        forward,
+        at.first,
+        both,
+        start,
+        segments::stop_of(start),
+        o,
+        u,
+    )
+}
+
+// The g. interval of a position beside an I or a D, by its place in the segment with this number, and its own offset.
+pub fn beside_g(
+    at: Alignment,
+    exons: &[u16; MOST_SEGMENTS],
+    place: Place,
+    number: usize,
+    offset: i32,
+) -> GAnswer
+    requires { ⌜ Within 37 (place .0) × (number < at .count) × (at .count ≤ mostSegments) ⌝ }
+    ensures { λ r. ⌜ paperG r ≡ gBeside at (now (exons .entry)) (place .0) number offset ⌝ }
+{
+    let start = spot_beside(place, number);
+    g_of_start(at, exons, start, offset, offset)
+}
+
 // n. to g. of two positions with one number, whose offsets are o and u: its place is looked for once.
 fn g_of_one(
     at: Alignment,
@@ -432,20 +505,7 @@ fn g_of_one(
     let p = place_of_n(forward, len, base);
     if is_inside(strict, len, p) {
         let start = spot_of_n(at, genome, transcript, letters, p, End::Start);
-        let number = exons::chosen(forward, exons, count, behind(at), start);
-        let both = Exons {
-            from: number,
-            to: number,
-        };
-        return g_answer(
-            forward,
-            at.first,
-            both,
-            start,
-            segments::stop_of(start),
-            o,
-            u,
-        );
+        return g_of_start(at, exons, start, o, u);
     }
     GAnswer::Refused(refusals::OUTSIDE)
 }

@@ -1,5 +1,5 @@
--- What each of the three questions is, where the transcript lies on the genome: of one sure base by its spot, and of any interval. Assumes nothing.
-use Prim.Native.Nat.{ℕ}
+-- What each of the three questions is, where the transcript lies on the genome: of one sure base by its spot, of one that is not by where it lies, and of any interval. Assumes nothing.
+use Prim.Native.Nat.{ℕ, _<_}
 use native.Mathlib.Omega.{arith}
 use mathlib.Core.Bool.{Bool, true}
 use mathlib.Core.Path.{_≡_, refl, sym, ap, _∙_}
@@ -9,24 +9,27 @@ use Rattle.refusals.specs.Outcome.{Outcome, answered, refused, andThen, through
 use Rattle.refusals.specs.Numbers.{notCoding}
 use Rattle.holding.specs.Holding.{Lent, checked}
 use Rattle.segments.specs.Places.{Spot}
+use Rattle.segments.specs.Paper.{Small}
+use Rattle.segments.specs.declared.Spot as spot
 use Rattle.transcript.specs.Transcript.{Transcript, noCds, cds}
-use Rattle.positions.specs.Positions.{Interval, GAsked, CAsked, NPosition, asksN}
-use Rattle.positions.specs.Answers.{certain, unmarked, Answer, once, ends, after, chain}
+use Rattle.positions.specs.Positions.{Interval, GAsked, CAsked, GPosition, NPosition, asksN}
+use Rattle.positions.specs.Answers.{certain, Answer, once, ends, after, chain}
 use Rattle.positions.specs.laws.Ends.{ends-after}
-use Rattle.coding.specs.Coding.{cOfInterval, nPosition, oneToC, nToC, cToN}
-use Rattle.coding.specs.laws.Once.{one-to-c, one-to-n, offset-stays}
+use Rattle.coding.specs.Coding.{cOfInterval, oneToC, nToC}
+use Rattle.coding.specs.laws.Once.{one-to-c}
 use Rattle.places.specs.Mapping.{gToN, nToG}
-use Rattle.places.specs.Aligned.{alignedBy}
-use Rattle.places.specs.Lone.{sure, loneG, nOnce, gOnce}
-use Rattle.places.specs.laws.Lone.{lone-to-n, lone-to-g}
+use Rattle.places.specs.Aligned.{alignedBy, Aligns}
+use Rattle.places.specs.Lone.{Lone, sure, unsure, loneG, loneN, nOnce, gOnce, nBeside, gBeside, RoomyLone}
+use Rattle.places.specs.laws.Lone.{lone-to-n, lone-to-g, beside-to-n, beside-to-g}
 use Rattle.places.specs.declared.Alignment.{Alignment}
+use Rattle.places.specs.declared.Lone as code
 use Rattle.mapper.specs.Asking.{given, askGToN, askGToC, askCToG}
 use Rattle.mapper.specs.Knowing.{knownOf, paperCoding}
 use Rattle.mapper.specs.laws.Known.{known-lies, lying-g-to-n, lying-g-to-c, lying-c-to-g, plain-first}
 use Rattle.mapper.specs.declared.knowing.Coding.{Coding}
-use Rattle.mapper.specs.declared.knowing.Coding.the-variants as coding
 use Rattle.mapper.specs.declared.knowing.Known.the-variants as known
-use Rattle.telling.specs.Telling.{loneAt, loneC}
+use Rattle.telling.specs.Telling.{loneC}
+use Rattle.telling.proofs.Names.{Some, named}
 
 -- an n. position that is both ends, numbered once in c.
 pub c-once : (strict : Bool) (len from to : ℕ) (exon : ℕ) (n : NPosition)
@@ -40,12 +43,19 @@ pub c-missing : (strict : Bool) (len exon : ℕ) (n : NPosition) → chain asksN
 unfolding nToC cOfInterval
 c-missing strict len exon n = refl
 
+-- a spot that is told, though it is not sure, leaves room
+pub roomy : {count : ℕ} {z : code.Lone} (s : spot.Spot) → z ≡ code.the-variants.Unsure s → RoomyLone count z → Small 37 s × (s .number < count)
+roomy s e h = rw e at h
+
 module _ (x : Lent) (a : Alignment) (c : Coding) (k : knownOf x ≡ known.Aligned a c) (strict : Bool) where
   abbrev lies : Transcript
   lies = alignedBy a (x .tables) (x .exons)
 
   abbrev long : ℕ
   long = getD (x .tables .transcript) (a .count) 0
+
+  sound : Aligns a (x .tables)
+  sound = known-lies x a c k .sound
 
   -- ---- from the genome, by the ends that are given
 
@@ -55,28 +65,55 @@ module _ (x : Lent) (a : Alignment) (c : Coding) (k : knownOf x ≡ known.Aligne
   pub c-by-ends : (q : Interval GAsked) (o : Outcome (Interval ℤ)) → o ≡ given q → checked x (askGToC strict q) ≡ chain asksN (andThen o (gToN strict lies)) (nToC strict long (paperCoding c))
   c-by-ends q o e = rw e (lying-g-to-c x a c k strict q)
 
-  pub one-base : (g h : ℤ) (s : Spot) → g ≡ h → sure s ≡ loneG strict a (x .tables) g → gToN strict lies (record { from = g; to = h }) ≡ nOnce a (x .tables .transcript) (x .exons) s
-  one-base g h s e l = rw (← e) (lone-to-n a (x .tables) (x .exons) (known-lies x a c k .sound) strict s g (sym l))
+  -- by one number that both ends are
+  module _ (q : Interval GAsked) (g h : ℤ) (e : answered (record { from = g; to = h }) ≡ given q) (one : g ≡ h) where
+    one-place : checked x (askGToN strict q) ≡ gToN strict lies (record { from = g; to = g })
+    one-place = rw (← one) at (n-by-ends q _ e)
 
-  pub one-base-c : (q : Interval GAsked) (g h : ℤ) (s : Spot) → answered (record { from = g; to = h }) ≡ given q → g ≡ h → sure s ≡ loneG strict a (x .tables) g
-      → checked x (askGToC strict q) ≡ chain asksN (nOnce a (x .tables .transcript) (x .exons) s) (nToC strict long (paperCoding c))
-  one-base-c q g h s e one l = c-by-ends q _ e ∙ ap (λ (i : Answer NPosition). chain asksN i (nToC strict long (paperCoding c))) (one-base g h s one l)
+    one-place-c : checked x (askGToC strict q) ≡ chain asksN (gToN strict lies (record { from = g; to = g })) (nToC strict long (paperCoding c))
+    one-place-c = rw (← one) at (c-by-ends q _ e)
 
-  -- ---- from c.
+    -- of a base with the one spot s
+    module _ (s : Spot) (l : sure s ≡ loneG strict a (x .tables) g) where
+      its-n : gToN strict lies (record { from = g; to = g }) ≡ nOnce a (x .tables .transcript) (x .exons) s
+      its-n = lone-to-n a (x .tables) (x .exons) sound strict s g (sym l)
 
-  -- an n. position with the one spot s
-  by-spot : (s : Spot) (n : Outcome NPosition) (o : ℤ) → ((p : NPosition) → n ≡ answered p → p .offset ≡ o) → sure s ≡ loneAt strict a (x .tables) n
-      → chain asksN (ends unmarked n n) (nToG strict lies) ≡ gOnce a (x .exons) s o
-  by-spot s (answered p) o offset l =
-      plain-first _
-      ∙ (lone-to-g a (x .tables) (x .exons) (known-lies x a c k .sound) strict s (p .base) (p .offset) (sym l)
-      ∙ ap (gOnce a (x .exons) s) (offset p refl))
-  by-spot s (refused e) o offset l = let z : _≡_ {A = ℕ} 0 1 = cc in absurd (omega arith)
+      pub one-base : checked x (askGToN strict q) ≡ nOnce a (x .tables .transcript) (x .exons) s
+      one-base = one-place ∙ its-n
 
-  pub one-name : (p q : CAsked) (from to : ℕ) (s : Spot) → c ≡ coding.Cds from to → p ≡ q → sure s ≡ loneC strict a (x .tables) from to p
-      → checked x (askCToG strict (record { from = p; to = q })) ≡ gOnce a (x .exons) s (p .offset)
-  one-name p q from to s d e l =
-      rw (← e)
-      (lying-c-to-g x a c k strict (record { from = p; to = p })
-      ∙ (ap (λ (i : Answer NPosition). chain asksN i (nToG strict lies)) (ap (λ (i : Coding). cToN strict long (paperCoding i) (record { from = p; to = p })) d ∙ one-to-n strict long from to p)
-      ∙ by-spot s (nPosition strict long from to p) (p .offset) (offset-stays strict long from to p) l))
+      pub one-base-c : checked x (askGToC strict q) ≡ chain asksN (nOnce a (x .tables .transcript) (x .exons) s) (nToC strict long (paperCoding c))
+      one-base-c = one-place-c ∙ ap (λ (i : Answer NPosition). chain asksN i (nToC strict long (paperCoding c))) its-n
+
+    -- and of one with the spot s that is not sure
+    module _ (s : Spot) (l : unsure s ≡ loneG strict a (x .tables) g) where
+      lies-n : gToN strict lies (record { from = g; to = g }) ≡ nBeside a (x .tables .transcript) (x .exons) (s .place) (s .number)
+      lies-n = beside-to-n a (x .tables) (x .exons) sound strict s g (sym l)
+
+      pub base-beside : checked x (askGToN strict q) ≡ nBeside a (x .tables .transcript) (x .exons) (s .place) (s .number)
+      base-beside = one-place ∙ lies-n
+
+      pub base-beside-c : checked x (askGToC strict q) ≡ chain asksN (nBeside a (x .tables .transcript) (x .exons) (s .place) (s .number)) (nToC strict long (paperCoding c))
+      base-beside-c = one-place-c ∙ ap (λ (i : Answer NPosition). chain asksN i (nToC strict long (paperCoding c))) lies-n
+
+  -- ---- from c., by one name
+
+  -- what it is, by what n. to g. is of its n. position
+  by-name : (p q : CAsked) (z : Lone) (y : Answer GPosition) → Some z → z ≡ loneC strict a (x .tables) (paperCoding c) (record { from = p; to = q })
+      → ((n : ℤ) → z ≡ loneN strict a (x .tables) n → nToG strict lies (record { from = record { base = n; offset = p .offset }; to = record { base = n; offset = p .offset } }) ≡ y)
+      → checked x (askCToG strict (record { from = p; to = q })) ≡ y
+  by-name p q z y some l f =
+      let n = named strict a (x .tables) (paperCoding c) p q z some l in
+      let own = n .own in
+      lying-c-to-g x a c k strict (record { from = p; to = q })
+      ∙ (ap (λ (i : Answer NPosition). chain asksN i (nToG strict lies)) (n .both)
+      ∙ (plain-first _
+      ∙ (ap (λ (o : ℤ). nToG strict lies (record { from = record { base = n .at .base; offset = o }; to = record { base = n .at .base; offset = o } })) own
+      ∙ f (n .at .base) (n .told))))
+
+  -- with the spot s, which is sure, or not
+  module _ (p q : CAsked) (s : Spot) where
+    pub one-name : sure s ≡ loneC strict a (x .tables) (paperCoding c) (record { from = p; to = q }) → checked x (askCToG strict (record { from = p; to = q })) ≡ gOnce a (x .exons) s (p .offset)
+    one-name l = by-name p q (sure s) _ tt l (λ n t. lone-to-g a (x .tables) (x .exons) sound strict s n (p .offset) (sym t))
+
+    pub name-beside : unsure s ≡ loneC strict a (x .tables) (paperCoding c) (record { from = p; to = q }) → checked x (askCToG strict (record { from = p; to = q })) ≡ gBeside a (x .exons) (s .place) (s .number) (p .offset)
+    name-beside l = by-name p q (unsure s) _ tt l (λ n t. beside-to-g a (x .tables) (x .exons) sound strict s n (p .offset) (sym t))

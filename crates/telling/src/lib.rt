@@ -1,16 +1,20 @@
-// What a host is told of the three questions that it asks most, laid out. One base that is sure goes a short way, which asks for no more than it needs; every other question goes the way that logs and alleles go too.
+// What a host is told of the three questions that it asks most, laid out. One base that is sure goes a short way, which asks for no more than it needs; one that is not is answered by where it lies, and every other question goes the way that logs and alleles go too.
 // An answer is laid out where it is found: one that is handed on as it is would be copied in other pieces than it was stored in, and wait for them.
 ghost use mathlib.Core.Path.{_≡_};
+ghost use lib.ListN.{getD};
 ghost use Prim.Native.Nat.{_≤_, _<_};
 ghost use Rattle.refusals.specs.Numbers.{mostSegments};
-ghost use Rattle.whole.specs.Whole.{eqZ};
+ghost use Rattle.whole.specs.Whole.{eqZ, Within};
 ghost use Rattle.segments.specs.Tables.{tables};
 ghost use Rattle.segments.specs.Paper.{Small, spotSaid};
 ghost use Rattle.holding.specs.Holding.{lent, checked};
-ghost use Rattle.positions.specs.Answers.{certain, ends};
-ghost use Rattle.positions.specs.Paper.{paperCAsked, paperNEnd};
-ghost use Rattle.places.specs.Aligned.{Aligns};
-ghost use Rattle.places.specs.Lone.{paperLone, RoomyLone};
+ghost use Rattle.positions.specs.Positions.{asksN};
+ghost use Rattle.positions.specs.Answers.{certain, ends, chain};
+ghost use Rattle.positions.specs.Paper.{paperCQuestion, paperNEnd, paperC};
+ghost use Rattle.coding.specs.Coding.{nToC};
+ghost use Rattle.places.specs.Mapping.{gToN};
+ghost use Rattle.places.specs.Aligned.{alignedBy, Aligns};
+ghost use Rattle.places.specs.Lone.{nBeside, paperLone, RoomyLone};
 ghost use Rattle.mapper.specs.Asking.{askGToN, askGToC, askCToG};
 ghost use Rattle.mapper.specs.Knowing.{paperCoding};
 ghost use Rattle.layout.specs.Layout.{gAsked, cAsked, gLaid, nLaid, cLaid, laid};
@@ -23,9 +27,11 @@ use mapper::knowing::Coding;
 use mapper::knowing::Known;
 use mapper::steps;
 use mapper::steps::Given;
+use numbering::Place;
 use places::Alignment;
 use places::Lone;
-use positions::CAsked;
+use positions::CAnswer;
+use positions::CQuestion;
 use positions::fitting::CEnd;
 use positions::fitting::GEnd;
 use positions::fitting::NEnd;
@@ -96,10 +102,18 @@ pub fn g_to_n(
                     if let Lone::Sure(spot) = lone {
                         return sure_n(at, transcript, exons, spot);
                     }
+                    if let Lone::Unsure(spot) = lone {
+                        return lay::lay_n(places::beside_n(
+                            knowing::alignment(head),
+                            transcript,
+                            exons,
+                            spot.place,
+                            spot.number,
+                        ));
+                    }
                 }
-                let again = knowing::alignment(head);
-                let told = places::to_n(
-                    again,
+                lay::lay_n(places::to_n(
+                    knowing::alignment(head),
                     genome,
                     transcript,
                     letters,
@@ -107,8 +121,7 @@ pub fn g_to_n(
                     from,
                     to,
                     strict,
-                );
-                lay::lay_n(told)
+                ))
             }
             Given::Missing => lay::refusal_of(MISSING_END),
         },
@@ -144,6 +157,46 @@ fn sure_c(
     }
 }
 
+// The c. interval of a base beside an I or a D, by its place in the segment with this number.
+fn beside_c(
+    at: Alignment,
+    transcript: &[u32; MOST_STARTS],
+    exons: &[u16; MOST_SEGMENTS],
+    cds: Coding,
+    place: Place,
+    number: usize,
+    strict: bool,
+) -> CAnswer
+    requires { ⌜ Within 37 (place .0) × (number < at .count) × (at .count ≤ mostSegments) ⌝ }
+    ensures { λ r. ⌜ paperC r ≡ chain asksN (nBeside at (now (transcript .entry)) (now (exons .entry)) (place .0) number) (nToC strict (getD (now (transcript .entry)) (at .count) 0) (paperCoding cds)) ⌝ }
+{
+    let count = at.count;
+    let len = places::last(transcript, count);
+    let n = places::beside_n(at, transcript, exons, place, number);
+    steps::then_n_to_c(n, len, cds, strict)
+}
+
+// The c. interval of any g. interval.
+fn interval_c(
+    at: Alignment,
+    genome: &[u32; MOST_STARTS],
+    transcript: &[u32; MOST_STARTS],
+    letters: &[u8; MOST_SEGMENTS],
+    exons: &[u16; MOST_SEGMENTS],
+    cds: Coding,
+    from: i32,
+    to: i32,
+    strict: bool,
+) -> CAnswer
+    requires { ⌜ Aligns at (tables (now genome) (now transcript) (now letters)) ⌝ }
+    ensures { λ r. ⌜ paperC r ≡ chain asksN (gToN strict (alignedBy at (tables (now (genome .entry)) (now (transcript .entry)) (now (letters .entry))) (now (exons .entry))) (record { from = from; to = to })) (nToC strict (getD (now (transcript .entry)) (at .count) 0) (paperCoding cds)) ⌝ }
+{
+    let count = at.count;
+    let len = places::last(transcript, count);
+    let n = places::to_n(at, genome, transcript, letters, exons, from, to, strict);
+    steps::then_n_to_c(n, len, cds, strict)
+}
+
 // g. to c.: g. to n. wholly, then n. to c.
 pub fn g_to_c(
     head: Head,
@@ -166,21 +219,29 @@ pub fn g_to_c(
                     if let Lone::Sure(spot) = lone {
                         return sure_c(at, transcript, exons, cds, spot, strict);
                     }
+                    if let Lone::Unsure(spot) = lone {
+                        return lay::lay_c(beside_c(
+                            knowing::alignment(head),
+                            transcript,
+                            exons,
+                            knowing::coding_of(head),
+                            spot.place,
+                            spot.number,
+                            strict,
+                        ));
+                    }
                 }
-                let again = knowing::alignment(head);
-                let count = again.count;
-                let len = places::last(transcript, count);
-                let told = places::to_n(
-                    again,
+                lay::lay_c(interval_c(
+                    knowing::alignment(head),
                     genome,
                     transcript,
                     letters,
                     exons,
+                    knowing::coding_of(head),
                     from,
                     to,
                     strict,
-                );
-                lay::lay_c(steps::then_n_to_c(told, len, knowing::coding_of(head), strict))
+                ))
             }
             Given::Missing => lay::refusal_of(MISSING_END),
         },
@@ -189,26 +250,30 @@ pub fn g_to_c(
     }
 }
 
-// A lone base by its c. position, with the CDS's start s and end e.
+// A lone base by its c. position, where the transcript has a CDS and both ends are that position.
 fn lone_c(
     at: Alignment,
     genome: &[u32; MOST_STARTS],
     transcript: &[u32; MOST_STARTS],
     letters: &[u8; MOST_SEGMENTS],
-    s: u32,
-    e: u32,
-    c: CAsked,
+    cds: Coding,
+    c: CQuestion,
     strict: bool,
 ) -> Lone
     requires { ⌜ Aligns at (tables (now genome) (now transcript) (now letters)) ⌝ }
-    ensures said { λ r. ⌜ paperLone r ≡ loneC strict at (tables (now (genome .entry)) (now (transcript .entry)) (now (letters .entry))) s e (paperCAsked c) ⌝ }
+    ensures said { λ r. ⌜ paperLone r ≡ loneC strict at (tables (now (genome .entry)) (now (transcript .entry)) (now (letters .entry))) (paperCoding cds) (paperCQuestion c) ⌝ }
     ensures roomy { λ r. ⌜ RoomyLone (at .count) r ⌝ }
 {
-    let count = at.count;
-    match coding::n_position(strict, places::last(transcript, count), s, e, c) {
-        NEnd::At(n) => places::lone_n(at, genome, transcript, letters, n.base, strict),
-        NEnd::Refused(_) => Lone::Other,
+    if let Coding::Cds(s, e) = cds {
+        if coding::is_same(c.from, c.to) {
+            let count = at.count;
+            let len = places::last(transcript, count);
+            if let NEnd::At(n) = coding::n_position(strict, len, s, e, c.from) {
+                return places::lone_n(at, genome, transcript, letters, n.base, strict);
+            }
+        }
     }
+    Lone::Other
 }
 
 // The g. answer of a sure base, by its spot, with its number's own offset.
@@ -240,25 +305,21 @@ pub fn c_to_g(
 ) -> Answer
     ensures { λ r. ⌜ r ≡ laid gLaid (checked (lent head (now (genome .entry)) (now (transcript .entry)) (now (letters .entry)) (now (exons .entry))) (askCToG strict (cAsked start «start_offset» «start_star» end «end_offset» «end_star»))) ⌝ }
 {
-    let from = CAsked {
-        base: start,
-        star: start_star,
-        offset: start_offset,
-    };
-    let to = CAsked {
-        base: end,
-        star: end_star,
-        offset: end_offset,
-    };
+    let asked = take::c_asked(start, start_offset, start_star, end, end_offset, end_star);
     match knowing::known_of(head, genome, transcript, letters, exons) {
         Known::Aligned(at, cds) => {
-            if let Coding::Cds(s, e) = cds {
-                if coding::is_same(from, to) {
-                    let lone = lone_c(at, genome, transcript, letters, s, e, from, strict);
-                    if let Lone::Sure(spot) = lone {
-                        return sure_g(at, exons, spot, start_offset);
-                    }
-                }
+            let lone = lone_c(at, genome, transcript, letters, cds, asked, strict);
+            if let Lone::Sure(spot) = lone {
+                return sure_g(at, exons, spot, start_offset);
+            }
+            if let Lone::Unsure(spot) = lone {
+                return lay::lay_g(places::beside_g(
+                    knowing::alignment(head),
+                    exons,
+                    spot.place,
+                    spot.number,
+                    start_offset,
+                ));
             }
             let again = knowing::alignment(head);
             let count = again.count;

@@ -1,5 +1,5 @@
 -- One step of the exon numbers, computed with a difference that wraps. Assumes nothing.
-use Prim.Native.Nat.{ℕ, _+_, _-_, _%_, _^_, _<_}
+use Prim.Native.Nat.{ℕ, zero, suc, _+_, _-_, _%_, _^_, _≤_, _<_}
 use native.Mathlib.Omega.{arith}
 use mathlib.Core.Bool.{_&&_}
 use mathlib.Core.Path.{_≡_}
@@ -7,7 +7,8 @@ use lib.Bits.{bitOr, or-add-and, and-le-l, and-le-r}
 use lib.Dec.{eqb, leb}
 use borrow.Author.Tests.{eqb-true, eq-eqb, leb-true, leb-false, le-leb}
 use Rattle.whole.specs.laws.Whole.{by-test, both, both-of}
-use Rattle.together.specs.Numbers.{wrapped16}
+use Rattle.cigar.specs.Elements.{letterN}
+use Rattle.together.specs.Numbers.{wrapped16, mostAfter}
 use Rattle.together.proofs.All.{equal-where}
 
 -- no bit of either
@@ -35,3 +36,20 @@ none-above step most =
     equal-where _ _
     (λ h. let e = eqb-true (step - most) 0 h in le-leb step most (omega arith))
     (λ h. let l = leb-true step most h in eq-eqb (step - most) 0 (omega arith))
+
+-- the most is 0 or 1
+pub most-small : (c : ℕ) → mostAfter c ≤ 1
+unfolding mostAfter
+most-small c = by-test (eqb c letterN) (λ t. rw t (omega arith)) (λ t. rw t (omega arith))
+
+-- to a most of 0 or 1 a step adds no bit exactly where it is no more
+pub no-bit-more : (step most : ℕ) → most ≤ 1 → eqb (bitOr step most) most ≡ leb step most
+no-bit-more step most small =
+    equal-where _ _
+    (λ h. let e = eqb-true (bitOr step most) most h in le-leb step most (omega (arith, or-add-and step most, and-le-r step most, e)))
+    (λ h. eq-eqb (bitOr step most) most (same step most small (leb-true step most h)))
+  where
+    same : (a b : ℕ) → b ≤ 1 → a ≤ b → bitOr a b ≡ b
+    same zero b b≤ a≤ = omega (arith, or-add-and 0 b, and-le-l 0 b)
+    same (suc zero) b b≤ a≤ = let e : b ≡ 1 = omega arith in rw e
+    same (suc (suc a)) b b≤ a≤ = omega arith

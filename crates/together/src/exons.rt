@@ -1,6 +1,6 @@
 // Whether the exon numbers of lent tables hold, which every question asks too. A step is taken as a difference that may wrap: where the numbers begin and end
-// as they are to and no step is above 1, none comes near to wrapping. So one pass gathers how far steps are above what the letter lets them be, with no early
-// way out, and is vectorised; where none is above, both ends decide. From which of two neighbours a step is taken is a matter of the strand: the loop is told by two numbers, 0 and 1.
+// as they are to and no step is above 1, none comes near to wrapping. So one pass gathers how far steps are above what the letter lets them be, or of few whether any is, with no
+// early way out, and is vectorised; where none is above, both ends decide. From which of two neighbours a step is taken is a matter of the strand: the loop is told by two numbers, 0 and 1.
 ghost use mathlib.Core.Path.{_≡_};
 ghost use mathlib.Core.Bool.{cond, _&&_};
 ghost use Prim.Native.Nat.{_+_, _-_, _≤_, _<_};
@@ -63,8 +63,39 @@ fn steps_in(
     wrong
 }
 
+// Whether a step is no more than the letter lets it be. The most is 0 or 1, so a step is no more than it where it adds no bit to it: a compare that the compiler takes for eight steps at
+// once at less cost than an order.
+fn is_stepped(letter: u8, low: u16, high: u16) -> bool
+    ensures { λ r. ⌜ r ≡ stepped letter low high ⌝ }
+{
+    let step = std::num::wrapping_sub_u16(high, low);
+    let most = most_after(letter);
+    (step | most) == most
+}
+
+// Whether each step after the segments from one up to another is no more than it may be: of few segments this costs less than gathering how far they are above.
+fn stepped_in(
+    letters: &[u8; MOST_SEGMENTS],
+    exons: &[u16; MOST_SEGMENTS],
+    low: usize,
+    high: usize,
+    first: usize,
+    to: usize,
+) -> bool
+    requires { ⌜ (low ≤ 1) × (high ≤ 1) × (first ≤ to) × (to < mostSegments) ⌝ }
+    ensures { λ r. ⌜ r ≡ allBelow (from first (steppedAt (now (letters .entry)) (now (exons .entry)) low high)) to ⌝ }
+{
+    let mut ok = true;
+    let mut i = first;
+    while i < to {
+        ok = ok & is_stepped(letters[i], exons[i + low], exons[i + high]);
+        i += 1;
+    }
+    ok
+}
+
 // Whether so many steps from the first segment on are no more than they may be. The compiler makes straight code of whole blocks, so the last block overlaps the others; from 16 to 31
-// steps two blocks of 16 do, from 8 to 15 two of 8, and from 4 to 7 two of 4. No size is told by more than three tests.
+// steps two blocks of 16 do, from 8 to 15 two of 8, which are compared and not gathered, and from 4 to 7 two of 4. No size is told by more than three tests.
 fn steps_hold(
     letters: &[u8; MOST_SEGMENTS],
     exons: &[u16; MOST_SEGMENTS],
@@ -84,9 +115,9 @@ fn steps_hold(
             let back = steps_in(letters, exons, low, high, to - 4, to);
             return with_bits(front, back) == 0;
         }
-        let front = steps_in(letters, exons, low, high, 0, 8);
-        let back = steps_in(letters, exons, low, high, to - 8, to);
-        return with_bits(front, back) == 0;
+        let front = stepped_in(letters, exons, low, high, 0, 8);
+        let back = stepped_in(letters, exons, low, high, to - 8, to);
+        return front & back;
     }
     if to < 32 {
         let front = steps_in(letters, exons, low, high, 0, 16);
@@ -110,13 +141,6 @@ fn to_neighbour(forward: bool) -> usize
     ensures { λ r. ⌜ (r ≡ cond forward 1 0) × (r ≤ 1) ⌝ }
 {
     if forward { 1 } else { 0 }
-}
-
-// Whether a step is no more than the letter lets it be.
-fn is_stepped(letter: u8, low: u16, high: u16) -> bool
-    ensures { λ r. ⌜ r ≡ stepped letter low high ⌝ }
-{
-    std::num::wrapping_sub_u16(high, low) <= most_after(letter)
 }
 
 // Whether the numbers begin and end as they are to: with the first number, and with the step from the last, at the last segment's letter, to what stands behind it.

@@ -21,7 +21,7 @@ use mir.Val.{SFits}
 use Rattle.refusals.specs.Numbers.{mostCard}
 use Rattle.refusals.specs.Outcome.{answered}
 use Rattle.whole.specs.Whole.{eqZ}
-use Rattle.whole.specs.laws.Whole.{by-test, eq-by, eq-yes-by, eq-yes-says, both}
+use Rattle.whole.specs.laws.Whole.{by-test, eq-means, eq-yes-by, both}
 use Rattle.fields.specs.Fields.{le16, le32, bytes16, bytes32, bits32}
 use Rattle.fields.specs.laws.RoundTrips.{Bytes, drop-bytes, little-bytes, signed-back, bytes16-le, field-laid, beside}
 use Rattle.records.specs.Records.{Record, fieldAt, exactly, recordsFrom}
@@ -180,9 +180,6 @@ pub record IsCard (s : List ℕ) : Type 0 where
   pub end-plain : numberOf (endOf (getD s cdsAt 0) (fieldAt s endAt)) ≡ fieldAt s endAt
   pub exact : exactly (le16 s countAt) (drop recordsAt s) 0 ≡ true
 
-same-means : (a b : ℤ) → eqZ a b ≡ true → a ≡ b
-same-means a b e = eq-by a b (eq-yes-says a b e)
-
 three : (s : List ℕ) → 3 ≤ length s → take 3 s ≡ getD s 0 0 ∷ getD s 1 0 ∷ getD s 2 0 ∷ []
 three [] h = absurd (omega arith)
 three (a ∷ []) h = absurd (omega arith)
@@ -202,7 +199,7 @@ plain-means : (b : ℕ) (z w : ℤ) → arePlain b z w ≡ true → (numberOf (s
 unfolding arePlain
 plain-means b z w e =
     let a = both _ _ e in
-    (same-means (numberOf (startOf b z)) z (a .0), same-means (numberOf (endOf b w)) w (a .1))
+    (eq-means (numberOf (startOf b z)) z (a .0), eq-means (numberOf (endOf b w)) w (a .1))
 
 card-means : (s : List ℕ) → length s ≤ mostCard → isMarked s ≡ true → le16 s versionAt ≡ version → isCard s ≡ true → IsCard s
 unfolding isCard

@@ -4,18 +4,14 @@ use mathlib.Core.Bool.{Bool}
 use mathlib.Core.Path.{_≡_, refl, sym, ap}
 use lib.IntN.{pos}
 use Rattle.refusals.specs.Outcome.{answered}
-use Rattle.refusals.specs.laws.Outcomes.{clash, same}
+use Rattle.refusals.specs.laws.Outcomes.{clash}
 use Rattle.whole.specs.laws.Whole.{by-test}
 use Rattle.numbering.specs.Numbers.{nOfC}
 use Rattle.positions.specs.Positions.{NAsked, CAsked, NPosition}
-use Rattle.positions.specs.Answers.{unmarked, ends, nFits, cFits, ifFits}
-use Rattle.positions.specs.laws.Ends.{ends-fit}
+use Rattle.positions.specs.Answers.{unmarked, ends, nFits, cFits}
+use Rattle.positions.specs.laws.Ends.{ends-fit, end-fits}
 use Rattle.transcript.specs.Transcript.{cds}
 use Rattle.coding.specs.Coding.{beyond, cPosition, cOfInterval, nToC, oneToC, nPosition, cToN}
-
--- what passed 17 is what was asked to fit
-fits-is : (a b : NPosition) → ifFits nFits a ≡ answered b → a ≡ b
-fits-is a b = by-test (nFits a) (λ t. rw t (λ h. same h)) (λ t. rw t (λ h. absurd (clash h)))
 
 module _ (strict : Bool) (len s e : ℕ) where
   pub one-to-c : (a : NAsked) → nToC strict len (cds s e) (record { from = a; to = a }) ≡ ends unmarked (oneToC strict len s e a) (oneToC strict len s e a)
@@ -32,4 +28,4 @@ module _ (strict : Bool) (len s e : ℕ) where
   offset-stays a n =
       by-test (beyond strict len (nOfC (pos s) (pos e) (a .base)))
       (λ t. rw t (λ h. absurd (clash h)))
-      (λ t. rw t (λ h. sym (ap (λ (x : NPosition). x .offset) (fits-is _ n h))))
+      (λ t. rw t (λ h. sym (ap (λ (x : NPosition). x .offset) (end-fits nFits _ n h))))

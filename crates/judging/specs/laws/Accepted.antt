@@ -18,7 +18,7 @@ use Rattle.refusals.specs.Numbers.{mostRecords, mostSegments, mostText, mostBas
 use Rattle.refusals.specs.Outcome.{answered, refused, andThen, unless}
 use Rattle.refusals.specs.laws.Outcomes.{clash, same, passed}
 use Rattle.whole.specs.Whole.{eqZ}
-use Rattle.whole.specs.laws.Whole.{by-test, order, eq-by, eq-yes-says}
+use Rattle.whole.specs.laws.Whole.{by-test, order, eq-means}
 use Rattle.cigar.specs.Elements.{Element, isLetter, genome, transcript, total, letterN}
 use Rattle.cigar.specs.Text.{Reading, readAll}
 use Rattle.cigar.specs.laws.Sound.{AllSound, read-sound, read-room}
@@ -88,12 +88,12 @@ records-mean i m =
     by-test (eqZ (i .strand) (pos 1))
     (λ u. rw (t, u) (λ h.
     let (forward, on) = on-strand true i m h in
-    record { some = some; strand-is = rw forward (eq-by (i .strand) (pos 1) (eq-yes-says (i .strand) (pos 1) u)); on = on }))
+    record { some = some; strand-is = rw forward (eq-means (i .strand) (pos 1) u); on = on }))
     (λ u.
     by-test (eqZ (i .strand) (negsuc 0))
     (λ v. rw (t, u, v) (λ h.
     let (forward, on) = on-strand false i m h in
-    record { some = some; strand-is = rw forward (eq-by (i .strand) (negsuc 0) (eq-yes-says (i .strand) (negsuc 0) v)); on = on }))
+    record { some = some; strand-is = rw forward (eq-means (i .strand) (negsuc 0) v); on = on }))
     (λ v. rw (t, u, v) (λ h. absurd (clash h)))))
 
 -- what is handed over and accepted: known CDS bits, and bytes that are just that many records
@@ -305,7 +305,7 @@ AllSpanning (r ∷ rs) [] = ⊥
 AllSpanning (r ∷ rs) (x ∷ xs) = (r .alt-start +ℤ pos (total genome (x .parts)) ≡ r .alt-end) × AllSpanning rs xs
 
 own-span : (r : Record) (es : List Element) → isSpanned r es ≡ true → r .alt-start +ℤ pos (total genome es) ≡ r .alt-end
-own-span r es h = let z = r .alt-start +ℤ pos (total genome es) in eq-by z (r .alt-end) (eq-yes-says z (r .alt-end) h)
+own-span r es h = let z = r .alt-start +ℤ pos (total genome es) in eq-means z (r .alt-end) h
 
 after-spanning : (used : ℕ) (rs : List Record) (xs : List Exon) → exonsAfter used rs ≡ answered xs → AllSpanning rs xs
 unfolding exonsAfter

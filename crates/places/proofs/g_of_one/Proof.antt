@@ -3,7 +3,6 @@ use mathlib.Core.Path.{_≡_, sym, _∙_}
 use lib.ListN.{getD}
 use Rattle.whole.specs.laws.Whole.{read}
 use Rattle.numbering.specs.Numbers.{placeOfN}
-use Rattle.segments.specs.laws.Sizes.{wider}
 use Rattle.places.specs.Mapping.{inside, turned}
 use Rattle.places.specs.laws.Spans.{one-back, one-back-refused}
 use borrow.Author.Needs.{needs}
@@ -22,22 +21,20 @@ test-is : (c : tie.After-is-inside) →
     inside (a .strict) len (turned (a .at .forward) len (placeOfN (a .base))) ≡ c .is-inside .result
 test-is c = sym (simp (c .before .before .last .ensures, place-is (c .before)) at (c .is-inside .ensures))
 
-chosen-requires : tie.Need-chosen-requires
-chosen-requires c κs =
-    let x = c .before in
-    let s = x .before .before .before .before .before in
-    (x .spot-of-n .ensures .1 .1, s .pre .count-to)
+g-of-start-requires : tie.Need-g-of-start-requires
+g-of-start-requires c κs =
+    let s = c .before .before .before .before .before in
+    (c .spot-of-n .ensures .1 .0, c .spot-of-n .ensures .1 .1, s .pre .count-to)
 
 returns : tie.Need-returns
 returns c =
-    let n = c .before .before in
-    let x = n .before .before in
+    let x = c .before in
     let t = x .before in
     let p = t .before .before in
     let s = p .before .before in
     let a = s .args in
     let start = rw (place-is p) at (x .spot-of-n .ensures .0) in
-    simp (n .chosen .ensures, n .before .behind .ensures, c .before .stop-of .ensures .0, start, read (s .fits .o), read (s .fits .u)) at (c .g-answer .ensures)
+    simp (start, read (s .fits .o), read (s .fits .u)) at (c .g-of-start .ensures)
     ∙ sym (one-back (a .at) _ _ (s .pre) (a .strict) (a .base) (a .o) (a .u) (test-is (t .before) ∙ t .if1 .taken))
 
 returns-2 : tie.Need-returns-2
@@ -54,9 +51,6 @@ g-of-one-spec =
     (λ c κs. search needs)
     (λ c κs. search needs)
     (λ c κs. search needs)
-    (λ c κs. search needs)
-    chosen-requires
-    (λ c κs. search needs)
-    (λ c κs. (wider (c .before .before .before .spot-of-n .ensures .1 .0), c .stop-of .ensures .1))
+    g-of-start-requires
     returns
     returns-2)

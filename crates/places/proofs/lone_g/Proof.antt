@@ -1,4 +1,4 @@
--- `places::lone_g` meets its contract: `place_of_g` gives the place, so that the test made is 14's; by it, and by whether its spot is sure, there is the one spot or none. Assumes nothing.
+-- `places::lone_g` meets its contract: `place_of_g` gives the place, so that the test made is 14's; by it, and by whether its spot is sure, there is its spot, sure or not, or none. Assumes nothing.
 use mathlib.Core.Path.{_≡_, sym, _∙_}
 use lib.ListN.{getD}
 use Rattle.whole.specs.laws.Whole.{read}
@@ -39,7 +39,7 @@ unfolding loneG
 returns-2 c =
     let x = c .before in
     let t = x .before in
-    (not-sure (test-is (t .before) ∙ t .if1 .taken) (spot-is x) (c .if2 .left), tt)
+    (not-sure (test-is (t .before) ∙ t .if1 .taken) (spot-is x) (c .if2 .left), x .spot-of-g .ensures .1)
 
 returns-3 : tie.Need-returns-3
 unfolding loneG

@@ -20,11 +20,11 @@ use Rattle.segments.specs.Exons.{lastNumber, exonFound, exonChosen}
 use Rattle.segments.specs.laws.Exons.{read-number}
 use Rattle.segments.specs.laws.Reading.{read-length, last-genome, last-transcript, by-genome}
 use Rattle.segments.specs.Paper.{toTranscript, toGenome}
-use Rattle.transcript.specs.Transcript.{exonNumber, genomeLength, transcriptLength}
+use Rattle.transcript.specs.Transcript.{Transcript, exonNumber, genomeLength, transcriptLength}
 use Rattle.positions.specs.Positions.{Interval, NAsked}
 use Rattle.positions.specs.Answers.{gFits, nFits, fitting, markOf, ends}
 use Rattle.positions.specs.laws.Ends.{ends-fit}
-use Rattle.places.specs.Mapping.{inside, turned, foundExons, chosenExons, placeOfG, nOfSpot, wholeN, gToN, gOfSpot, gOfEnds}
+use Rattle.places.specs.Mapping.{inside, turned, foundExons, chosenExons, placeOfG, nOfSpot, wholeN, gToN, gOfSpot, gOfEnds, nToG}
 use Rattle.places.specs.Aligned.{alignedBy, numberBy, Aligns, nEndAt, nJoined, gEndAt, gJoined}
 use Rattle.places.specs.declared.Alignment.{Alignment}
 
@@ -166,6 +166,11 @@ module _ (a : Alignment) (x : Tables) (exons : List ℕ) (sound : Aligns a x) wh
 
     pub one-back-refused : inside strict (getD (x .transcript) (a .count) 0) (t-from strict first-at second-at) ≡ false → fitting gFits (gOfEnds strict (alignedBy a x exons) first-at second-at) ≡ refused outside
     one-back-refused e = g-refused strict first-at second-at (rw e refl)
+
+-- n. to g. of a position that is both ends, which have no order
+pub either-order : (strict : Bool) (t : Transcript) (n : NAsked) → nToG strict t (record { from = n; to = n }) ≡ fitting gFits (gOfEnds strict t n n)
+unfolding nToG
+either-order strict t n = by-test (t .forward) (λ f. rw f) (λ f. rw f)
 
 -- a spot's segment is one of so many where that of the same spot is
 pub same-number : {s u : Spot} {n : ℕ} → s ≡ u → u .number < n → s .number < n

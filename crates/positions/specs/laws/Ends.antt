@@ -22,6 +22,10 @@ module _ {P : Type 0} where
       go true false = refl
       go false t = refl
 
+  -- an end that passed 17 is the end that was asked to fit
+  pub end-fits : (fit : P → Bool) (a b : P) → ifFits fit a ≡ answered b → a ≡ b
+  end-fits fit a b = by-test (fit a) (λ t. rw t (λ h. same h)) (λ t. rw t (λ h. absurd (clash h)))
+
   -- an interval that bears no mark, after a step that bears one
   pub ends-after : (sure : Bool) (exons : Interval ℕ) (a b : Outcome P) → through (after (markOf sure exons)) (ends unmarked a b) ≡ ends (markOf sure exons) a b
   ends-after true exons (answered a) (answered b) = refl

@@ -10,7 +10,7 @@ use borrow.Author.Tests.{eq-eqb, ne-eqb, lt-ltb}
 use mir.Syntax.{w32, w64}
 use mir.Val.{Fits, SFits, toZ, ofZ}
 use Rattle.whole.specs.Whole.{eqZ}
-use Rattle.whole.specs.laws.Whole.{by-test, eq-by, eq-says, eq-yes-says, eq-yes-by, eq-no-by, read}
+use Rattle.whole.specs.laws.Whole.{by-test, eq-by, eq-says, eq-means, eq-yes-by, eq-no-by, read}
 
 pub other-32 : (a b : ℤ) → (ofZ w32 a ≡ ofZ w32 b → ⊥) → eqZ a b ≡ false
 other-32 a b h = eq-no-by a b (λ q. h (ap (ofZ w32) (eq-by a b q)))
@@ -22,7 +22,7 @@ module _ {a b : ℤ} where
   pub bits-32 : SFits w32 a → SFits w32 b → eqb (ofZ w32 a) (ofZ w32 b) ≡ eqZ a b
   bits-32 f g =
       by-test (eqZ a b)
-      (λ e. eq-eqb (ofZ w32 a) (ofZ w32 b) (ap (ofZ w32) (eq-by a b (eq-yes-says a b e))) ∙ sym e)
+      (λ e. eq-eqb (ofZ w32 a) (ofZ w32 b) (ap (ofZ w32) (eq-means a b e)) ∙ sym e)
       (λ e. ne-eqb (ofZ w32 a) (ofZ w32 b) (λ q. false≢true (sym e ∙ same-32 f g q)) ∙ sym e)
 
 -- what a cast to a natural asks

@@ -117,6 +117,10 @@ eq-yes-says (pos a) (negsuc b) e = never e
 eq-yes-says (negsuc a) (pos b) e = never e
 eq-yes-says (negsuc a) (negsuc b) e = omega (arith, eqb-true)
 
+-- numbers that pass the test are one
+pub eq-means : (a b : ℤ) → eqZ a b ≡ true → a ≡ b
+eq-means a b e = eq-by a b (eq-yes-says a b e)
+
 pub eq-no-says : (a b : ℤ) → eqZ a b ≡ false → up a + dn b ≢ up b + dn a
 eq-no-says (pos a) (pos b) e = λ q. eqb-false a b e (omega arith)
 eq-no-says (pos a) (negsuc b) e = omega arith

@@ -14,13 +14,13 @@ returns-2 : tie.Need-returns-2
 returns-2 c = c .with-bits .ensures ∙ ap₂ _&&_ (c .before .before .steps-in2 .ensures) (c .before .steps-in3 .ensures) ∙ stretched _ _ _ _ (omega arith) (omega arith)
 
 returns-3 : tie.Need-returns-3
-returns-3 c = c .with-bits2 .ensures ∙ ap₂ _&&_ (c .before .before .steps-in4 .ensures) (c .before .steps-in5 .ensures) ∙ stretched _ _ _ _ (omega arith) (omega arith)
+returns-3 c = ap₂ _&&_ (c .before .stepped-in .ensures) (c .stepped-in2 .ensures) ∙ stretched _ _ _ _ (omega arith) (omega arith)
 
 returns-4 : tie.Need-returns-4
-returns-4 c = c .with-bits3 .ensures ∙ ap₂ _&&_ (c .before .before .steps-in6 .ensures) (c .before .steps-in7 .ensures) ∙ stretched _ _ _ _ (omega arith) (omega arith)
+returns-4 c = c .with-bits2 .ensures ∙ ap₂ _&&_ (c .before .before .steps-in4 .ensures) (c .before .steps-in5 .ensures) ∙ stretched _ _ _ _ (omega arith) (omega arith)
 
 returns-5 : tie.Need-returns-5
-returns-5 c = c .with-bits4 .ensures ∙ ap₂ _&&_ (c .before .before .steps-in8 .ensures) (c .before .steps-in9 .ensures) ∙ stretched _ _ _ _ (omega arith) (omega arith)
+returns-5 c = c .with-bits3 .ensures ∙ ap₂ _&&_ (c .before .before .steps-in6 .ensures) (c .before .steps-in7 .ensures) ∙ stretched _ _ _ _ (omega arith) (omega arith)
 
 pub steps-hold-spec : {M : Type 1} → statement M
 steps-hold-spec =
@@ -32,7 +32,6 @@ steps-hold-spec =
     (λ c κs. search needs)
     (λ c κs. search needs)
     returns-2
-    (λ c κs. search needs)
     (λ c κs. search needs)
     (λ c κs. search needs)
     returns-3
