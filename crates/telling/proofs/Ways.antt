@@ -103,11 +103,10 @@ module _ (x : Lent) (a : Alignment) (c : Coding) (k : knownOf x ≡ known.Aligne
       → checked x (askCToG strict (record { from = p; to = q })) ≡ y
   by-name p q z y some l f =
       let n = named strict a (x .tables) (paperCoding c) p q z some l in
-      let own = n .own in
       lying-c-to-g x a c k strict (record { from = p; to = q })
       ∙ (ap (λ (i : Answer NPosition). chain asksN i (nToG strict lies)) (n .both)
       ∙ (plain-first _
-      ∙ (ap (λ (o : ℤ). nToG strict lies (record { from = record { base = n .at .base; offset = o }; to = record { base = n .at .base; offset = o } })) own
+      ∙ (ap (λ (o : ℤ). nToG strict lies (record { from = record { base = n .at .base; offset = o }; to = record { base = n .at .base; offset = o } })) (n .own)
       ∙ f (n .at .base) (n .told))))
 
   -- with the spot s, which is sure, or not
