@@ -12,7 +12,7 @@ use Rattle.numbering.specs.Numbers.{placeOfN}
 use Rattle.cigar.specs.Elements.{Element, Kind, matches, inserts, deletes, skips, Side, genome, transcript}
 use Rattle.cigar.specs.Read.{lettersOf}
 use Rattle.segments.specs.Tables.{Tables, entriesOf, read}
-use Rattle.segments.specs.Places.{Segment, segmentAt, indexOf, Spot, unsurely, leftNearer, nearer, spotIn, spotOf, stopOf, mapByTables, mapPlace, End}
+use Rattle.segments.specs.Places.{segmentAt, indexOf, Spot, unsurely, leftNearer, nearer, spotIn, stopOf, mapByTables, mapPlace}
 use Rattle.segments.specs.Places.End.{start}
 use Rattle.segments.specs.Exons.{exonFound, exonChosen}
 use Rattle.segments.specs.Paper.{toTranscript, toGenome}
@@ -42,18 +42,17 @@ unfolding nearer
 edge-sure i forward t left right = by-test (leftNearer forward left right) (λ n. rw n refl) (λ n. rw n refl)
 
 -- so that a place that is not sure lies beside an I or a D
-lies-beside : (from to : Side) (es : List Element) (p : ℤ) (e : End) (forward : Bool) (s : Spot) → mapPlace from to es p e forward ≡ s → s .sure ≡ false → s ≡ unsurely (s .number) (s .place)
+lies-beside : (from to : Side) (es : List Element) (p : ℤ) (forward : Bool) → let s = mapPlace from to es p start forward in s .sure ≡ false → s ≡ unsurely (s .number) (s .place)
 unfolding mapPlace mapByTables spotIn
-lies-beside from to es p e forward s is = rw (← is) (go (segmentAt (entriesOf from es) (entriesOf to es) (lettersOf es) (indexOf (entriesOf from es) (length es) p)))
+lies-beside from to es p forward =
+    let g = segmentAt (entriesOf from es) (entriesOf to es) (lettersOf es) (indexOf (entriesOf from es) (length es) p) in
+    by-kind (g .number) (g .does) (g .begins) (g .ends) (g .other)
   where
-    by-kind : (i : ℕ) (k : Kind) (f h t : ℕ) → spotIn i k f h t p e forward .sure ≡ false → spotIn i k f h t p e forward ≡ unsurely (spotIn i k f h t p e forward .number) (spotIn i k f h t p e forward .place)
+    by-kind : (i : ℕ) (k : Kind) (f h t : ℕ) → let s = spotIn i k f h t p start forward in s .sure ≡ false → s ≡ unsurely (s .number) (s .place)
     by-kind i matches f h t n = absurd (false≢true (sym n))
     by-kind i inserts f h t n = refl
     by-kind i deletes f h t n = refl
     by-kind i skips f h t n = absurd (false≢true (sym n ∙ edge-sure i forward t _ _))
-
-    go : (g : Segment) → spotOf g p e forward .sure ≡ false → spotOf g p e forward ≡ unsurely (spotOf g p e forward .number) (spotOf g p e forward .place)
-    go g n = by-kind (g .number) (g .does) (g .begins) (g .ends) (g .other) n
 
 module _ (a : Alignment) (x : Tables) (exons : List ℕ) (sound : Aligns a x) (strict : Bool) where
   pub lone-to-n : (s : Spot) (g : ℤ) → loneG strict a x g ≡ sure s → gToN strict (alignedBy a x exons) (record { from = g; to = g }) ≡ nOnce a (x .transcript) exons s
@@ -82,7 +81,7 @@ module _ (a : Alignment) (x : Tables) (exons : List ℕ) (sound : Aligns a x) (s
       let spot = toTranscript x (a .count) p start (a .forward) in
       let (within, not-sure, one) = told-not (inside strict (getD (x .genome) (a .count) 0) p) (spot .sure) spot s h in
       let by : Spot → Answer NPosition = λ t. nJoined (a .forward) (getD (x .transcript) (a .count) 0) (record { from = exonFound (numberBy a exons) t; to = exonFound (numberBy a exons) t }) t (stopOf t) in
-      rw (← one) (one-answered a x exons sound strict g within ∙ ap by (lies-beside genome transcript (read x (a .count)) p start (a .forward) spot refl not-sure))
+      rw (← one) (one-answered a x exons sound strict g within ∙ ap by (lies-beside genome transcript (read x (a .count)) p (a .forward) not-sure))
 
   pub beside-to-g : (s : Spot) (n o : ℤ) → loneN strict a x n ≡ unsure s → nToG strict (alignedBy a x exons) (record { from = record { base = n; offset = o }; to = record { base = n; offset = o } }) ≡ gBeside a exons (s .place) (s .number) o
   unfolding loneN
@@ -93,4 +92,4 @@ module _ (a : Alignment) (x : Tables) (exons : List ℕ) (sound : Aligns a x) (s
       let (within, not-sure, one) = told-not (inside strict len p) (spot .sure) spot s h in
       let by : Spot → Answer GPosition = λ t. gJoined (a .forward) (a .first) (record { from = exonChosen (a .forward) (numberBy a exons) t; to = exonChosen (a .forward) (numberBy a exons) t }) t (stopOf t) o o in
       either-order strict (alignedBy a x exons) (record { base = n; offset = o })
-      ∙ rw (← one) (one-back a x exons sound strict n o o within ∙ ap by (lies-beside transcript genome (read x (a .count)) p start true spot refl not-sure))
+      ∙ rw (← one) (one-back a x exons sound strict n o o within ∙ ap by (lies-beside transcript genome (read x (a .count)) p true not-sure))
