@@ -6,8 +6,7 @@ ghost use Rattle.layout.specs.Layout.{lentAt};
 ghost use Rattle.log.specs.Logs.{appendedOf, logAfter};
 ghost use Rattle.asking.specs.Asking.{asked, recording, recordedLaid};
 ghost use Rattle.playback.specs.Replay.{replaying};
-ghost use Rattle.entry.specs.Boundary.{writtenLaid};
-use crate::text;
+ghost use Rattle.results.specs.Results.{writtenLaid};
 use asking::Recorded;
 use layout::lay::Answer;
 use layout::lay::Length;
@@ -76,5 +75,5 @@ pub extern "C" fn txc_replay<'a>(
 {
     let known = take::head_of(head);
     let told = playback::replay(known, genome, transcript, letters, exons, log, buffer);
-    text::written_laid(told)
+    results::written_laid(told)
 }

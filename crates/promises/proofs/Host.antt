@@ -40,7 +40,7 @@ use Rattle.mapper.specs.laws.Marks.{cFell, g-to-c-marked, c-to-g-marked}
 use Rattle.mapper.specs.laws.Refusing.{gToCRefusals, cToGRefusals, g-to-c-refuses, c-to-g-refuses}
 use Rattle.layout.specs.Layout.{headAt, gAsked as asked, nAsked, cAsked, gLaid, nLaid, cLaid, markNumber, laid, saidLaid}
 use Rattle.layout.specs.declared.lay.Position.{Position}
-use Rattle.entry.specs.Boundary.{builtNumber, builtHead}
+use Rattle.results.specs.Results.{builtNumber, builtHead}
 use Rattle.worklist.specs.Worklist.{positionsOf, neverFalls, askSteps, stepsLaid}
 use Rattle.promises.specs.Bases.{Name, ExonNumbers}
 use Rattle.promises.specs.Demands.{ours, strict, madeOf, Builds, Named, NamedByRecords, recordsAdded, answerUp, Keeps}

@@ -27,7 +27,7 @@ use Rattle.mapper.specs.Asking.{given, codes}
 use Rattle.layout.specs.Layout.{headAt, gAsked as asked, nAsked, cAsked, gLaid, nLaid, cLaid, laid, refusal, saidLaid}
 use Rattle.layout.specs.declared.lay.Answer.{Answer}
 use Rattle.layout.specs.declared.lay.Position.{Position}
-use Rattle.entry.specs.Boundary.{builtNumber, builtHead}
+use Rattle.results.specs.Results.{builtNumber, builtHead}
 use Rattle.entry.specs.Told.{toldGToN, toldGToC, toldNToG, toldNToC, toldCToN, toldCToG, toldInBounds, toldCoding, toldSteps, toldSlots}
 use Rattle.worklist.specs.Worklist.{positionsOf, neverFalls, trackOf, stepsOf, stepsLaid}
 use Rattle.worklist.specs.declared.Slot.{Slot}

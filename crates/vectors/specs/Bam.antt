@@ -13,7 +13,7 @@ use Rattle.cigar.specs.Read.{countsAfter, lettersAfter}
 use Rattle.cigar.specs.Write.{Writing, bufferAfter}
 use Rattle.words.specs.Words.{readWords, writeWords, countedWords}
 use Rattle.segments.specs.Tables.{allBelow}
-use Rattle.entry.specs.Boundary.{countedLaid}
+use Rattle.results.specs.Results.{countedLaid}
 use Rattle.vectors.specs.Sizes.{mostWords}
 use Rattle.vectors.specs.Rows.{firstOf, behind, callOf, recordedSize, payloadOf, expected}
 use Rattle.vectors.specs.Words.{lengthWords}

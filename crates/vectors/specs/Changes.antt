@@ -14,7 +14,7 @@ use Rattle.judging.specs.Input.{numbersOf}
 use Rattle.judging.specs.Judging.{Made, Measured, judge, judgeLength}
 use Rattle.building.specs.Afterwards.{builtAnswer, lengthAnswer, tablesAfter, exonsAfter}
 use Rattle.card.specs.Writing.{judgeCard}
-use Rattle.entry.specs.Boundary.{builtNumber, builtHead}
+use Rattle.results.specs.Results.{builtNumber, builtHead}
 use Rattle.vectors.specs.Sizes.{headNumbers}
 use Rattle.vectors.specs.Rows.{callOf, flagsOf, recordedSize, recordedNumber, payloadOf, recordedAnswer}
 use Rattle.vectors.specs.Words.{sixWords, twoWords}

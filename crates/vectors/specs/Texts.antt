@@ -15,8 +15,8 @@ use Rattle.cigar.specs.Write.{Writing, writing, writtenAnswer, bufferAfter}
 use Rattle.segments.specs.Tables.{allBelow}
 use Rattle.card.specs.Layout.{recordsAt}
 use Rattle.card.specs.Writing.{cardWriting}
-use Rattle.entry.specs.Boundary.{countedLaid, writtenLaid, partLaid}
-use Rattle.entry.specs.declared.text.Part.{Part}
+use Rattle.results.specs.Results.{countedLaid, writtenLaid, partLaid}
+use Rattle.results.specs.declared.Part.{Part}
 use Rattle.vectors.specs.Sizes.{mostRoom}
 use Rattle.vectors.specs.Rows.{firstOf, behind, callOf, recordedSize, payloadOf, expected}
 use Rattle.vectors.specs.Words.{sixWords, twoWords, sizeWord, lengthWords}

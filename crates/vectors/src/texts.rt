@@ -14,8 +14,8 @@ use crate::calls;
 use crate::rows;
 use crate::rows::ANSWER;
 use card::RECORDS_AT;
-use entry::text::Part;
 use refusals::MOST_SEGMENTS;
+use results::Part;
 
 // The most bytes that a row lends as a buffer.
 const MOST_ROOM: usize = 2 * refusals::MOST_CARD;

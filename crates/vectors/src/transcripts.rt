@@ -3,7 +3,7 @@ ghost use mathlib.Core.Path.{_≡_};
 ghost use lib.ListN.{set};
 ghost use Rattle.segments.specs.Tables.{tables};
 ghost use Rattle.building.specs.Afterwards.{builtAnswer, lengthAnswer, tablesAfter, exonsAfter};
-ghost use Rattle.entry.specs.Boundary.{builtNumber, builtHead};
+ghost use Rattle.results.specs.Results.{builtNumber, builtHead};
 ghost use Rattle.vectors.specs.Changes.{cardMade, recordsMade, lengthMade, totalOf, recordsWords, lengthOnlyWords, builtWords, headDamaged, tablesDamaged, exonsDamaged, placesOf, damageWords, headAfter, tablesThen, exonsThen, changeWords};
 use crate::answers;
 use crate::calls;

@@ -12,7 +12,7 @@ use Rattle.cigar.specs.Write.{writtenAnswer, bufferAfter}
 use Rattle.card.specs.Layout.{recordsAt}
 use Rattle.card.specs.Writing.{cardWriting}
 use Rattle.layout.specs.declared.lay.Length.{Length}
-use Rattle.entry.specs.Boundary.{writtenLaid}
+use Rattle.results.specs.Results.{writtenLaid}
 use Rattle.vectors.specs.Rows.{behind, expected}
 use Rattle.vectors.specs.Words.{lengthWords}
 use Rattle.vectors.specs.Changes.{recordedNumbers}

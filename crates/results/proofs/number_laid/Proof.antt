@@ -1,7 +1,7 @@
--- `entry::strand::number_laid` meets its contract. Assumes nothing.
+-- `results::number_laid` meets its contract. Assumes nothing.
 use borrow.Author.Tests.{eq-eqb, ne-eqb}
-use Rattle.entry.proofs.strand.number_laid.Statement.{statement}
-use Rattle.entry.proofs.strand.number_laid.Tie as tie
+use Rattle.results.proofs.number_laid.Statement.{statement}
+use Rattle.results.proofs.number_laid.Tie as tie
 
 returns : tie.Need-returns
 returns c = rw (eq-eqb (c .before .args .number) 0 (c .if1 .taken))

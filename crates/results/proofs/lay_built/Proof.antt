@@ -1,8 +1,8 @@
--- `entry::build::lay_built` meets its contract: an arm knows what was built: `lay_head` lays a head out, and a refusal's number leaves the head as it was. Assumes nothing.
+-- `results::lay_built` meets its contract: an arm knows what was built: `lay_head` lays a head out, and a refusal's number leaves the head as it was. Assumes nothing.
 use mathlib.Core.Path.{refl}
 use borrow.Author.Needs.{needs}
-use Rattle.entry.proofs.build.lay_built.Statement.{statement}
-use Rattle.entry.proofs.build.lay_built.Tie as tie
+use Rattle.results.proofs.lay_built.Statement.{statement}
+use Rattle.results.proofs.lay_built.Tie as tie
 
 returns : tie.Need-returns
 returns c = rw (c .before .before .before .b .given .1) (refl, c .lay-head .ensures)

@@ -1,9 +1,9 @@
--- `entry::text::counted_laid` meets its contract: the arm that was taken says which case of `countedLaid` it is.
+-- `results::counted_laid` meets its contract: the arm that was taken says which case of `countedLaid` it is.
 use mathlib.Core.Path.{sym, ap}
-use Rattle.entry.specs.Boundary.{countedLaid}
+use Rattle.results.specs.Results.{countedLaid}
 use borrow.Author.Needs.{needs}
-use Rattle.entry.proofs.text.counted_laid.Statement.{statement}
-use Rattle.entry.proofs.text.counted_laid.Tie as tie
+use Rattle.results.proofs.counted_laid.Statement.{statement}
+use Rattle.results.proofs.counted_laid.Tie as tie
 
 returns : tie.Need-returns
 returns c = ap countedLaid (sym (c .before .counted .given .1))

@@ -1,9 +1,9 @@
--- `entry::text::written_laid` meets its contract: the arm that was taken says which case of `writtenLaid` it is.
+-- `results::written_laid` meets its contract: the arm that was taken says which case of `writtenLaid` it is.
 use mathlib.Core.Path.{sym, ap}
-use Rattle.entry.specs.Boundary.{writtenLaid}
+use Rattle.results.specs.Results.{writtenLaid}
 use borrow.Author.Needs.{needs}
-use Rattle.entry.proofs.text.written_laid.Statement.{statement}
-use Rattle.entry.proofs.text.written_laid.Tie as tie
+use Rattle.results.proofs.written_laid.Statement.{statement}
+use Rattle.results.proofs.written_laid.Tie as tie
 
 returns : tie.Need-returns
 returns c = ap writtenLaid (sym (c .before .written .given .1))

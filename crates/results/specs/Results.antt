@@ -1,4 +1,4 @@
--- What the boundary's entries lay out beside the mappings' answers: lengths of texts, parts of alleles, and what building tells. Assumes nothing.
+-- What the boundary lays out beside the mappings' answers: lengths of texts, parts of alleles, and what building tells. Assumes nothing.
 use Prim.Native.Nat.{ℕ}
 use mathlib.Core.Bool.{cond}
 use mathlib.Core.List.{List}
@@ -10,7 +10,7 @@ use Rattle.transcript.specs.declared.Built.{Built}
 use Rattle.transcript.specs.declared.Built.the-variants as built
 use Rattle.layout.specs.Layout.{headRow, starOf}
 use Rattle.layout.specs.declared.lay.Length.{Length}
-use Rattle.entry.specs.declared.text.Part.{Part}
+use Rattle.results.specs.declared.Part.{Part}
 use Rattle.cigar.specs.declared.Counted.{Counted}
 use Rattle.cigar.specs.declared.Counted.the-variants as counted
 use Rattle.cigar.specs.declared.write.Written.{Written}
