@@ -3,16 +3,15 @@
 ghost use mathlib.Core.Path.{_≡_};
 ghost use Rattle.layout.specs.Layout.{lentAt};
 ghost use Rattle.vectors.specs.Questions.{isStrict, startStar, endStar, missingOf, fromG, fromN, cToN, cToG, fromC, saidTo, questionWords};
-use crate::answers;
 use crate::calls;
-use crate::rows;
-use crate::rows::ANSWER;
-use crate::transcripts::HEAD;
+use comparing::answers;
+use comparing::lent::HEAD;
 use entry::ask;
 use layout::lay::Answer;
 use layout::lay::Said;
 use refusals::MOST_SEGMENTS;
 use refusals::MOST_STARTS;
+use rows::ANSWER;
 
 // Whether bounds are strict.
 fn is_strict(row: &[u8]) -> bool
