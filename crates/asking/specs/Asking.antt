@@ -13,11 +13,11 @@ use Rattle.layout.specs.Layout.{starOf, gLaid, nLaid, cLaid, refusal, laid}
 use Rattle.layout.specs.Questions.{gToN, nToG, nToC, cToN, gToC, isStrict, gOf, nOf, cOf}
 use Rattle.layout.specs.declared.lay.Answer.{Answer}
 use Rattle.layout.specs.declared.question.Question.{Question}
-use Rattle.log.specs.Canonical.{holdable}
+use Rattle.canonical.specs.Canonical.{holdable}
 use Rattle.log.specs.Logs.{appending}
-use Rattle.log.specs.declared.Entry.{Entry}
-use Rattle.log.specs.declared.logs.Appended.{Appended}
-use Rattle.log.specs.declared.logs.Appended.the-variants as appended
+use Rattle.entries.specs.declared.Entry.{Entry}
+use Rattle.log.specs.declared.Appended.{Appended}
+use Rattle.log.specs.declared.Appended.the-variants as appended
 use Rattle.asking.specs.declared.Recorded.{Recorded}
 
 module _ (x : Lent) where

@@ -3,6 +3,7 @@ ghost use mathlib.Core.Path.{_≡_};
 ghost use Rattle.holding.specs.Holding.{lent};
 ghost use Rattle.log.specs.Logs.{appendedOf, logAfter};
 ghost use Rattle.asking.specs.Asking.{named, asked, recording, recordedLaid};
+use entries::Entry;
 use layout::lay;
 use layout::lay::Answer;
 use layout::question;
@@ -12,10 +13,7 @@ use layout::question::G_TO_N;
 use layout::question::N_TO_C;
 use layout::question::N_TO_G;
 use layout::question::Question;
-use log::Entry;
-use log::canonical;
-use log::logs;
-use log::logs::Appended;
+use log::Appended;
 use refusals::MOST_SEGMENTS;
 use refusals::MOST_STARTS;
 use refusals::NO_LOG;
@@ -126,7 +124,7 @@ pub fn record(
             question: q,
             answer,
         };
-        return lay_recorded(answer, logs::append(log, used, entry));
+        return lay_recorded(answer, log::append(log, used, entry));
     }
     lay_recorded(lay::refusal_of(0), Appended::Refused(NO_LOG))
 }

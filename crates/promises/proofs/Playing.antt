@@ -16,7 +16,7 @@ use Rattle.whole.specs.laws.Whole.{by-test}
 use Rattle.holding.specs.Holding.{Lent, holds}
 use Rattle.layout.specs.declared.question.Question.{Question}
 use Rattle.log.specs.Logs.{readLog}
-use Rattle.log.specs.declared.Entry.{Entry}
+use Rattle.entries.specs.declared.Entry.{Entry}
 use Rattle.asking.specs.Asking.{asked, recorded}
 use Rattle.asking.specs.laws.Making.{made-is}
 use Rattle.playback.specs.Replay.{differs, differing, replayText, roomed, replaying}

@@ -48,10 +48,10 @@ use Rattle.strands.specs.Turned.{areBases, onStrand, readOn, fitting, turning}
 use Rattle.alleles.specs.Joining.{Alleles, alleles, Rooms, readBoth, trimmed, fittingBoth, beside, joinedWith, readsBack, askJoined, joined}
 use Rattle.alleles.specs.laws.Refusing.{plainRefusals, plain-only}
 use Rattle.layout.specs.declared.question.Question.{Question}
-use Rattle.log.specs.Canonical.{holdable}
-use Rattle.log.specs.Entries.{entryBytes}
+use Rattle.canonical.specs.Canonical.{holdable}
+use Rattle.entries.specs.Entries.{entryBytes}
 use Rattle.log.specs.Logs.{headerBytes, isHeaded, allCanonical, entriesIn, readLog, fitted as behind, appending}
-use Rattle.log.specs.declared.Entry.{Entry}
+use Rattle.entries.specs.declared.Entry.{Entry}
 use Rattle.asking.specs.Asking.{recorded, recording}
 use Rattle.playback.specs.Replay.{replayed, roomed, replaying}
 use Rattle.promises.specs.Refusals.{Refusals, readingRefusals, writingRefusals, readingWordsRefusals, writingWordsRefusals, recordsRefusals, buildingRefusals, cardRefusals, lengthRefusals, cardWritingRefusals, turningRefusals, joiningRefusals, recordingRefusals, replayRefusals}

@@ -11,7 +11,7 @@ use Rattle.refusals.specs.Refusing.{oneOf}
 use Rattle.holding.specs.Holding.{Lent, holds}
 use Rattle.layout.specs.declared.question.Question.{Question}
 use Rattle.log.specs.Logs.{readLog}
-use Rattle.log.specs.declared.Entry.{Entry}
+use Rattle.entries.specs.declared.Entry.{Entry}
 use Rattle.asking.specs.Asking.{asked}
 use Rattle.asking.specs.Making.{Made}
 use Rattle.playback.specs.Replay.{replayText, replaying}

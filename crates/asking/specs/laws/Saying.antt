@@ -28,8 +28,8 @@ use Rattle.layout.specs.Questions.{gToN, nToG, nToC, cToN, gToC, cToG, toG, toC
 use Rattle.layout.specs.declared.lay.Position.{Position}
 use Rattle.layout.specs.declared.lay.Answer.{Answer}
 use Rattle.layout.specs.declared.question.Question.{Question}
-use Rattle.log.specs.Entries.{QuestionFits, PositionFits, AnswerFits, EntryFits}
-use Rattle.log.specs.Canonical.{endHoldable, holdable, refusalsOf, refusedTag, tagOfKind, exonOfKind, endSayable, isNowhere, sayable, canonical}
+use Rattle.entries.specs.Entries.{QuestionFits, PositionFits, AnswerFits, EntryFits}
+use Rattle.canonical.specs.Canonical.{endHoldable, holdable, refusalsOf, refusedTag, tagOfKind, exonOfKind, endSayable, isNowhere, sayable, canonical}
 use Rattle.asking.specs.Asking.{named, asked, recorded}
 
 -- ---- one table of refusals

@@ -16,7 +16,7 @@ use Rattle.building.specs.laws.Standing.{built-holds}
 use Rattle.card.specs.Writing.{judgeCard}
 use Rattle.card.specs.laws.Taken.{card-sane}
 use Rattle.log.specs.Logs.{readLog}
-use Rattle.log.specs.declared.Entry.{Entry}
+use Rattle.entries.specs.declared.Entry.{Entry}
 use Rattle.playback.specs.Replay.{replayed}
 use Rattle.playback.specs.Played.{lentBy, played, cardEnd, cardTo, inputMade, inputPlayed}
 use Rattle.playback.specs.laws.Replay.{AllRecorded, replayed-answered, nothing-written}

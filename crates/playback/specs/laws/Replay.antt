@@ -31,7 +31,7 @@ use Rattle.layout.specs.declared.lay.Answer.{Answer}
 use Rattle.log.specs.Layout.{entriesAt}
 use Rattle.log.specs.Logs.{readLog}
 use Rattle.log.specs.laws.LogTrips.{from-length, read-means}
-use Rattle.log.specs.declared.Entry.{Entry}
+use Rattle.entries.specs.declared.Entry.{Entry}
 use Rattle.asking.specs.Asking.{asked, recorded}
 use Rattle.playback.specs.Lines.{lineOf, linesOf, indexIf, mostEntries, allLines, mostReplay}
 use Rattle.playback.specs.Replay.{samePosition, sameAnswer, differs, indicesFrom, differing, replayText, replayed, roomed, replaying}
