@@ -12,7 +12,6 @@ use refusals::NOT_TOGETHER;
 use transcript::Head;
 
 pub mod differing;
-pub mod input;
 pub mod text;
 
 // The index of each entry whose answer differs, a line each, then the total, at the front of a lent buffer: 23, 3, 35, 20, and nothing is written

@@ -1,4 +1,4 @@
--- `playback::input::play_input` meets its contract: the two parts of the input are played, or the line of a refusal is put.
+-- `playing::play_input` meets its contract: the two parts of the input are played, or the line of a refusal is put.
 -- Assumes nothing.
 use mathlib.Core.Path.{_≡_, sym, ap, _∙_}
 use mathlib.Core.List.{List}
@@ -13,12 +13,12 @@ use Rattle.judging.specs.Judging.{Made}
 use Rattle.building.specs.Afterwards.{tablesAfter, exonsAfter}
 use Rattle.card.specs.Writing.{judgeCard}
 use Rattle.card.specs.laws.Putting.{put-as, put-front}
-use Rattle.playback.specs.Played.{played, playedText, cardTo, inputMade, inputPlayed}
-use Rattle.playback.specs.laws.Played.{input-made, input-played, no-input-made, no-input-played}
-use Rattle.playback.proofs.CardEnds.{Ends, ends, cut}
+use Rattle.playing.specs.Played.{played, playedText, cardTo, inputMade, inputPlayed}
+use Rattle.playing.specs.laws.Played.{input-made, input-played, no-input-made, no-input-played}
+use Rattle.playing.proofs.CardEnds.{Ends, ends, cut}
 use borrow.Author.Needs.{needs}
-use Rattle.playback.proofs.input.play_input.Statement.{statement}
-use Rattle.playback.proofs.input.play_input.Tie as tie
+use Rattle.playing.proofs.play_input.Statement.{statement}
+use Rattle.playing.proofs.play_input.Tie as tie
 
 -- the card is there
 module _ (c : tie.After-to) where

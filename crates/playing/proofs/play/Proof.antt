@@ -1,4 +1,4 @@
--- `playback::input::play` meets its contract: what building left is what the card made, for which the buffer has room; a refusal's line is put into the buffer that is as it was.
+-- `playing::play` meets its contract: what building left is what the card made, for which the buffer has room; a refusal's line is put into the buffer that is as it was.
 -- Assumes nothing.
 use mathlib.Core.Path.{_≡_, sym, ap, _∙_}
 use mathlib.Core.List.{List}
@@ -17,14 +17,14 @@ use Rattle.card.specs.Putting.{Put}
 use Rattle.card.specs.Writing.{judgeCard}
 use Rattle.card.specs.laws.Putting.{put-as, put-front}
 use Rattle.lines.specs.Listing.{refusalText}
 use Rattle.playback.specs.Replay.{replaying}
-use Rattle.playback.specs.Played.{lentBy, played, playedText}
+use Rattle.playing.specs.Played.{lentBy, played, playedText}
 use Rattle.playback.specs.laws.Replay.{replayed-short, replay-roomy}
-use Rattle.playback.specs.laws.Played.{played-made, played-refused}
-use Rattle.playback.proofs.Written.{text-is, refused-is, lent-made}
+use Rattle.playing.specs.laws.Played.{played-made, played-refused}
+use Rattle.playing.proofs.Written.{text-is, refused-is, lent-made}
 use borrow.Author.Needs.{needs}
-use Rattle.playback.proofs.input.play.Statement.{statement}
-use Rattle.playback.proofs.input.play.Tie as tie
+use Rattle.playing.proofs.play.Statement.{statement}
+use Rattle.playing.proofs.play.Tie as tie
 
 abbrev entry : tie.After-build-card → tie.Start
 entry c = c .before .before .before .before .before .before .before .before

@@ -6,8 +6,8 @@ ghost use Rattle.cigar.specs.Lent.{atFront};
 ghost use Rattle.segments.specs.Tables.{tables};
 ghost use Rattle.building.specs.Afterwards.{tablesAfter, exonsAfter};
 ghost use Rattle.card.specs.Writing.{judgeCard};
 ghost use Rattle.playback.specs.Lines.{mostReplay};
-ghost use Rattle.playback.specs.Played.{played, playedText, cardEnd, cardEndAnswer, inputMade, inputPlayed};
+ghost use Rattle.playing.specs.Played.{played, playedText, cardEnd, cardEndAnswer, inputMade, inputPlayed};
 use cigar::write::Written;
 use refusals::MOST_CARD;
 use refusals::MOST_SEGMENTS;
@@ -45,7 +45,7 @@ pub fn play(
 {
     match card::build_card(card, genome, transcript, letters, exons) {
         Built::Transcript(head) => {
-            match crate::replay(head, genome, transcript, letters, exons, log, text) {
+            match playback::replay(head, genome, transcript, letters, exons, log, text) {
                 Written::Text(n) => n,
                 Written::Refused(k) => lines::put_refusal(text, k),
             }

@@ -17,9 +17,9 @@ use Rattle.card.specs.Writing.{judgeCard}
 use Rattle.card.specs.laws.Taken.{card-sane}
 use Rattle.log.specs.Logs.{readLog}
 use Rattle.entries.specs.declared.Entry.{Entry}
 use Rattle.playback.specs.Replay.{replayed}
-use Rattle.playback.specs.Played.{lentBy, played, cardEnd, cardTo, inputMade, inputPlayed}
+use Rattle.playing.specs.Played.{lentBy, played, cardEnd, cardTo, inputMade, inputPlayed}
 use Rattle.playback.specs.laws.Replay.{AllRecorded, replayed-answered, nothing-written}
 
 -- ---- by what the card makes
 

@@ -14,9 +14,9 @@ use Rattle.judging.specs.Judging.{Made, elementsMade}
 use Rattle.building.specs.Afterwards.{headOf}
 use Rattle.card.specs.Writing.{judgeCard}
 use Rattle.lines.specs.Listing.{refusalText}
 use Rattle.playback.specs.Replay.{replayed}
-use Rattle.playback.specs.declared.input.CardEnd.{CardEnd}
-use Rattle.playback.specs.declared.input.CardEnd.the-variants as end
+use Rattle.playing.specs.declared.CardEnd.{CardEnd}
+use Rattle.playing.specs.declared.CardEnd.the-variants as end
 
 -- what building leaves of what it made: a head beside its tables and exon numbers
 abbrev pub lentBy : Made → Lent

@@ -16,7 +16,7 @@ use Rattle.holding.specs.Holding.{Lent, lent}
 use Rattle.judging.specs.Judging.{Made}
 use Rattle.building.specs.Afterwards.{headOf, tablesAfter, exonsAfter}
 use Rattle.building.specs.laws.Standing.{beside, Makes}
-use Rattle.playback.specs.Played.{lentBy}
+use Rattle.playing.specs.Played.{lentBy}
 
 -- ---- by the answer of writing
 

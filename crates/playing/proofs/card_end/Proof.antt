@@ -1,14 +1,14 @@
--- `playback::input::card_end` meets its contract: the tests are those of the definition.
+-- `playing::card_end` meets its contract: the tests are those of the definition.
 -- Assumes nothing.
 use Prim.Native.Nat.{_-_}
 use native.Mathlib.Omega.{arith}
 use borrow.Author.Tests.{lt-ltb, le-ltb}
 use lib.ListN.{length}
 use Rattle.refusals.specs.Numbers.{mostCard}
-use Rattle.playback.specs.Played.{sizeBytes, cardEnd}
+use Rattle.playing.specs.Played.{sizeBytes, cardEnd}
 use borrow.Author.Needs.{needs}
-use Rattle.playback.proofs.input.card_end.Statement.{statement}
-use Rattle.playback.proofs.input.card_end.Tie as tie
+use Rattle.playing.proofs.card_end.Statement.{statement}
+use Rattle.playing.proofs.card_end.Tie as tie
 
 returns : tie.Need-returns
 unfolding cardEnd

@@ -12,8 +12,8 @@ use Rattle.refusals.specs.Outcome.{Outcome, answered, refused}
 use Rattle.refusals.specs.laws.Outcomes.{clash, same}
 use Rattle.whole.specs.laws.Whole.{by-test}
 use Rattle.fields.specs.Fields.{le32}
-use Rattle.playback.specs.Played.{sizeBytes, cardEnd, cardEndAnswer}
-use Rattle.playback.specs.declared.input.CardEnd.the-variants as end
+use Rattle.playing.specs.Played.{sizeBytes, cardEnd, cardEndAnswer}
+use Rattle.playing.specs.declared.CardEnd.the-variants as end
 
 pub record Ends (s : List ℕ) (to : ℕ) : Type 0 where
   pub outcome : cardEnd s ≡ answered to
