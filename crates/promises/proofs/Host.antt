@@ -34,7 +34,8 @@ use Rattle.positions.specs.Positions.{Interval, NAsked, CAsked, GPosition, NPos
 use Rattle.positions.specs.Answers.{Mark, certain, uncertain, unmarked, Marked, Answer, chain}
 use Rattle.coding.specs.Coding.{cToN}
 use Rattle.places.specs.laws.Marks.{MarkedIf, gFell}
-use Rattle.mapper.specs.Asking.{given, askGToN, askNToG, askNToC, askCToN, askGToC, askCToG, askCoding, askInBounds}
+use Rattle.chaining.specs.Given.{given}
+use Rattle.mapper.specs.Asking.{askGToN, askNToG, askNToC, askCToN, askGToC, askCToG, askCoding, askInBounds}
 use Rattle.mapper.specs.Chains.{gToC, cToG}
 use Rattle.mapper.specs.laws.Marks.{cFell, g-to-c-marked, c-to-g-marked}
 use Rattle.mapper.specs.laws.Refusing.{gToCRefusals, cToGRefusals, g-to-c-refuses, c-to-g-refuses}

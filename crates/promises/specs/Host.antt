@@ -23,7 +23,7 @@ use Rattle.card.specs.Writing.{judgeCard}
 use Rattle.positions.specs.Answers.{certainly}
 use Rattle.coding.specs.Coding.{nToC, cToN}
 use Rattle.places.specs.Mapping.{inBounds}
-use Rattle.mapper.specs.Asking.{given, codes}
+use Rattle.chaining.specs.Given.{given, codes}
 use Rattle.layout.specs.Layout.{headAt, gAsked as asked, nAsked, cAsked, gLaid, nLaid, cLaid, laid, refusal, saidLaid}
 use Rattle.layout.specs.declared.lay.Answer.{Answer}
 use Rattle.layout.specs.declared.lay.Position.{Position}

@@ -16,17 +16,15 @@ ghost use Rattle.places.specs.Mapping.{gToN};
 ghost use Rattle.places.specs.Aligned.{alignedBy, Aligns};
 ghost use Rattle.places.specs.Lone.{nBeside, paperLone, RoomyLone};
 ghost use Rattle.mapper.specs.Asking.{askGToN, askGToC, askCToG};
-ghost use Rattle.mapper.specs.Knowing.{paperCoding};
+ghost use Rattle.knowing.specs.Knowing.{paperCoding};
 ghost use Rattle.layout.specs.Layout.{gAsked, cAsked, gLaid, nLaid, cLaid, laid};
 ghost use Rattle.telling.specs.Telling.{sureN, sureC, sureG, loneC};
+use chaining::Given;
+use knowing::Coding;
+use knowing::Known;
 use layout::lay;
 use layout::lay::Answer;
 use layout::take;
-use mapper::knowing;
-use mapper::knowing::Coding;
-use mapper::knowing::Known;
-use mapper::steps;
-use mapper::steps::Given;
 use numbering::Place;
 use places::Alignment;
 use places::Lone;
@@ -95,7 +93,7 @@ pub fn g_to_n(
     ensures { λ r. ⌜ r ≡ laid nLaid (checked (lent head (now (genome .entry)) (now (transcript .entry)) (now (letters .entry)) (now (exons .entry))) (askGToN strict (gAsked start end missing))) ⌝ }
 {
     match knowing::known_of(head, genome, transcript, letters, exons) {
-        Known::Aligned(at, _) => match steps::both_ends(take::g_asked(start, end, missing)) {
+        Known::Aligned(at, _) => match chaining::both_ends(take::g_asked(start, end, missing)) {
             Given::Ends(from, to) => {
                 if is_base(from, to) {
                     let lone = places::lone_g(at, genome, transcript, letters, from, strict);
@@ -173,7 +171,7 @@ fn beside_c(
     let count = at.count;
     let len = places::last(transcript, count);
     let n = places::beside_n(at, transcript, exons, place, number);
-    steps::then_n_to_c(n, len, cds, strict)
+    chaining::then_n_to_c(n, len, cds, strict)
 }
 
 // The c. interval of any g. interval.
@@ -194,7 +192,7 @@ fn interval_c(
     let count = at.count;
     let len = places::last(transcript, count);
     let n = places::to_n(at, genome, transcript, letters, exons, from, to, strict);
-    steps::then_n_to_c(n, len, cds, strict)
+    chaining::then_n_to_c(n, len, cds, strict)
 }
 
 // g. to c.: g. to n. wholly, then n. to c.
@@ -212,7 +210,7 @@ pub fn g_to_c(
     ensures { λ r. ⌜ r ≡ laid cLaid (checked (lent head (now (genome .entry)) (now (transcript .entry)) (now (letters .entry)) (now (exons .entry))) (askGToC strict (gAsked start end missing))) ⌝ }
 {
     match knowing::known_of(head, genome, transcript, letters, exons) {
-        Known::Aligned(at, cds) => match steps::both_ends(take::g_asked(start, end, missing)) {
+        Known::Aligned(at, cds) => match chaining::both_ends(take::g_asked(start, end, missing)) {
             Given::Ends(from, to) => {
                 if is_base(from, to) {
                     let lone = places::lone_g(at, genome, transcript, letters, from, strict);
@@ -325,12 +323,12 @@ pub fn c_to_g(
             let count = again.count;
             let len = places::last(transcript, count);
             let c = take::c_asked(start, start_offset, start_star, end, end_offset, end_star);
-            let n = steps::c_to_n(len, knowing::coding_of(head), c, strict);
-            lay::lay_g(steps::then_n_to_g(n, again, genome, transcript, letters, exons, strict))
+            let n = chaining::c_to_n(len, knowing::coding_of(head), c, strict);
+            lay::lay_g(chaining::then_n_to_g(n, again, genome, transcript, letters, exons, strict))
         }
         Known::OfLength(length, cds) => {
             let c = take::c_asked(start, start_offset, start_star, end, end_offset, end_star);
-            lay::lay_g(steps::then_no_genome(steps::c_to_n(length, cds, c, strict)))
+            lay::lay_g(chaining::then_no_genome(chaining::c_to_n(length, cds, c, strict)))
         }
         Known::Broken => lay::refusal_of(NOT_TOGETHER),
     }

@@ -57,7 +57,7 @@ use Rattle.places.specs.Aligned.{alignedBy, Aligns}
 use Rattle.places.specs.declared.Alignment.{Alignment}
 use Rattle.places.proofs.Alignment as Al
 use Rattle.places.proofs.Alignment.Laws as Al′
-use Rattle.mapper.specs.Knowing.{alignmentOf}
+use Rattle.knowing.specs.Knowing.{alignmentOf}
 use Rattle.worklist.specs.laws.Shared.{Starts, Letters, Exons, placed, Owned, owned-twice}
 use Rattle.worklist.specs.declared.Slot.{Slot}
 use Rattle.worklist.specs.declared.Steps.{Steps}
@@ -77,10 +77,10 @@ use Rattle.worklist.proofs.why_not as why
 use Rattle.worklist.proofs.why_not.Symbol as why-def
 use Rattle.worklist.proofs.why_not.Symbol.{name as #why}
 use Rattle.worklist.proofs.why_not.Met as why-thm
-use Rattle.mapper.proofs.knowing.alignment as lying
-use Rattle.mapper.proofs.knowing.alignment.Symbol as lying-def
-use Rattle.mapper.proofs.knowing.alignment.Symbol.{name as #lying}
-use Rattle.mapper.proofs.knowing.alignment.Met as lying-thm
+use Rattle.knowing.proofs.alignment as lying
+use Rattle.knowing.proofs.alignment.Symbol as lying-def
+use Rattle.knowing.proofs.alignment.Symbol.{name as #lying}
+use Rattle.knowing.proofs.alignment.Met as lying-thm
 use Rattle.worklist.proofs.walk.fill as fill
 use Rattle.worklist.proofs.walk.fill.Symbol as fill-def
 use Rattle.worklist.proofs.walk.fill.Symbol.{name as #fill}
