@@ -43,12 +43,12 @@ use Rattle.layout.specs.Layout.{headAt, gAsked as asked, nAsked, cAsked, gLaid,
 use Rattle.layout.specs.declared.lay.Position.{Position}
 use Rattle.results.specs.Results.{builtNumber, builtHead}
 use Rattle.worklist.specs.Worklist.{positionsOf, neverFalls, askSteps, stepsLaid}
 use Rattle.promises.specs.Bases.{Name, ExonNumbers}
 use Rattle.promises.specs.Demands.{ours, strict, madeOf, Builds, Named, NamedByRecords, recordsAdded, answerUp, Keeps}
-use Rattle.promises.specs.Refusals.{buildingRefusals, cardRefusals, lengthRefusals}
-use Rattle.promises.specs.Host.{Way, of-records, of-card, judgment, input, toldBuilding, writtenBy, Sees, Host-sees, writtenByLength, SeesLength, Host-sees-length, ToldName, Host-2, placeUp, toldUp, KeepsTold, Host-3}
-use Rattle.promises.proofs.Refusals.{refusals}
+use Rattle.refusing.specs.Refusals.{buildingRefusals, cardRefusals, lengthRefusals}
+use Rattle.hosts.specs.Host.{Way, of-records, of-card, judgment, input, toldBuilding, writtenBy, Sees, Host-sees, writtenByLength, SeesLength, Host-sees-length, ToldName, Host-2, placeUp, toldUp, KeepsTold, Host-3}
+use Rattle.refusing.proofs.Refusals.{refusals}
 use Rattle.promises.proofs.Promises.{host-builds, demand-2-built, demand-3}
 
 -- ---- 0 is no refusal
 

@@ -21,7 +21,7 @@ use Rattle.asking.specs.Asking.{asked, recorded}
 use Rattle.asking.specs.laws.Making.{made-is}
 use Rattle.playback.specs.Replay.{differs, differing, replayText, roomed, replaying}
 use Rattle.playback.specs.laws.Replay.{AllRecorded, no-entry, one-more, differs-not, differs-says, listed-where, indices-rise, nothing-written, replay-broken, replay-answered, replay-refused}
-use Rattle.promises.specs.Playing.{zeroLine, Own-log-0, Lists, Lists-differing}
+use Rattle.hosts.specs.Playing.{zeroLine, Own-log-0, Lists, Lists-differing}
 
 all-recorded : (x : Lent) (qs : List Question) → AllRecorded x (map (recorded x) qs)
 all-recorded x [] = no-entry

@@ -54,7 +54,7 @@ use Rattle.log.specs.Logs.{headerBytes, isHeaded, allCanonical, entriesIn, read
 use Rattle.entries.specs.declared.Entry.{Entry}
 use Rattle.asking.specs.Asking.{recorded, recording}
 use Rattle.playback.specs.Replay.{replayed, roomed, replaying}
-use Rattle.promises.specs.Refusals.{Refusals, readingRefusals, writingRefusals, readingWordsRefusals, writingWordsRefusals, recordsRefusals, buildingRefusals, cardRefusals, lengthRefusals, cardWritingRefusals, turningRefusals, joiningRefusals, recordingRefusals, replayRefusals}
+use Rattle.refusing.specs.Refusals.{Refusals, readingRefusals, writingRefusals, readingWordsRefusals, writingWordsRefusals, recordsRefusals, buildingRefusals, cardRefusals, lengthRefusals, cardWritingRefusals, turningRefusals, joiningRefusals, recordingRefusals, replayRefusals}
 
 -- ---- rows
 
