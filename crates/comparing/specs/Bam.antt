@@ -10,7 +10,7 @@ use Rattle.fields.specs.Fields.{le32}
 use Rattle.refusals.specs.Numbers.{mostSegments}
 use Rattle.cigar.specs.Text.{Reading, countedOf}
 use Rattle.cigar.specs.Read.{countsAfter, lettersAfter}
-use Rattle.cigar.specs.Write.{Writing, bufferAfter}
+use Rattle.spelling.specs.Write.{Writing, bufferAfter}
 use Rattle.words.specs.Words.{readWords, writeWords, countedWords}
 use Rattle.segments.specs.Tables.{allBelow}
 use Rattle.results.specs.Results.{countedLaid}

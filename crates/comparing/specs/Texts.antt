@@ -11,7 +11,7 @@ use Rattle.fields.specs.Fields.{le32, signed32}
 use Rattle.refusals.specs.Numbers.{mostSegments}
 use Rattle.cigar.specs.Text.{Reading, countedOf}
 use Rattle.cigar.specs.Read.{readText, countsAfter, lettersAfter}
-use Rattle.cigar.specs.Write.{Writing, writing, writtenAnswer, bufferAfter}
+use Rattle.spelling.specs.Write.{Writing, writing, writtenAnswer, bufferAfter}
 use Rattle.segments.specs.Tables.{allBelow}
 use Rattle.card.specs.Layout.{recordsAt}
 use Rattle.card.specs.Writing.{cardWriting}

@@ -4,7 +4,7 @@ ghost use mathlib.Core.Path.{_≡_};
 ghost use lib.ListN.{length};
 ghost use Rattle.cigar.specs.Text.{countedOf};
 ghost use Rattle.cigar.specs.Read.{countsAfter, lettersAfter};
-ghost use Rattle.cigar.specs.Write.{bufferAfter};
+ghost use Rattle.spelling.specs.Write.{bufferAfter};
 ghost use Rattle.words.specs.Words.{readWords, writeWords, countedWords};
 ghost use Rattle.results.specs.Results.{countedLaid};
 use layout::lay::Length;

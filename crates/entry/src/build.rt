@@ -1,7 +1,7 @@
 // Building for the host: the head and the four tables are lent, and a refusal leaves all of them. And a card, written into a lent buffer.
 ghost use mathlib.Core.Path.{_≡_};
 ghost use lib.ListN.{length};
-ghost use Rattle.cigar.specs.Write.{writtenAnswer, bufferAfter};
+ghost use Rattle.spelling.specs.Write.{writtenAnswer, bufferAfter};
 ghost use Rattle.segments.specs.Tables.{tables};
 ghost use Rattle.judging.specs.Input.{numbersOf};
 ghost use Rattle.judging.specs.Judging.{judge, judgeLength};

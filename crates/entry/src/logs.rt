@@ -1,7 +1,7 @@
 // A question as one value for the host: asked, recorded in a log, and a log replayed.
 ghost use mathlib.Core.Path.{_≡_};
 ghost use lib.ListN.{length};
-ghost use Rattle.cigar.specs.Write.{writtenAnswer, bufferAfter};
+ghost use Rattle.spelling.specs.Write.{writtenAnswer, bufferAfter};
 ghost use Rattle.layout.specs.Layout.{lentAt};
 ghost use Rattle.log.specs.Logs.{appendedOf, logAfter};
 ghost use Rattle.asking.specs.Asking.{asked, recording, recordedLaid};

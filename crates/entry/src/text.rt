@@ -3,7 +3,7 @@ ghost use mathlib.Core.Path.{_≡_};
 ghost use lib.ListN.{length};
 ghost use Rattle.cigar.specs.Text.{countedOf};
 ghost use Rattle.cigar.specs.Read.{readText, countsAfter, lettersAfter};
-ghost use Rattle.cigar.specs.Write.{writing, writtenAnswer, bufferAfter};
+ghost use Rattle.spelling.specs.Write.{writing, writtenAnswer, bufferAfter};
 ghost use Rattle.sequences.specs.Alleles.{prefixLen, suffixLen, changedPart};
 ghost use Rattle.results.specs.Results.{countedLaid, writtenLaid, partLaid};
 use layout::lay::Length;
@@ -35,7 +35,7 @@ pub extern "C" fn txc_write_cigar(
     ensures { λ r. ⌜ r ≡ writtenLaid (writtenAnswer (writing number (now (counts .entry)) (now (letters .entry)) (length (now (buffer .entry))))) ⌝ }
     ensures { λ _. ⌜ now (buffer .exit) ≡ bufferAfter (now (buffer .entry)) (writing number (now (counts .entry)) (now (letters .entry)) (length (now (buffer .entry)))) ⌝ }
 {
-    results::written_laid(cigar::write::write_cigar(number, counts, letters, buffer))
+    results::written_laid(spelling::write_cigar(number, counts, letters, buffer))
 }
 
 // How many bytes two alleles have in common from the front.

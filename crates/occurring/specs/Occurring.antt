@@ -7,7 +7,7 @@ use lib.ListN.{length, replicate, drop}
 use Rattle.refusals.specs.Outcome.{refused}
 use Rattle.cigar.specs.Elements.{letterD, letterM}
 use Rattle.cigar.specs.Read.{readText}
-use Rattle.cigar.specs.Write.{writing}
+use Rattle.spelling.specs.Write.{writing}
 use Rattle.words.specs.Words.{readWords, writeWords}
 use Rattle.records.specs.Records.{Record}
 use Rattle.judging.specs.Input.{inputOf, numbersOf}

@@ -2,7 +2,7 @@
 ghost use mathlib.Core.Path.{_≡_};
 ghost use Prim.Native.Nat.{_+_, _*_, _≤_};
 ghost use lib.ListN.{length};
-ghost use Rattle.cigar.specs.Write.{writtenAnswer, bufferAfter};
+ghost use Rattle.spelling.specs.Write.{writtenAnswer, bufferAfter};
 ghost use Rattle.holding.specs.Holding.{lent};
 ghost use Rattle.card.specs.Putting.{Put};
 ghost use Rattle.log.specs.Layout.{entriesAt};
@@ -12,7 +12,6 @@ ghost use Rattle.log.specs.Logs.{entriesFrom};
 ghost use Rattle.playback.specs.Lines.{linesOf, mostEntries};
 ghost use Rattle.playback.specs.Replay.{samePosition, sameAnswer, differs, differing, roomed, replayText};
 use crate::text;
-use cigar::write::Written;
 use entries::ENTRY_SIZE;
 use layout::lay;
 use layout::lay::Answer;
@@ -21,6 +20,7 @@ use log::ENTRIES_AT;
 use refusals::MOST_SEGMENTS;
 use refusals::MOST_STARTS;
 use refusals::NO_ROOM;
+use spelling::Written;
 use transcript::Head;
 
 // How many entries differ, and how many bytes the lines of their indices take.

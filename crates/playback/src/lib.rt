@@ -1,14 +1,14 @@
 // A log replayed: which of its questions a transcript answers otherwise than is recorded.
 ghost use mathlib.Core.Path.{_≡_};
 ghost use lib.ListN.{length};
-ghost use Rattle.cigar.specs.Write.{writtenAnswer, bufferAfter};
+ghost use Rattle.spelling.specs.Write.{writtenAnswer, bufferAfter};
 ghost use Rattle.holding.specs.Holding.{lent};
 ghost use Rattle.playback.specs.Replay.{replaying};
-use cigar::write::Written;
 use log::ReadLog;
 use refusals::MOST_SEGMENTS;
 use refusals::MOST_STARTS;
 use refusals::NOT_TOGETHER;
+use spelling::Written;
 use transcript::Head;
 
 pub mod differing;

@@ -8,8 +8,8 @@ use Prim.Native.Nat.{ℕ}
 use native.Mathlib.Omega.{arith}
 use lib.ListN.{length}
 use Rattle.refusals.specs.Outcome.{Outcome, answered, refused}
-use Rattle.cigar.specs.Write.{writtenAnswer}
-use Rattle.cigar.specs.declared.write.Written.the-variants as written
+use Rattle.spelling.specs.Write.{writtenAnswer}
+use Rattle.spelling.specs.declared.Written.the-variants as written
 use Rattle.segments.specs.Tables.{Tables, tables}
 use Rattle.transcript.specs.declared.Head.{Head}
 use Rattle.holding.specs.Holding.{Lent, lent}

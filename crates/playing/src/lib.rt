@@ -8,12 +8,12 @@ ghost use Rattle.building.specs.Afterwards.{tablesAfter, exonsAfter};
 ghost use Rattle.card.specs.Writing.{judgeCard};
 ghost use Rattle.playback.specs.Lines.{mostReplay};
 ghost use Rattle.playing.specs.Played.{played, playedText, cardEnd, cardEndAnswer, inputMade, inputPlayed};
-use cigar::write::Written;
 use refusals::MOST_CARD;
 use refusals::MOST_SEGMENTS;
 use refusals::MOST_STARTS;
 use refusals::NO_CARD;
 use refusals::TOO_MUCH;
+use spelling::Written;
 use transcript::Built;
 
 // A card's size is a number of 32 bits.

@@ -5,7 +5,7 @@ use Rattle.numbering.specs.Numbers.{nOfPlace, placeOfN, cOfN, nOfC, skipZero}
 use Rattle.cigar.specs.Elements.{isLetter, kindOf, genome, transcript, total}
 use Rattle.cigar.specs.Text.{readFrom}
 use Rattle.cigar.specs.Read.{readText}
-use Rattle.cigar.specs.Write.{digitsBy, decimal, elementText, elementsText}
+use Rattle.spelling.specs.Write.{digitsBy, decimal, elementText, elementsText}
 use Rattle.segments.specs.Tables.{entriesFrom}
 use Rattle.segments.specs.Places.{firstBelow, indexOf, spotIn, nearer, mapByTables, mapPlace}
 use Rattle.segments.specs.Exons.{exonFound, exonChosen}

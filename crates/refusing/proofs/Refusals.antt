@@ -19,7 +19,7 @@ use Rattle.fields.specs.Fields.{le16}
 use Rattle.cigar.specs.Elements.{isLetter}
 use Rattle.cigar.specs.Text.{Reading, isDigit, countOf, readFrom}
 use Rattle.cigar.specs.Read.{readText}
-use Rattle.cigar.specs.Write.{elementsText, givenFrom, elementsGiven, fitted, textOf, writing}
+use Rattle.spelling.specs.Write.{elementsText, givenFrom, elementsGiven, fitted, textOf, writing}
 use Rattle.words.specs.Words.{allKnown, readWords, faultOf, faultFrom, writeWords}
 use Rattle.records.specs.Records.{Record, exactly}
 use Rattle.records.specs.Faults.{_orElse_, spanFault, startFault, riseFault, joinFault, ownFault, followFault, pairFault, faultsAfter, faults}

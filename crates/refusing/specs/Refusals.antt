@@ -6,7 +6,7 @@ use lib.IntN.{ℤ}
 use Rattle.refusals.specs.Numbers.{noRecords, noStrand, tooMuch, badBound, badOrd, notAdjacent, noElement, badCount, tooLong, noSegment, halfCds, badCds, noRoom, noCard, badVersion, notTogether, noOperation, noWord, notSpanning, noBase, noLog}
 use Rattle.refusals.specs.Refusing.{Only}
 use Rattle.cigar.specs.Read.{readText}
-use Rattle.cigar.specs.Write.{writing}
+use Rattle.spelling.specs.Write.{writing}
 use Rattle.words.specs.Words.{readWords, writeWords}
 use Rattle.transcript.specs.declared.Numbers.{Numbers}
 use Rattle.judging.specs.Judging.{judge, judgeLength}

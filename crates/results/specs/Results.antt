@@ -13,8 +13,8 @@ use Rattle.layout.specs.declared.lay.Length.{Length}
 use Rattle.results.specs.declared.Part.{Part}
 use Rattle.cigar.specs.declared.Counted.{Counted}
 use Rattle.cigar.specs.declared.Counted.the-variants as counted
-use Rattle.cigar.specs.declared.write.Written.{Written}
-use Rattle.cigar.specs.declared.write.Written.the-variants as written
+use Rattle.spelling.specs.declared.Written.{Written}
+use Rattle.spelling.specs.declared.Written.the-variants as written
 use Rattle.sequences.specs.declared.Part as alleles
 
 abbrev pub lengthLaid : ℕ → Length

@@ -3,8 +3,8 @@ ghost use mathlib.Core.Path.{_≡_};
 ghost use Rattle.layout.specs.Layout.{headRow};
 ghost use Rattle.results.specs.Results.{countedLaid, writtenLaid, numberLaid, partLaid, builtNumber, builtHead};
 use cigar::Counted;
-use cigar::write::Written;
 use layout::lay::Length;
+use spelling::Written;
 use transcript::Built;
 use transcript::Head;
 

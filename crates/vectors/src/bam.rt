@@ -2,7 +2,7 @@
 ghost use mathlib.Core.Path.{_≡_};
 ghost use lib.ListN.{length};
 ghost use Rattle.cigar.specs.Read.{countsAfter, lettersAfter};
-ghost use Rattle.cigar.specs.Write.{bufferAfter};
+ghost use Rattle.spelling.specs.Write.{bufferAfter};
 ghost use Rattle.words.specs.Words.{readWords, writeWords};
 ghost use Rattle.rows.specs.Rows.{recordedSize};
 ghost use Rattle.comparing.specs.Bam.{wordsPut, elementsAgree, wordsAgree, readBamAgrees, writeBamAgrees, bamRowAgrees};

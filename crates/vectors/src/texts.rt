@@ -1,7 +1,7 @@
 // Rows about CIGAR text, cards that are written, and alleles: each asks the boundary and says whether it answers as recorded.
 ghost use mathlib.Core.Path.{_≡_};
 ghost use lib.ListN.{length};
-ghost use Rattle.cigar.specs.Write.{writing, bufferAfter};
+ghost use Rattle.spelling.specs.Write.{writing, bufferAfter};
 ghost use Rattle.card.specs.Writing.{cardWriting};
 ghost use Rattle.rows.specs.Rows.{recordedSize};
 ghost use Rattle.comparing.specs.Changes.{recordedNumbers};

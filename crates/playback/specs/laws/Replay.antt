@@ -24,7 +24,7 @@ use Rattle.refusals.specs.Refusing.{oneOf}
 use Rattle.refusals.specs.laws.Outcomes.{clash, same}
 use Rattle.whole.specs.Whole.{eqZ}
 use Rattle.whole.specs.laws.Whole.{by-test, both}
-use Rattle.cigar.specs.Write.{digitsBy, decimal}
+use Rattle.spelling.specs.Write.{digitsBy, decimal}
 use Rattle.holding.specs.Holding.{Lent, holds, checked}
 use Rattle.layout.specs.declared.lay.Position.{Position}
 use Rattle.layout.specs.declared.lay.Answer.{Answer}

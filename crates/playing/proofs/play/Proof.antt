@@ -7,7 +7,7 @@ use native.Mathlib.Omega.{arith}
 use lib.ListN.{length}
 use Rattle.refusals.specs.Outcome.{Outcome, refused}
 use Rattle.cigar.specs.Lent.{atFront}
-use Rattle.cigar.specs.Write.{writtenAnswer, bufferAfter}
+use Rattle.spelling.specs.Write.{writtenAnswer, bufferAfter}
 use Rattle.segments.specs.Tables.{tables}
 use Rattle.transcript.specs.declared.Head.{Head}
 use Rattle.holding.specs.Holding.{Lent, lent}

@@ -8,7 +8,7 @@ use Rattle.whole.specs.laws.Whole.{told}
 use borrow.Author.Tests.{eq-eqb, ne-eqb}
 use lib.ListN.{length}
 use Rattle.sequences.specs.Slices.{Slice}
-use Rattle.cigar.specs.Write.{writtenAnswer, bufferAfter}
+use Rattle.spelling.specs.Write.{writtenAnswer, bufferAfter}
 use Rattle.card.specs.Layout.{recordsAt}
 use Rattle.card.specs.Writing.{cardWriting}
 use Rattle.layout.specs.declared.lay.Length.{Length}

@@ -20,13 +20,13 @@ use Rattle.whole.specs.laws.Whole.{by-test}
 use Rattle.refusals.specs.Numbers.{mostCount, mostSegments, mostText}
 use Rattle.refusals.specs.Outcome.{answered, refused}
 use Rattle.refusals.specs.laws.Outcomes.{clash, same}
 use Rattle.cigar.specs.Elements.{Element, isLetter}
 use Rattle.cigar.specs.Text.{Reading, before, element, readAll}
 use Rattle.cigar.specs.laws.Sound.{Sound, AllSound, read-sound, read-room}
 use Rattle.cigar.specs.Lent.{atFront}
 use Rattle.cigar.specs.Read.{readText, countsOf, lettersOf}
-use Rattle.cigar.specs.Write.{elementsText, givenFrom, elementsGiven, textOf, writing}
-use Rattle.cigar.specs.laws.RoundTrip.{read-back, shorter}
+use Rattle.spelling.specs.Write.{elementsText, givenFrom, elementsGiven, textOf, writing}
+use Rattle.spelling.specs.laws.RoundTrip.{read-back, shorter}
 
 -- elements that stand after some others in both tables
 given-after : (es : List Element) (cs : List ℤ) (ls : List ℕ) (counts : List ℤ) (letters : List ℕ) (i : ℕ) → length cs ≡ i → length ls ≡ i → AllSound es

@@ -1,17 +1,17 @@
--- `cigar::write::write_cigar` meets its contract: the size is known first, so that a refusal stores nothing. Assumes nothing.
+-- `spelling::write_cigar` meets its contract: the size is known first, so that a refusal stores nothing. Assumes nothing.
 use mathlib.Core.Path.{_≡_, refl, sym, ap, _∙_}
 use Prim.Native.Nat.{_≤_}
 use native.Mathlib.Omega.{arith}
 use lib.ListN.{length}
 use Rattle.refusals.specs.Numbers.{mostSegments}
 use Rattle.cigar.specs.Text.{Reading, elementsIn}
 use Rattle.cigar.specs.laws.Lent.{sets-front}
-use Rattle.cigar.specs.Write.{elementsText, elementsGiven, sizeOf}
-use Rattle.cigar.specs.declared.write.Written.the-variants as answer
-use Rattle.cigar.proofs.Writing.{sized, many-written, refused-written, large-written, full-written, text-written}
+use Rattle.spelling.specs.Write.{elementsText, elementsGiven, sizeOf}
+use Rattle.spelling.specs.declared.Written.the-variants as answer
+use Rattle.spelling.proofs.Writing.{sized, many-written, refused-written, large-written, full-written, text-written}
 use borrow.Author.Needs.{needs}
-use Rattle.cigar.proofs.write.write_cigar.Statement.{statement}
-use Rattle.cigar.proofs.write.write_cigar.Tie as tie
+use Rattle.spelling.proofs.write_cigar.Statement.{statement}
+use Rattle.spelling.proofs.write_cigar.Tie as tie
 
 returns : tie.Need-returns
 returns c =

@@ -1,4 +1,4 @@
--- `cigar::write::unsigned` meets its contract: a number that is not negative is its own size. Assumes nothing.
+-- `spelling::unsigned` meets its contract: a number that is not negative is its own size. Assumes nothing.
 use mathlib.Core.Path.{_≡_, ap}
 use mathlib.Core.Bool.{true≢false, false}
 use native.Mathlib.Omega.{arith}
@@ -8,8 +8,8 @@ use lib.Signed.{ltZ, nonNeg}
 use mir.Syntax.{w32}
 use mir.Val.{Fits, SFits}
 use Rattle.whole.specs.laws.Whole.{read}
-use Rattle.cigar.proofs.write.unsigned.Statement.{statement}
-use Rattle.cigar.proofs.write.unsigned.Tie as tie
+use Rattle.spelling.proofs.unsigned.Statement.{statement}
+use Rattle.spelling.proofs.unsigned.Tie as tie
 
 not-negative : (z : ℤ) → ltZ z (pos 0) ≡ false → SFits w32 z → T (nonNeg z) × Fits w32 (natAbs z)
 not-negative (pos n) h f = (tt, omega (arith, f .sfits))

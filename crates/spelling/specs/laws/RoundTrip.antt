@@ -21,14 +21,14 @@ use Rattle.whole.specs.Whole.{if_then_else_}
 use Rattle.whole.specs.laws.Whole.{by-test}
 use Rattle.refusals.specs.Numbers.{mostCount}
 use Rattle.refusals.specs.Outcome.{answered, refused}
 use Rattle.cigar.specs.Bytes.{ascii}
 use Rattle.cigar.specs.Elements.{Element, isLetter}
 use Rattle.cigar.specs.laws.Letters.{digit-bounds, digit-yes, letter-no-digit}
 use Rattle.cigar.specs.Text.{isDigit, countOf, Reading, before, element, taken, readFrom, readAll}
 use Rattle.cigar.specs.Read.{readText}
 use Rattle.cigar.specs.laws.Sound.{AllSound, read-sound, read-room}
-use Rattle.cigar.specs.Write.{digitsBy, decimal, elementText, elementsText}
-use Rattle.cigar.specs.laws.Decimal.{decimal-one, decimal-more, length-more, text-one, text-more, text-length}
+use Rattle.spelling.specs.Write.{digitsBy, decimal, elementText, elementsText}
+use Rattle.spelling.specs.laws.Decimal.{decimal-one, decimal-more, length-more, text-one, text-more, text-length}
 
 -- a digit in front
 read-digit : (room : ℕ) (given : Bool) (m d : ℕ) (s : List ℕ) → d < 10 → readFrom room given m ((48 + d) ∷ s) ≡ readFrom room true (m * 10 + d) s

@@ -1,4 +1,4 @@
--- `cigar::write::element_size` meets its contract: the tests that led to each `return` say which case of `judged` holds. Assumes nothing.
+-- `spelling::element_size` meets its contract: the tests that led to each `return` say which case of `judged` holds. Assumes nothing.
 use mathlib.Core.Path.{_≡_, refl, sym, ap, _∙_}
 use mathlib.Core.Bool.{true, false}
 use Prim.Native.Nat.{ℕ}
@@ -6,13 +6,13 @@ use lib.IntN.{pos, natAbs}
 use lib.ListN.{length}
 use lib.Signed.{ltZ}
 use Rattle.whole.specs.laws.Whole.{read}
 use Rattle.cigar.specs.Elements.{isLetter}
-use Rattle.cigar.specs.Write.{elementText}
-use Rattle.cigar.specs.declared.write.Written.the-variants as answer
-use Rattle.cigar.proofs.Writing.{alone-long}
+use Rattle.spelling.specs.Write.{elementText}
+use Rattle.spelling.specs.declared.Written.the-variants as answer
+use Rattle.spelling.proofs.Writing.{alone-long}
 use borrow.Author.Needs.{needs}
-use Rattle.cigar.proofs.write.element_size.Statement.{statement}
-use Rattle.cigar.proofs.write.element_size.Tie as tie
+use Rattle.spelling.proofs.element_size.Statement.{statement}
+use Rattle.spelling.proofs.element_size.Tie as tie
 
 returns : tie.Need-returns
 returns c =

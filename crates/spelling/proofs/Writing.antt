@@ -18,12 +18,12 @@ use borrow.Author.Tests.{lt-ltb, le-ltb}
 use Rattle.whole.specs.laws.Whole.{by-test}
 use Rattle.refusals.specs.Numbers.{tooMuch, noRoom, mostSegments, mostText}
 use Rattle.refusals.specs.Outcome.{answered, refused, Answered}
 use Rattle.cigar.specs.Elements.{Element, isLetter}
 use Rattle.cigar.specs.Text.{Reading, before, element, elementsIn}
 use Rattle.cigar.specs.laws.Steps.{answered-before}
-use Rattle.cigar.specs.Write.{elementText, elementsText, judged, elementsGiven, givenFrom, fitted, textOf, writing, sizeOf}
-use Rattle.cigar.specs.declared.write.Written.{Written}
-use Rattle.cigar.specs.declared.write.Written.the-variants as answer
+use Rattle.spelling.specs.Write.{elementText, elementsText, judged, elementsGiven, givenFrom, fitted, textOf, writing, sizeOf}
+use Rattle.spelling.specs.declared.Written.{Written}
+use Rattle.spelling.specs.declared.Written.the-variants as answer
 
 -- the elements from place i on
 abbrev pub leftOf : List ℤ → List ℕ → ℕ → ℕ → Reading

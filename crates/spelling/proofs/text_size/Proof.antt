@@ -1,4 +1,4 @@
--- `cigar::write::text_size` meets its contract. The loop keeps that the whole size is the sum so far and the size of what is left. Assumes nothing.
+-- `spelling::text_size` meets its contract. The loop keeps that the whole size is the sum so far and the size of what is left. Assumes nothing.
 use mathlib.Core.Path.{_≡_, sym, ap, subst, _∙_}
 use mathlib.Core.List.{[]}
 use Prim.Native.Nat.{ℕ, _+_, _*_, _-_, _≤_}
@@ -8,12 +8,12 @@ use lib.ListN.{getD}
 use mir.Syntax.{w32}
 use Rattle.refusals.specs.Outcome.{answered}
 use Rattle.whole.specs.laws.Whole.{told}
 use Rattle.cigar.specs.Text.{Reading}
-use Rattle.cigar.specs.Write.{judged, elementsGiven, sizeOf, AtMost}
-use Rattle.cigar.proofs.Writing.{leftOf, left-all, left-more, left-none, sizeFrom, size-all, size-none, size-more, size-refused}
+use Rattle.spelling.specs.Write.{judged, elementsGiven, sizeOf, AtMost}
+use Rattle.spelling.proofs.Writing.{leftOf, left-all, left-more, left-none, sizeFrom, size-all, size-none, size-more, size-refused}
 use borrow.Author.Needs.{needs}
-use Rattle.cigar.proofs.write.text_size.Statement.{statement}
-use Rattle.cigar.proofs.write.text_size.Tie as tie
+use Rattle.spelling.proofs.text_size.Statement.{statement}
+use Rattle.spelling.proofs.text_size.Tie as tie
 
 abbrev Inv-loop : tie.InvT-loop
 Inv-loop number counts letters total₀ i₀ total i =
