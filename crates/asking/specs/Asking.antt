@@ -10,9 +10,9 @@ use Rattle.whole.specs.Whole.{if_then_else_}
 use Rattle.holding.specs.Holding.{Lent, checked}
 use Rattle.mapper.specs.Asking.{askGToN, askNToG, askNToC, askCToN, askGToC, askCToG}
 use Rattle.layout.specs.Layout.{starOf, gLaid, nLaid, cLaid, refusal, laid}
-use Rattle.layout.specs.Questions.{gToN, nToG, nToC, cToN, gToC, isStrict, gOf, nOf, cOf}
+use Rattle.taking.specs.Questions.{gToN, nToG, nToC, cToN, gToC, isStrict, gOf, nOf, cOf}
 use Rattle.layout.specs.declared.lay.Answer.{Answer}
-use Rattle.layout.specs.declared.question.Question.{Question}
+use Rattle.taking.specs.declared.question.Question.{Question}
 use Rattle.canonical.specs.Canonical.{holdable}
 use Rattle.log.specs.Logs.{appending}
 use Rattle.entries.specs.declared.Entry.{Entry}

@@ -6,7 +6,7 @@ use lib.ListN.{length}
 use Rattle.refusals.specs.Outcome.{answered}
 use Rattle.fields.specs.laws.RoundTrips.{Bytes}
 use Rattle.holding.specs.Holding.{Lent}
-use Rattle.layout.specs.declared.question.Question.{Question}
+use Rattle.taking.specs.declared.question.Question.{Question}
 use Rattle.entries.specs.Entries.{QuestionFits}
 use Rattle.log.specs.Logs.{logAfter}
 use Rattle.entries.specs.declared.Entry.{Entry}

@@ -6,17 +6,17 @@ ghost use Rattle.asking.specs.Asking.{named, asked, recording, recordedL
 use entries::Entry;
 use layout::lay;
 use layout::lay::Answer;
-use layout::question;
-use layout::question::C_TO_N;
-use layout::question::G_TO_C;
-use layout::question::G_TO_N;
-use layout::question::N_TO_C;
-use layout::question::N_TO_G;
-use layout::question::Question;
 use log::Appended;
 use refusals::MOST_SEGMENTS;
 use refusals::MOST_STARTS;
 use refusals::NO_LOG;
+use taking::question;
+use taking::question::C_TO_N;
+use taking::question::G_TO_C;
+use taking::question::G_TO_N;
+use taking::question::N_TO_C;
+use taking::question::N_TO_G;
+use taking::question::Question;
 use transcript::Head;
 
 // What was said to a question, and how long the log is with it; all but the number is 0 where it is refused.

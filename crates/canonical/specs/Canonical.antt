@@ -8,8 +8,8 @@ use lib.IntN.{ℤ, pos}
 use Rattle.refusals.specs.Numbers.{notCoding, outside, nOutside, cOutside, tooWide, noGenome, missingEnd, notTogether}
 use Rattle.refusals.specs.Refusing.{oneOf}
 use Rattle.whole.specs.Whole.{if_then_else_, eqZ}
-use Rattle.layout.specs.Questions.{gToN, nToG, nToC, cToN, gToC, cToG, fromG, fromC, toG, toC, isPlain, isStar, isMissing}
-use Rattle.layout.specs.declared.question.Question.{Question}
+use Rattle.taking.specs.Questions.{gToN, nToG, nToC, cToN, gToC, cToG, fromG, fromC, toG, toC, isPlain, isStar, isMissing}
+use Rattle.taking.specs.declared.question.Question.{Question}
 use Rattle.layout.specs.declared.lay.Position.{Position}
 use Rattle.layout.specs.declared.lay.Answer.{Answer}
 use Rattle.entries.specs.declared.Entry.{Entry}

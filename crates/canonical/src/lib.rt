@@ -1,19 +1,11 @@
 // The questions and answers that an entry can hold: 35 stands or falls by this.
 ghost use mathlib.Core.Path.{_≡_};
 ghost use Rattle.refusals.specs.Refusing.{oneOf};
-ghost use Rattle.layout.specs.Questions.{fromG, fromC, toG, toC, isPlain};
+ghost use Rattle.taking.specs.Questions.{fromG, fromC, toG, toC, isPlain};
 ghost use Rattle.canonical.specs.Canonical.{isZero, _only_, endHoldable, holdable, refusalsOf, tagOfKind, exonOfKind, endSayable, isNowhere, sayable, canonical};
 use entries::Entry;
 use layout::lay::Answer;
 use layout::lay::Position;
-use layout::question;
-use layout::question::C_TO_G;
-use layout::question::C_TO_N;
-use layout::question::G_TO_C;
-use layout::question::G_TO_N;
-use layout::question::N_TO_C;
-use layout::question::N_TO_G;
-use layout::question::Question;
 use refusals::C_OUTSIDE;
 use refusals::MISSING_END;
 use refusals::N_OUTSIDE;
@@ -22,6 +14,14 @@ use refusals::NOT_CODING;
 use refusals::NOT_TOGETHER;
 use refusals::OUTSIDE;
 use refusals::TOO_WIDE;
+use taking::question;
+use taking::question::C_TO_G;
+use taking::question::C_TO_N;
+use taking::question::G_TO_C;
+use taking::question::G_TO_N;
+use taking::question::N_TO_C;
+use taking::question::N_TO_G;
+use taking::question::Question;
 
 // Star and missing together.
 const BOTH_MARKS: u32 = 3;

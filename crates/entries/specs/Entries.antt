@@ -6,7 +6,7 @@ use lib.ListN.{getD}
 use mir.Syntax.{w32}
 use mir.Val.{SFits}
 use Rattle.fields.specs.Fields.{bytes, bytes16, bytes32, bits32, le16, le32, signed32}
-use Rattle.layout.specs.declared.question.Question.{Question}
+use Rattle.taking.specs.declared.question.Question.{Question}
 use Rattle.layout.specs.declared.lay.Position.{Position}
 use Rattle.layout.specs.declared.lay.Answer.{Answer}
 use Rattle.entries.specs.Layout.{questionSize, startAt, startOffsetAt, endAt, endOffsetAt, strictAt, startMarksAt, endMarksAt, refusalAt, startStarAt, endStarAt, startExonAt, endExonAt}

@@ -7,7 +7,7 @@ ghost use Rattle.entries.specs.Layout.{entrySize, questionSize, answerSi
 ghost use Rattle.entries.specs.Entries.{fourBytes, fourNumbers, questionBytes, answerBytes, entryBytes, questionAt, answerAt, entryAt};
 use layout::lay::Answer;
 use layout::lay::Position;
-use layout::question::Question;
+use taking::question::Question;
 
 // The bytes of an entry: a question's, and behind them an answer's.
 pub const ENTRY_SIZE: usize = 44;

@@ -39,7 +39,9 @@ use Rattle.mapper.specs.Asking.{askGToN, askNToG, askNToC, askCToN, askGToC, as
 use Rattle.mapper.specs.Chains.{gToC, cToG}
 use Rattle.mapper.specs.laws.Marks.{cFell, g-to-c-marked, c-to-g-marked}
 use Rattle.mapper.specs.laws.Refusing.{gToCRefusals, cToGRefusals, g-to-c-refuses, c-to-g-refuses}
-use Rattle.layout.specs.Layout.{headAt, gAsked as asked, nAsked, cAsked, gLaid, nLaid, cLaid, markNumber, laid, saidLaid}
+use Rattle.lending.specs.Lending.{headAt}
+use Rattle.taking.specs.Taking.{gAsked as asked, nAsked, cAsked}
+use Rattle.layout.specs.Layout.{gLaid, nLaid, cLaid, markNumber, laid, saidLaid}
 use Rattle.layout.specs.declared.lay.Position.{Position}
 use Rattle.results.specs.Results.{builtNumber, builtHead}
 use Rattle.worklist.specs.Worklist.{positionsOf, neverFalls, askSteps, stepsLaid}

@@ -14,7 +14,7 @@ use Rattle.refusals.specs.Refusing.{oneOf}
 use Rattle.refusals.specs.laws.Outcomes.{clash, same}
 use Rattle.whole.specs.laws.Whole.{by-test}
 use Rattle.holding.specs.Holding.{Lent, holds}
-use Rattle.layout.specs.declared.question.Question.{Question}
+use Rattle.taking.specs.declared.question.Question.{Question}
 use Rattle.log.specs.Logs.{readLog}
 use Rattle.entries.specs.declared.Entry.{Entry}
 use Rattle.asking.specs.Asking.{asked, recorded}

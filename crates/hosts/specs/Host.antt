@@ -24,7 +24,9 @@ use Rattle.positions.specs.Answers.{certainly}
 use Rattle.coding.specs.Coding.{nToC, cToN}
 use Rattle.places.specs.Mapping.{inBounds}
 use Rattle.chaining.specs.Given.{given, codes}
-use Rattle.layout.specs.Layout.{headAt, gAsked as asked, nAsked, cAsked, gLaid, nLaid, cLaid, laid, refusal, saidLaid}
+use Rattle.lending.specs.Lending.{headAt}
+use Rattle.taking.specs.Taking.{gAsked as asked, nAsked, cAsked}
+use Rattle.layout.specs.Layout.{gLaid, nLaid, cLaid, laid, refusal, saidLaid}
 use Rattle.layout.specs.declared.lay.Answer.{Answer}
 use Rattle.layout.specs.declared.lay.Position.{Position}
 use Rattle.results.specs.Results.{builtNumber, builtHead}

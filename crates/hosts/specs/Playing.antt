@@ -9,7 +9,7 @@ use lib.ListN.{length, getD, take}
 use Rattle.refusals.specs.Outcome.{answered}
 use Rattle.refusals.specs.Refusing.{oneOf}
 use Rattle.holding.specs.Holding.{Lent, holds}
-use Rattle.layout.specs.declared.question.Question.{Question}
+use Rattle.taking.specs.declared.question.Question.{Question}
 use Rattle.log.specs.Logs.{readLog}
 use Rattle.entries.specs.declared.Entry.{Entry}
 use Rattle.asking.specs.Asking.{asked}

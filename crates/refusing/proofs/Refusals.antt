@@ -47,7 +47,7 @@ use Rattle.mapper.specs.laws.Refusing.{checked-only}
 use Rattle.strands.specs.Turned.{areBases, onStrand, readOn, fitting, turning}
 use Rattle.alleles.specs.Joining.{Alleles, alleles, Rooms, readBoth, trimmed, fittingBoth, beside, joinedWith, readsBack, askJoined, joined}
 use Rattle.alleles.specs.laws.Refusing.{plainRefusals, plain-only}
-use Rattle.layout.specs.declared.question.Question.{Question}
+use Rattle.taking.specs.declared.question.Question.{Question}
 use Rattle.canonical.specs.Canonical.{holdable}
 use Rattle.entries.specs.Entries.{entryBytes}
 use Rattle.log.specs.Logs.{headerBytes, isHeaded, allCanonical, entriesIn, readLog, fitted as behind, appending}

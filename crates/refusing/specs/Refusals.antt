@@ -17,7 +17,7 @@ use Rattle.worklist.specs.laws.Refusing.{worklistRefusals}
 use Rattle.worklist.specs.declared.Slot.{Slot}
 use Rattle.positions.specs.Positions.{Interval, GAsked}
 use Rattle.strands.specs.Turned.{turning}
-use Rattle.layout.specs.declared.question.Question.{Question}
+use Rattle.taking.specs.declared.question.Question.{Question}
 use Rattle.asking.specs.Asking.{recording}
 use Rattle.playback.specs.Replay.{replaying}
 use Rattle.alleles.specs.Joining.{Alleles, Rooms, joined}

@@ -8,7 +8,8 @@ use lib.ListN.{length}
 use Rattle.refusals.specs.Outcome.{Outcome, answered, refused}
 use Rattle.transcript.specs.declared.Built.{Built}
 use Rattle.transcript.specs.declared.Built.the-variants as built
-use Rattle.layout.specs.Layout.{headRow, starOf}
+use Rattle.lending.specs.Lending.{headRow}
+use Rattle.layout.specs.Layout.{starOf}
 use Rattle.layout.specs.declared.lay.Length.{Length}
 use Rattle.results.specs.declared.Part.{Part}
 use Rattle.cigar.specs.declared.Counted.{Counted}

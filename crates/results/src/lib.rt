@@ -1,6 +1,6 @@
 // What the boundary returns beside the mappings' answers, laid out as the host has it: lengths of texts and of lists, parts of alleles, and what building tells with its head.
 ghost use mathlib.Core.Path.{_≡_};
-ghost use Rattle.layout.specs.Layout.{headRow};
+ghost use Rattle.lending.specs.Lending.{headRow};
 ghost use Rattle.results.specs.Results.{countedLaid, writtenLaid, numberLaid, partLaid, builtNumber, builtHead};
 use cigar::Counted;
 use layout::lay::Length;

@@ -17,14 +17,14 @@ ghost use Rattle.places.specs.Aligned.{alignedBy, Aligns};
 ghost use Rattle.places.specs.Lone.{nBeside, paperLone, RoomyLone};
 ghost use Rattle.mapper.specs.Asking.{askGToN, askGToC, askCToG};
 ghost use Rattle.knowing.specs.Knowing.{paperCoding};
-ghost use Rattle.layout.specs.Layout.{gAsked, cAsked, gLaid, nLaid, cLaid, laid};
+ghost use Rattle.taking.specs.Taking.{gAsked, cAsked};
+ghost use Rattle.layout.specs.Layout.{gLaid, nLaid, cLaid, laid};
 ghost use Rattle.telling.specs.Telling.{sureN, sureC, sureG, loneC};
 use chaining::Given;
 use knowing::Coding;
 use knowing::Known;
 use layout::lay;
 use layout::lay::Answer;
-use layout::take;
 use numbering::Place;
 use places::Alignment;
 use places::Lone;
@@ -93,7 +93,7 @@ pub fn g_to_n(
     ensures { λ r. ⌜ r ≡ laid nLaid (checked (lent head (now (genome .entry)) (now (transcript .entry)) (now (letters .entry)) (now (exons .entry))) (askGToN strict (gAsked start end missing))) ⌝ }
 {
     match knowing::known_of(head, genome, transcript, letters, exons) {
-        Known::Aligned(at, _) => match chaining::both_ends(take::g_asked(start, end, missing)) {
+        Known::Aligned(at, _) => match chaining::both_ends(taking::g_asked(start, end, missing)) {
             Given::Ends(from, to) => {
                 if is_base(from, to) {
                     let lone = places::lone_g(at, genome, transcript, letters, from, strict);
@@ -210,7 +210,7 @@ pub fn g_to_c(
     ensures { λ r. ⌜ r ≡ laid cLaid (checked (lent head (now (genome .entry)) (now (transcript .entry)) (now (letters .entry)) (now (exons .entry))) (askGToC strict (gAsked start end missing))) ⌝ }
 {
     match knowing::known_of(head, genome, transcript, letters, exons) {
-        Known::Aligned(at, cds) => match chaining::both_ends(take::g_asked(start, end, missing)) {
+        Known::Aligned(at, cds) => match chaining::both_ends(taking::g_asked(start, end, missing)) {
             Given::Ends(from, to) => {
                 if is_base(from, to) {
                     let lone = places::lone_g(at, genome, transcript, letters, from, strict);
@@ -303,7 +303,7 @@ pub fn c_to_g(
 ) -> Answer
     ensures { λ r. ⌜ r ≡ laid gLaid (checked (lent head (now (genome .entry)) (now (transcript .entry)) (now (letters .entry)) (now (exons .entry))) (askCToG strict (cAsked start «start_offset» «start_star» end «end_offset» «end_star»))) ⌝ }
 {
-    let asked = take::c_asked(start, start_offset, start_star, end, end_offset, end_star);
+    let asked = taking::c_asked(start, start_offset, start_star, end, end_offset, end_star);
     match knowing::known_of(head, genome, transcript, letters, exons) {
         Known::Aligned(at, cds) => {
             let lone = lone_c(at, genome, transcript, letters, cds, asked, strict);
@@ -322,12 +322,12 @@ pub fn c_to_g(
             let again = knowing::alignment(head);
             let count = again.count;
             let len = places::last(transcript, count);
-            let c = take::c_asked(start, start_offset, start_star, end, end_offset, end_star);
+            let c = taking::c_asked(start, start_offset, start_star, end, end_offset, end_star);
             let n = chaining::c_to_n(len, knowing::coding_of(head), c, strict);
             lay::lay_g(chaining::then_n_to_g(n, again, genome, transcript, letters, exons, strict))
         }
         Known::OfLength(length, cds) => {
-            let c = take::c_asked(start, start_offset, start_star, end, end_offset, end_star);
+            let c = taking::c_asked(start, start_offset, start_star, end, end_offset, end_star);
             lay::lay_g(chaining::then_no_genome(chaining::c_to_n(length, cds, c, strict)))
         }
         Known::Broken => lay::refusal_of(NOT_TOGETHER),

@@ -8,7 +8,7 @@ use lib.ListN.{length, drop, replicate}
 use Rattle.whole.specs.Whole.{if_then_else_}
 use Rattle.refusals.specs.Numbers.{mostSegments, mostStarts}
 use Rattle.segments.specs.Tables.{Tables, tables}
-use Rattle.layout.specs.Layout.{lentAt}
+use Rattle.lending.specs.Lending.{lentAt}
 use Rattle.comparing.specs.Sizes.{headNumbers}
 use Rattle.rows.specs.Rows.{firstOf, callOf, expected, rowSize}
 use Rattle.vectors.specs.Questions.{questionWords}

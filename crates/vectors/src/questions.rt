@@ -1,7 +1,7 @@
 // Rows that put a question to a lent transcript. Bit 0 of a row's flags says that bounds are strict, bits 1 and 2 that start and end have a star, and
 // bits 3 and 4 which ends are missing, as the boundary has it.
 ghost use mathlib.Core.Path.{_≡_};
-ghost use Rattle.layout.specs.Layout.{lentAt};
+ghost use Rattle.lending.specs.Lending.{lentAt};
 ghost use Rattle.vectors.specs.Questions.{isStrict, startStar, endStar, missingOf, fromG, fromN, cToN, cToG, fromC, saidTo, questionWords};
 use crate::calls;
 use comparing::answers;

@@ -20,7 +20,8 @@ use Rattle.knowing.specs.Knowing.{alignmentOf, codingIn, knownOf}
 use Rattle.mapper.specs.laws.Lying.{lying-g-to-n}
 use Rattle.knowing.specs.declared.Coding.{Coding}
 use Rattle.knowing.specs.declared.Known.the-variants as known
-use Rattle.layout.specs.Layout.{gAsked, nLaid, laid}
+use Rattle.taking.specs.Taking.{gAsked}
+use Rattle.layout.specs.Layout.{nLaid, laid}
 use Rattle.layout.specs.declared.lay.Answer.{Answer}
 use Rattle.worklist.specs.Worklist.{answeredSlot, positionsOf, neverFalls, stepsOf, askSteps, listed, slotsAfter}
 use Rattle.worklist.specs.Walking.{trackBy, answeredBy, whyNot}

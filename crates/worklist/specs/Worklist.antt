@@ -17,7 +17,8 @@ use Rattle.transcript.specs.Transcript.Source.{aligned, lengthOnly}
 use Rattle.holding.specs.Holding.{Lent, checked}
 use Rattle.places.specs.Mapping.{inside, placeOfG}
 use Rattle.mapper.specs.Asking.{askGToN}
-use Rattle.layout.specs.Layout.{gAsked, nLaid, laid}
+use Rattle.taking.specs.Taking.{gAsked}
+use Rattle.layout.specs.Layout.{nLaid, laid}
 use Rattle.layout.specs.declared.lay.Answer.{Answer}
 use Rattle.worklist.specs.declared.Slot.{Slot}
 use Rattle.worklist.specs.declared.Steps.{Steps}

@@ -13,7 +13,7 @@ use Rattle.refusals.specs.laws.Outcomes.{clash}
 use Rattle.whole.specs.laws.Whole.{by-test}
 use Rattle.fields.specs.laws.RoundTrips.{Bytes}
 use Rattle.holding.specs.Holding.{Lent}
-use Rattle.layout.specs.declared.question.Question.{Question}
+use Rattle.taking.specs.declared.question.Question.{Question}
 use Rattle.log.specs.Layout.{entriesAt}
 use Rattle.entries.specs.Layout.{entrySize}
 use Rattle.entries.specs.Entries.{entryBytes, QuestionFits}

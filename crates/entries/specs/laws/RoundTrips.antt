@@ -18,7 +18,7 @@ use mir.Syntax.{w32}
 use mir.Val.{SFits}
 use Rattle.fields.specs.Fields.{little, le16, le32, bytes16, bytes32, signed32, bits32}
 use Rattle.fields.specs.laws.RoundTrips.{Bytes, little-bytes, signed-back, signed-fits, byte-laid, bytes16-le, field-laid, le16-below, le32-below, beside}
-use Rattle.layout.specs.declared.question.Question.{Question}
+use Rattle.taking.specs.declared.question.Question.{Question}
 use Rattle.layout.specs.declared.lay.Answer.{Answer}
 use Rattle.entries.specs.Layout.{entrySize, questionSize, answerSize, startAt, startOffsetAt, endAt, endOffsetAt, strictAt, startMarksAt, endMarksAt, refusalAt, startStarAt, endStarAt, startExonAt, endExonAt}
 use Rattle.entries.specs.Entries.{fourBytes, fourNumbers, questionBytes, answerBytes, entryBytes, questionAt, answerAt, entryAt, entryOf, QuestionFits, AnswerFits, EntryFits}

@@ -9,8 +9,8 @@ use Rattle.refusals.specs.Numbers.{outside, nOutside, missingEnd, noRoom, noLog
 use Rattle.refusals.specs.Outcome.{answered, refused}
 use Rattle.fields.specs.Fields.{le16, le32}
 use Rattle.layout.specs.Layout.{nowhere, refusal}
-use Rattle.layout.specs.Questions.{gToN, nToC, cToG}
-use Rattle.layout.specs.declared.question.Question.{Question}
+use Rattle.taking.specs.Questions.{gToN, nToC, cToG}
+use Rattle.taking.specs.declared.question.Question.{Question}
 use Rattle.layout.specs.declared.lay.Position.{Position}
 use Rattle.layout.specs.declared.lay.Answer.{Answer}
 use Rattle.entries.specs.Entries.{fourBytes, fourNumbers, questionBytes, answerBytes, entryBytes, questionAt, answerAt, entryAt}

@@ -6,7 +6,8 @@ use Rattle.positions.specs.Positions.{Interval, CAsked}
 use Rattle.positions.specs.Paper.{paperCQuestion}
 use Rattle.segments.specs.Tables.{tables}
 use Rattle.places.specs.Lone.{paperLone}
-use Rattle.layout.specs.Layout.{cAsked, gLaid, laid}
+use Rattle.taking.specs.Taking.{cAsked}
+use Rattle.layout.specs.Layout.{gLaid, laid}
 use Rattle.mapper.specs.Asking.{askCToG, askCToN, askNToG}
 use Rattle.knowing.specs.Knowing.{knownOf, paperCoding}
 use Rattle.knowing.specs.declared.Known.the-variants as known

@@ -6,7 +6,8 @@ use mir.Val.{toZ, ofZ}
 use Rattle.whole.specs.laws.Whole.{read, told, eq-means}
 use Rattle.refusals.specs.Outcome.{answered}
 use Rattle.holding.specs.Holding.{lent}
-use Rattle.layout.specs.Layout.{nLaid, laid, gAsked}
+use Rattle.layout.specs.Layout.{nLaid, laid}
+use Rattle.taking.specs.Taking.{gAsked}
 use Rattle.chaining.specs.Given.{given}
 use Rattle.mapper.specs.Asking.{askGToN}
 use Rattle.knowing.specs.Knowing.{knownOf}

@@ -16,7 +16,8 @@ use Rattle.positions.specs.Positions.{NPosition}
 use Rattle.positions.specs.Answers.{certainly}
 use Rattle.places.specs.Mapping.{inside, turned, nOfSpot, wholeN, gToN}
 use Rattle.mapper.specs.Asking.{askGToN}
-use Rattle.layout.specs.Layout.{gAsked, nLaid, laid, refusal}
+use Rattle.taking.specs.Taking.{gAsked}
+use Rattle.layout.specs.Layout.{nLaid, laid, refusal}
 use Rattle.worklist.specs.Worklist.{neverFalls, largest, askSteps, listed, slotsAfter}
 use Rattle.worklist.specs.declared.Slot.{Slot}
 

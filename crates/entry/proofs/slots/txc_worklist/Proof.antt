@@ -40,7 +40,7 @@ use Rattle.transcript.specs.declared.Head.{Head}
 use Rattle.transcript.proofs.Head as Hd
 use Rattle.transcript.proofs.Head.Laws as Hd′
 use Rattle.holding.specs.Holding.{Lent, lent}
-use Rattle.layout.specs.Layout.{headAt, lentAt}
+use Rattle.lending.specs.Lending.{headAt, lentAt}
 use Rattle.worklist.specs.laws.Shared.{Starts, Letters, Exons, placed, Owned, owned-twice}
 use Rattle.worklist.specs.declared.Slot.{Slot}
 use Rattle.worklist.specs.declared.Steps.{Steps}
@@ -50,10 +50,10 @@ use Rattle.worklist.proofs.Slot as T
 use Rattle.worklist.proofs.Steps as S
 use Rattle.worklist.proofs.Steps.Laws as S′
 use Rattle.entry.specs.Told.{toldSteps, toldSlots}
-use Rattle.layout.proofs.take.head_of as reads
-use Rattle.layout.proofs.take.head_of.Symbol as reads-def
-use Rattle.layout.proofs.take.head_of.Symbol.{name as #reads}
-use Rattle.layout.proofs.take.head_of.Met as reads-thm
+use Rattle.lending.proofs.head_of as reads
+use Rattle.lending.proofs.head_of.Symbol as reads-def
+use Rattle.lending.proofs.head_of.Symbol.{name as #reads}
+use Rattle.lending.proofs.head_of.Met as reads-thm
 use Rattle.worklist.proofs.answer_list as answers
 use Rattle.worklist.proofs.answer_list.Symbol as answers-def
 use Rattle.worklist.proofs.answer_list.Symbol.{name as #answers}

@@ -1,8 +1,7 @@
 // A question of one of the six mappings as one value of plain numbers, as the host and a log have it.
 ghost use mathlib.Core.Path.{_≡_};
 ghost use Rattle.positions.specs.Paper.{paperGQuestion, paperNQuestion, paperCQuestion};
-ghost use Rattle.layout.specs.Questions.{isStar, isMissing, isStrict, gOf, nOf, cOf};
-use crate::take;
+ghost use Rattle.taking.specs.Questions.{isStar, isMissing, isStrict, gOf, nOf, cOf};
 use positions::CQuestion;
 use positions::GQuestion;
 use positions::NQuestion;
@@ -58,8 +57,8 @@ pub fn is_strict(q: Question) -> bool
 pub fn g_of(q: Question) -> GQuestion
     ensures { λ r. ⌜ paperGQuestion r ≡ gOf q ⌝ }
 {
-    let from = take::g_end(is_missing(q.start_marks), q.start);
-    let to = take::g_end(is_missing(q.end_marks), q.end);
+    let from = crate::g_end(is_missing(q.start_marks), q.start);
+    let to = crate::g_end(is_missing(q.end_marks), q.end);
     GQuestion { from, to }
 }
 
@@ -67,7 +66,7 @@ pub fn g_of(q: Question) -> GQuestion
 pub fn n_of(q: Question) -> NQuestion
     ensures { λ r. ⌜ paperNQuestion r ≡ nOf q ⌝ }
 {
-    take::n_asked(q.start, q.start_offset, q.end, q.end_offset)
+    crate::n_asked(q.start, q.start_offset, q.end, q.end_offset)
 }
 
 // The c. interval of a question.
@@ -76,7 +75,7 @@ pub fn c_of(q: Question) -> CQuestion
 {
     let start_star = is_star(q.start_marks);
     let end_star = is_star(q.end_marks);
-    take::c_asked(
+    crate::c_asked(
         q.start,
         q.start_offset,
         start_star,

@@ -1,10 +1,10 @@
--- `layout::question::n_of` meets its contract: the four numbers are handed on. Assumes nothing.
+-- `taking::question::n_of` meets its contract: the four numbers are handed on. Assumes nothing.
 use mir.Syntax.{w32}
 use Rattle.whole.specs.laws.Whole.{told}
 use borrow.Author.Needs.{needs}
-use Rattle.layout.specs.Questions.{nOf}
-use Rattle.layout.proofs.question.n_of.Statement.{statement}
-use Rattle.layout.proofs.question.n_of.Tie as tie
+use Rattle.taking.specs.Questions.{nOf}
+use Rattle.taking.proofs.question.n_of.Statement.{statement}
+use Rattle.taking.proofs.question.n_of.Tie as tie
 
 returns : tie.Need-returns
 unfolding nOf

@@ -1,40 +1,15 @@
-// What a host hands over, taken apart: a head of nine numbers, and the ends of an interval.
+// What a host asks, taken apart: the ends of an interval.
 ghost use mathlib.Core.Path.{_≡_};
 ghost use Rattle.positions.specs.Paper.{paperGAsked, paperGQuestion, paperNQuestion, paperCQuestion};
-ghost use Rattle.layout.specs.Layout.{headAt, gEnd, gAsked, nAsked, cAsked};
+ghost use Rattle.taking.specs.Taking.{gEnd, gAsked, nAsked, cAsked};
 use positions::CAsked;
 use positions::CQuestion;
 use positions::GAsked;
 use positions::GQuestion;
 use positions::NAsked;
 use positions::NQuestion;
-use transcript::Head;
 
-// The head that nine lent numbers make.
-pub fn head_of(head: &[i32; 9]) -> Head
-    ensures { λ r. ⌜ r ≡ headAt (now (head .entry)) ⌝ }
-{
-    let kind = head[0];
-    let strand = head[1];
-    let first = head[2];
-    let count = head[3];
-    let bits = head[4];
-    let start = head[5];
-    let end = head[6];
-    let length = head[7];
-    let records = head[8];
-    Head {
-        kind,
-        strand,
-        first,
-        count,
-        bits,
-        start,
-        end,
-        length,
-        records,
-    }
-}
+pub mod question;
 
 // One end of a g. interval.
 pub fn g_end(missing: bool, z: i32) -> GAsked

@@ -3,8 +3,8 @@ use Prim.Native.Nat.{ℕ, _/_, _%_}
 use mathlib.Core.Bool.{Bool, _||_}
 use lib.Dec.{eqb}
 use Rattle.positions.specs.Positions.{Interval, GAsked, NAsked, CAsked}
-use Rattle.layout.specs.Layout.{gEnd, nAsked, cAsked}
-use Rattle.layout.specs.declared.question.Question.{Question}
+use Rattle.taking.specs.Taking.{gEnd, nAsked, cAsked}
+use Rattle.taking.specs.declared.question.Question.{Question}
 
 -- ---- the kinds, and what is asked and answered in
 

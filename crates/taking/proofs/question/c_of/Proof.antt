@@ -1,10 +1,10 @@
--- `layout::question::c_of` meets its contract: the numbers are handed on, each with its own star. Assumes nothing.
+-- `taking::question::c_of` meets its contract: the numbers are handed on, each with its own star. Assumes nothing.
 use mir.Syntax.{w32}
 use Rattle.whole.specs.laws.Whole.{told}
 use borrow.Author.Needs.{needs}
-use Rattle.layout.specs.Questions.{cOf}
-use Rattle.layout.proofs.question.c_of.Statement.{statement}
-use Rattle.layout.proofs.question.c_of.Tie as tie
+use Rattle.taking.specs.Questions.{cOf}
+use Rattle.taking.proofs.question.c_of.Statement.{statement}
+use Rattle.taking.proofs.question.c_of.Tie as tie
 
 returns : tie.Need-returns
 unfolding cOf

@@ -1,8 +1,8 @@
--- `layout::take::head_of` meets its contract: each field is the one of the nine lent numbers that `headAt` names, and all nine places lie in the array. Assumes nothing.
+-- `lending::head_of` meets its contract: each field is the one of the nine lent numbers that `headAt` names, and all nine places lie in the array. Assumes nothing.
 use borrow.Author.Needs.{needs}
-use Rattle.layout.specs.Layout.{headAt}
-use Rattle.layout.proofs.take.head_of.Statement.{statement}
-use Rattle.layout.proofs.take.head_of.Tie as tie
+use Rattle.lending.specs.Lending.{headAt}
+use Rattle.lending.proofs.head_of.Statement.{statement}
+use Rattle.lending.proofs.head_of.Tie as tie
 
 returns : tie.Need-returns
 unfolding headAt

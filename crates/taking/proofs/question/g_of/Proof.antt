@@ -1,10 +1,10 @@
--- `layout::question::g_of` meets its contract: each end is that of its own marks. Assumes nothing.
+-- `taking::question::g_of` meets its contract: each end is that of its own marks. Assumes nothing.
 use mir.Syntax.{w32}
 use Rattle.whole.specs.laws.Whole.{told}
 use borrow.Author.Needs.{needs}
-use Rattle.layout.specs.Questions.{gOf}
-use Rattle.layout.proofs.question.g_of.Statement.{statement}
-use Rattle.layout.proofs.question.g_of.Tie as tie
+use Rattle.taking.specs.Questions.{gOf}
+use Rattle.taking.proofs.question.g_of.Statement.{statement}
+use Rattle.taking.proofs.question.g_of.Tie as tie
 
 returns : tie.Need-returns
 unfolding gOf

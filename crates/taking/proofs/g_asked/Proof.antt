@@ -1,9 +1,9 @@
--- `layout::take::g_asked` meets its contract: each end is that of its own bit. Assumes nothing.
+-- `taking::g_asked` meets its contract: each end is that of its own bit. Assumes nothing.
 use Rattle.whole.specs.laws.Whole.{read}
 use borrow.Author.Needs.{needs}
-use Rattle.layout.specs.Layout.{gAsked}
-use Rattle.layout.proofs.take.g_asked.Statement.{statement}
-use Rattle.layout.proofs.take.g_asked.Tie as tie
+use Rattle.taking.specs.Taking.{gAsked}
+use Rattle.taking.proofs.g_asked.Statement.{statement}
+use Rattle.taking.proofs.g_asked.Tie as tie
 
 returns : tie.Need-returns
 unfolding gAsked

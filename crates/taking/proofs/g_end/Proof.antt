@@ -1,7 +1,7 @@
--- `layout::take::g_end` meets its contract: the bit says which of the two it is, and the number is read back as it was handed over. Assumes nothing.
+-- `taking::g_end` meets its contract: the bit says which of the two it is, and the number is read back as it was handed over. Assumes nothing.
 use Rattle.whole.specs.laws.Whole.{read}
-use Rattle.layout.proofs.take.g_end.Statement.{statement}
-use Rattle.layout.proofs.take.g_end.Tie as tie
+use Rattle.taking.proofs.g_end.Statement.{statement}
+use Rattle.taking.proofs.g_end.Tie as tie
 
 returns : tie.Need-returns
 returns c = rw (c .if1 .taken)
