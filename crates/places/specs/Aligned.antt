@@ -8,7 +8,8 @@ use lib.ListN.{getD}
 use Rattle.refusals.specs.Numbers.{mostSegments}
 use Rattle.refusals.specs.Outcome.{Outcome}
 use Rattle.numbering.specs.Numbers.{nOfPlace}
-use Rattle.segments.specs.Places.{Spot, indexOf}
+use Rattle.segments.specs.Places.{Spot}
+use Rattle.finding.specs.Finding.{indexOf}
 use Rattle.segments.specs.Tables.{Tables, segmentsHold, read}
 use Rattle.segments.specs.Exons.{lastNumber, numberAt, readNumbers}
 use Rattle.transcript.specs.Transcript.{Transcript}

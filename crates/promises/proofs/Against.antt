@@ -13,7 +13,8 @@ use Rattle.whole.specs.Fits.{fitOf, fits}
 use Rattle.numbering.specs.Numbers.{nOfPlace, placeOfN}
 use Rattle.cigar.specs.Elements.{kindOf, genome, transcript, total}
 use Rattle.segments.specs.Tables.{entriesFrom}
-use Rattle.segments.specs.Places.{firstBelow, indexOf, spotIn, nearer, mapByTables, mapPlace}
+use Rattle.finding.specs.Finding.{firstBelow, indexOf}
+use Rattle.segments.specs.Places.{spotIn, nearer, mapByTables, mapPlace}
 use Rattle.transcript.specs.Transcript.{Transcript}
 use Rattle.transcript.specs.Building.{partsOf, elementsAfter, elementsOf, firstStart, build}
 use Rattle.positions.specs.Positions.{Interval, NAsked, GPosition, NPosition}

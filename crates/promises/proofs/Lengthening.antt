@@ -19,7 +19,7 @@ use Rattle.segments.specs.Places.{Spot, Edge, noEdge, leftEdge, rightEdge, End,
 use Rattle.segments.specs.Places.End.{start, stop}
 use Rattle.segments.specs.Exons.{exonFound, exonChosen}
 use Rattle.segments.specs.laws.Totals.{total-append}
-use Rattle.segments.specs.laws.Finding.{inside, number-below}
+use Rattle.segments.specs.laws.Spotting.{inside, number-below}
 use Rattle.segments.specs.laws.Amid.{slid, place-amid}
 use Rattle.transcript.specs.Transcript.{Transcript, exonNumber, genomeLength, transcriptLength}
 use Rattle.transcript.specs.Transcript.Cds.{cds}

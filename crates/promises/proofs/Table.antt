@@ -7,7 +7,8 @@ use Rattle.cigar.specs.Text.{readFrom}
 use Rattle.cigar.specs.Read.{readText}
 use Rattle.spelling.specs.Write.{digitsBy, decimal, elementText, elementsText}
 use Rattle.segments.specs.Tables.{entriesFrom}
-use Rattle.segments.specs.Places.{firstBelow, indexOf, spotIn, nearer, mapByTables, mapPlace}
+use Rattle.finding.specs.Finding.{firstBelow, indexOf}
+use Rattle.segments.specs.Places.{spotIn, nearer, mapByTables, mapPlace}
 use Rattle.segments.specs.Exons.{exonFound, exonChosen}
 use Rattle.transcript.specs.Building.{partsOf, elementsAfter, elementsOf, numbersAfter, numbersOf, firstStart, build}
 use Rattle.whole.specs.Fits.{fitOf, fits}

@@ -11,8 +11,10 @@ use lib.ListN.{getD}
 use borrow.Author.Tests.{eqb-true, eq-eqb, leb-true, le-leb, ltb-true, lt-ltb}
 use Rattle.whole.specs.laws.Whole.{by-test, both, both-of}
 use Rattle.cigar.specs.Elements.{isLetter, kindOf, letterD, letterEqual, letterI, letterM, letterN, letterX}
-use Rattle.segments.specs.Tables.{Tables, allBelow, stepsOf, knownAt, segmentsHold, Rising, Holds}
-use Rattle.segments.specs.laws.Meaning.{all-at, all-of, rising, holds-means, holds-where}
+use Rattle.segments.specs.Tables.{Tables, allBelow, stepsOf, knownAt, segmentsHold, Holds}
+use Rattle.finding.specs.Finding.{Rising}
+use Rattle.segments.specs.laws.Meaning.{all-at, all-of, holds-means, holds-where}
+use Rattle.finding.specs.laws.Rising.{rising}
 use Rattle.stepping.specs.Steps.{wrapped, within, same, stepsWithin, commonSame, commonWithin, sameAt, withinAt, commonSameAt, commonWithinAt}
 use Rattle.letters.specs.Letters.{isCommon, commonAt}
 use Rattle.together.specs.Ends.{endsWithinAt, begin, LowEnds}

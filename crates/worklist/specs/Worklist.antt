@@ -11,7 +11,7 @@ use Rattle.refusals.specs.Outcome.{Outcome, answered, refused}
 use Rattle.whole.specs.Whole.{if_then_else_}
 use Rattle.cigar.specs.Elements.{genome}
 use Rattle.segments.specs.Tables.{allBelow, entriesOf}
-use Rattle.segments.specs.Places.{indexOf}
+use Rattle.finding.specs.Finding.{indexOf}
 use Rattle.transcript.specs.Transcript.{Transcript, Source}
 use Rattle.transcript.specs.Transcript.Source.{aligned, lengthOnly}
 use Rattle.holding.specs.Holding.{Lent, checked}

@@ -24,7 +24,7 @@ fn step(at: Alignment, genome: &[u32; MOST_STARTS], index: usize, s: Slot) -> us
     let count = at.count;
     let p = places::place_of_g(at.first, s.position);
     if places::is_inside(true, places::last(genome, count), p) {
-        return segments::find_from(genome, count, index, p.0);
+        return finding::find_from(genome, count, index, p.0);
     }
     index
 }

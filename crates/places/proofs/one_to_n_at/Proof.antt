@@ -7,7 +7,7 @@ use mir.Syntax.{w64}
 use Rattle.whole.specs.laws.Whole.{read, told}
 use Rattle.places.specs.laws.Spans.{one-answered, one-refused, spot-at, same-number}
 use Rattle.segments.specs.Places.{segmentAt}
-use Rattle.segments.specs.laws.Finding.{spot-number}
+use Rattle.segments.specs.laws.Spotting.{spot-number}
 use Rattle.places.specs.Mapping.{inside, placeOfG}
 use borrow.Author.Needs.{needs}
 use Rattle.places.proofs.one_to_n_at.Statement.{statement}

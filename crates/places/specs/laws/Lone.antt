@@ -12,7 +12,8 @@ use Rattle.numbering.specs.Numbers.{placeOfN}
 use Rattle.cigar.specs.Elements.{Element, Kind, matches, inserts, deletes, skips, Side, genome, transcript}
 use Rattle.cigar.specs.Read.{lettersOf}
 use Rattle.segments.specs.Tables.{Tables, entriesOf, read}
-use Rattle.segments.specs.Places.{segmentAt, indexOf, Spot, unsurely, leftNearer, nearer, spotIn, stopOf, mapByTables, mapPlace}
+use Rattle.segments.specs.Places.{segmentAt, Spot, unsurely, leftNearer, nearer, spotIn, stopOf, mapByTables, mapPlace}
+use Rattle.finding.specs.Finding.{indexOf}
 use Rattle.segments.specs.Places.End.{start}
 use Rattle.segments.specs.Exons.{exonFound, exonChosen}
 use Rattle.segments.specs.Paper.{toTranscript, toGenome}

@@ -12,9 +12,10 @@ use Rattle.numbering.specs.Numbers.{placeOfN}
 use Rattle.whole.specs.laws.Whole.{by-test}
 use Rattle.segments.specs.Tables.{Tables, read}
 use Rattle.cigar.specs.Elements.{genome, transcript}
-use Rattle.segments.specs.Places.{Spot, End, indexOf, segmentAt, spotOf, stopOf, mapByTables}
+use Rattle.segments.specs.Places.{Spot, End, segmentAt, spotOf, stopOf, mapByTables}
+use Rattle.finding.specs.Finding.{indexOf}
 use Rattle.segments.specs.Places.End.{start, stop}
-use Rattle.segments.specs.laws.Finding.{stop-of-place, number-below}
+use Rattle.segments.specs.laws.Spotting.{stop-of-place, number-below}
 use Rattle.segments.specs.laws.Meaning.{holds-means}
 use Rattle.segments.specs.Exons.{lastNumber, exonFound, exonChosen}
 use Rattle.segments.specs.laws.Exons.{read-number}

@@ -6,9 +6,9 @@ use borrow.Author.Needs.{needs}
 use mir.Syntax.{w64}
 use mir.Val.{toZ}
 use Rattle.whole.specs.laws.Whole.{read}
-use Rattle.segments.proofs.Halving.{Bracket, bracket-all, bracket-down, bracket-up, bracket-done}
-use Rattle.segments.proofs.find_few.Statement.{statement}
-use Rattle.segments.proofs.find_few.Tie as tie
+use Rattle.finding.proofs.Halving.{Bracket, bracket-all, bracket-down, bracket-up, bracket-done}
+use Rattle.finding.proofs.find_few.Statement.{statement}
+use Rattle.finding.proofs.find_few.Tie as tie
 
 abbrev Inv-loop : tie.InvT-loop
 Inv-loop starts count p low₀ high₀ low high = Bracket starts count (toZ w64 p) low high

@@ -4,9 +4,9 @@ use borrow.Author.Needs.{needs}
 use mir.Syntax.{w64}
 use mir.Val.{toZ}
 use Rattle.whole.specs.laws.Whole.{read}
-use Rattle.segments.proofs.Halving.{Left, left-all, left-half, left-one, before-all}
-use Rattle.segments.proofs.find_many.Statement.{statement}
-use Rattle.segments.proofs.find_many.Tie as tie
+use Rattle.finding.proofs.Halving.{Left, left-all, left-half, left-one, before-all}
+use Rattle.finding.proofs.find_many.Statement.{statement}
+use Rattle.finding.proofs.find_many.Tie as tie
 
 abbrev Inv-loop : tie.InvT-loop
 Inv-loop starts count p low₀ left₀ most₀ low left most = Left starts count (toZ w64 p) low left most

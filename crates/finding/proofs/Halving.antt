@@ -10,10 +10,10 @@ use lib.ListN.{getD}
 use lib.Signed.{ltZ}
 use borrow.Author.Tests.{leb-true, leb-false}
 use Rattle.whole.specs.laws.Whole.{order, by-test}
-use Rattle.segments.specs.Tables.{Rising}
-use Rattle.segments.specs.Places.{endsAbove, indexOf}
-use Rattle.segments.specs.laws.Finding.{index-is}
-use Rattle.segments.specs.laws.Meaning.{rising}
+use Rattle.finding.specs.Finding.{Rising}
+use Rattle.finding.specs.Finding.{endsAbove, indexOf}
+use Rattle.finding.specs.laws.Index.{index-is}
+use Rattle.finding.specs.laws.Rising.{rising}
 
 pub record Bracket (entries : List ℕ) (n : ℕ) (p : ℤ) (low high : ℕ) : Type 0 where
   pub ordered : low ≤ high

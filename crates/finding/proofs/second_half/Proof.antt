@@ -1,9 +1,9 @@
--- `segments::second_half` meets its contract by what `is_above` ensures. Assumes nothing.
+-- `finding::second_half` meets its contract by what `is_above` ensures. Assumes nothing.
 use mathlib.Core.Path.{sym, _∙_}
 use borrow.Author.Needs.{needs}
 use Rattle.whole.specs.laws.Whole.{read}
-use Rattle.segments.proofs.second_half.Statement.{statement}
-use Rattle.segments.proofs.second_half.Tie as tie
+use Rattle.finding.proofs.second_half.Statement.{statement}
+use Rattle.finding.proofs.second_half.Tie as tie
 
 returns : tie.Need-returns
 returns c = rw (sym (simp (read (c .before .before .fits .p)) at (c .before .is-above .ensures)) ∙ c .if1 .taken)

@@ -1,4 +1,4 @@
--- `segments::find_from` meets its contract. The loop's invariant: the segment where it stands is not past the one sought. Assumes nothing.
+-- `finding::find_from` meets its contract. The loop's invariant: the segment where it stands is not past the one sought. Assumes nothing.
 use Prim.Native.Nat.{_-_, _≤_}
 use native.Mathlib.Omega.{arith}
 use mathlib.Core.Path.{sym, _∙_}
@@ -6,10 +6,10 @@ use borrow.Author.Needs.{needs}
 use mir.Syntax.{w64}
 use mir.Val.{toZ}
 use Rattle.whole.specs.laws.Whole.{read}
-use Rattle.segments.specs.Places.{indexOf}
-use Rattle.segments.specs.laws.Finding.{index-says, walk-arrives, walk-goes-on, walk-ends}
-use Rattle.segments.proofs.find_from.Statement.{statement}
-use Rattle.segments.proofs.find_from.Tie as tie
+use Rattle.finding.specs.Finding.{indexOf}
+use Rattle.finding.specs.laws.Index.{index-says, walk-arrives, walk-goes-on, walk-ends}
+use Rattle.finding.proofs.find_from.Statement.{statement}
+use Rattle.finding.proofs.find_from.Tie as tie
 
 abbrev Inv-loop : tie.InvT-loop
 Inv-loop starts count from p last i₀ i = (i ≤ indexOf starts count (toZ w64 p)) × (i ≤ last)

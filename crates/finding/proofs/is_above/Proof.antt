@@ -2,8 +2,8 @@
 use borrow.Author.Needs.{needs}
 use Rattle.whole.specs.laws.Whole.{read}
 use Rattle.whole.specs.laws.Machine.{entry}
-use Rattle.segments.proofs.is_above.Statement.{statement}
-use Rattle.segments.proofs.is_above.Tie as tie
+use Rattle.finding.proofs.is_above.Statement.{statement}
+use Rattle.finding.proofs.is_above.Tie as tie
 
 returns : tie.Need-returns
 returns c = simp (read (c .fits .p), entry (c .fits .end))
