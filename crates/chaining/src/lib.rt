@@ -9,13 +9,12 @@ ghost use Rattle.positions.specs.Positions.{asksN};
 ghost use Rattle.positions.specs.Answers.{chain};
 ghost use Rattle.positions.specs.Paper.{paperGQuestion, paperNQuestion, paperCQuestion, paperG, paperN, paperC, paperNPlain, paperCPlain, paperSaid};
 ghost use Rattle.coding.specs.Coding.{nToC, cToN};
-ghost use Rattle.places.specs.Mapping.{gToN, nToG, inBounds};
-ghost use Rattle.places.specs.Aligned.{alignedBy, Aligns};
+ghost use Rattle.spots.specs.Mapping.{gToN, nToG, inBounds};
+ghost use Rattle.spots.specs.Aligned.{alignedBy, Aligns};
 ghost use Rattle.chaining.specs.Given.{given, codes};
 ghost use Rattle.knowing.specs.Knowing.{paperCoding};
 ghost use Rattle.chaining.specs.Given.{paperGiven};
 use knowing::Coding;
-use places::Alignment;
 use positions::CAnswer;
 use positions::CPlain;
 use positions::CQuestion;
@@ -32,6 +31,7 @@ use refusals::MOST_SEGMENTS;
 use refusals::MOST_STARTS;
 use refusals::NO_GENOME;
 use refusals::NOT_CODING;
+use spots::Alignment;
 
 // The two ends of a g. interval that are given, or the word that one is missing.
 pub enum Given {

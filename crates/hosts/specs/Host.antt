@@ -22,7 +22,7 @@ use Rattle.card.specs.Card.{numbersIn, inputIn}
 use Rattle.card.specs.Writing.{judgeCard}
 use Rattle.positions.specs.Answers.{certainly}
 use Rattle.coding.specs.Coding.{nToC, cToN}
-use Rattle.places.specs.Mapping.{inBounds}
+use Rattle.spots.specs.Mapping.{inBounds}
 use Rattle.chaining.specs.Given.{given, codes}
 use Rattle.lending.specs.Lending.{headAt}
 use Rattle.taking.specs.Taking.{gAsked as asked, nAsked, cAsked}

@@ -8,7 +8,7 @@ use Rattle.transcript.specs.Transcript.{Cds}
 use Rattle.transcript.specs.Transcript.Cds.{noCds, cds}
 use Rattle.transcript.specs.declared.Head.{Head}
 use Rattle.holding.specs.Holding.{ofRecords, isForward, bothGiven, segmentsIn, recordsIn, Lent, holds}
-use Rattle.places.specs.declared.Alignment.{Alignment}
+use Rattle.spots.specs.declared.Alignment.{Alignment}
 use Rattle.knowing.specs.declared.Coding.{Coding}
 use Rattle.knowing.specs.declared.Coding.the-variants as coding
 use Rattle.knowing.specs.declared.Known.{Known}

@@ -7,7 +7,7 @@ use Rattle.transcript.specs.Transcript.Source.{aligned, lengthOnly}
 use Rattle.positions.specs.Positions.{Interval, GAsked, NAsked, CAsked, GPosition, NPosition, CPosition, asksN}
 use Rattle.positions.specs.Answers.{Answer, chain}
 use Rattle.coding.specs.Coding.{nToC, cToN}
-use Rattle.places.specs.Mapping.{gToN, nToG, inBounds}
+use Rattle.spots.specs.Mapping.{gToN, nToG, inBounds}
 use Rattle.chaining.specs.Given.{given, codes}
 
 unfoldable pub askGToN : Bool → Interval GAsked → Source → Answer NPosition

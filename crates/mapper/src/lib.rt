@@ -80,7 +80,7 @@ pub fn n_to_c(
     match knowing::known_of(head, genome, transcript, letters, exons) {
         Known::Aligned(at, cds) => {
             let count = at.count;
-            chaining::n_to_c(places::last(transcript, count), cds, q, strict)
+            chaining::n_to_c(spots::last(transcript, count), cds, q, strict)
         }
         Known::OfLength(length, cds) => chaining::n_to_c(length, cds, q, strict),
         Known::Broken => CPlain::Refused(NOT_TOGETHER),
@@ -102,7 +102,7 @@ pub fn c_to_n(
     match knowing::known_of(head, genome, transcript, letters, exons) {
         Known::Aligned(at, cds) => {
             let count = at.count;
-            chaining::c_to_n(places::last(transcript, count), cds, q, strict)
+            chaining::c_to_n(spots::last(transcript, count), cds, q, strict)
         }
         Known::OfLength(length, cds) => chaining::c_to_n(length, cds, q, strict),
         Known::Broken => NPlain::Refused(NOT_TOGETHER),
@@ -124,7 +124,7 @@ pub fn g_to_c(
     match knowing::known_of(head, genome, transcript, letters, exons) {
         Known::Aligned(at, cds) => {
             let count = at.count;
-            let length = places::last(transcript, count);
+            let length = spots::last(transcript, count);
             let n = chaining::g_to_n(at, genome, transcript, letters, exons, q, strict);
             chaining::then_n_to_c(n, length, cds, strict)
         }
@@ -148,7 +148,7 @@ pub fn c_to_g(
     match knowing::known_of(head, genome, transcript, letters, exons) {
         Known::Aligned(at, cds) => {
             let count = at.count;
-            let length = places::last(transcript, count);
+            let length = spots::last(transcript, count);
             let n = chaining::c_to_n(length, cds, q, strict);
             chaining::then_n_to_g(n, at, genome, transcript, letters, exons, strict)
         }

@@ -13,7 +13,7 @@ use Rattle.segments.specs.Exons.{exonFound, exonChosen}
 use Rattle.transcript.specs.Building.{partsOf, elementsAfter, elementsOf, numbersAfter, numbersOf, firstStart, build}
 use Rattle.whole.specs.Fits.{fitOf, fits}
 use Rattle.coding.specs.Coding.{beyond, cPosition, cOfInterval, nToC, nPosition, cToN}
-use Rattle.places.specs.Mapping.{inside, turned, nOfSpot, gOfSpot, wholeN, gToN, gOfEnds, nToG}
+use Rattle.spots.specs.Mapping.{inside, turned, nOfSpot, gOfSpot, wholeN, gToN, gOfEnds, nToG}
 use Rattle.records.specs.Faults.{faults, faultsAfter, ownFault, pairFault, followFault, spanFault, startFault, riseFault, joinFault}
 use Rattle.reading.specs.Reading.{spanning, readFirst, readNext, exonsAfter, exonsOf}
 use Rattle.judging.specs.Judging.{lastFault, rangeFault, judgeOn, judgeInput}

@@ -14,8 +14,8 @@ use Rattle.segments.specs.laws.Meaning.{holds-means}
 use Rattle.transcript.specs.Transcript.{Transcript}
 use Rattle.holding.specs.Holding.{ofRecords, Lent, segmentsOf, holds}
 use Rattle.holding.specs.laws.Held.{together, source-of-records, source-of-length, some, held-segments, checked-held, checked-broken}
-use Rattle.places.specs.Aligned.{alignedBy}
-use Rattle.places.specs.declared.Alignment.{Alignment}
+use Rattle.spots.specs.Aligned.{alignedBy}
+use Rattle.spots.specs.declared.Alignment.{Alignment}
 use Rattle.knowing.specs.Knowing.{alignmentOf, codingIn, knownOf}
 use Rattle.mapper.specs.laws.Lying.{lying-g-to-n}
 use Rattle.knowing.specs.declared.Coding.{Coding}

@@ -15,7 +15,7 @@ use Rattle.finding.specs.Finding.{indexOf}
 use Rattle.transcript.specs.Transcript.{Transcript, Source}
 use Rattle.transcript.specs.Transcript.Source.{aligned, lengthOnly}
 use Rattle.holding.specs.Holding.{Lent, checked}
-use Rattle.places.specs.Mapping.{inside, placeOfG}
+use Rattle.spots.specs.Mapping.{inside, placeOfG}
 use Rattle.mapper.specs.Asking.{askGToN}
 use Rattle.taking.specs.Taking.{gAsked}
 use Rattle.layout.specs.Layout.{nLaid, laid}

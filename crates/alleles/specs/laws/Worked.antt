@@ -18,7 +18,7 @@ use Rattle.holding.specs.Holding.{Lent, lent, cdsHolds, recordsHold, lengthHold
 use Rattle.positions.specs.Positions.{Interval, GAsked, at, missing, CPosition}
 use Rattle.positions.specs.Answers.{certainly}
 use Rattle.coding.specs.Coding.{beyond, cPosition, cOfInterval, nToC}
-use Rattle.places.specs.Mapping.{inside, turned, nOfSpot, wholeN, gToN}
+use Rattle.spots.specs.Mapping.{inside, turned, nOfSpot, wholeN, gToN}
 use Rattle.mapper.specs.Asking.{askGToN, askNToC, askGToC}
 use Rattle.sequences.specs.Alleles.{prefixLen, suffixLen}
 use Rattle.strands.specs.Turned as turn

@@ -16,8 +16,8 @@ use Rattle.transcript.specs.Transcript.Source.{aligned, lengthOnly}
 use Rattle.transcript.specs.declared.Head.{Head}
 use Rattle.holding.specs.Holding.{ofRecords, bothGiven, headHolds, Lent, holds, headCds, sourceOf, checked}
 use Rattle.holding.specs.laws.Held.{natural-says, together, length-right, CdsBounds, cds-bounds, source-of-records, source-of-length, some, few, held-head, held-segments, genome-length, transcript-length, checked-held, checked-broken}
-use Rattle.places.specs.Aligned.{Aligns}
-use Rattle.places.specs.declared.Alignment.{Alignment}
+use Rattle.spots.specs.Aligned.{Aligns}
+use Rattle.spots.specs.declared.Alignment.{Alignment}
 use Rattle.knowing.specs.Knowing.{alignmentOf, NaturalBounds, codingIn, knownOf, paperCoding}
 use Rattle.knowing.specs.declared.Coding.{Coding}
 use Rattle.knowing.specs.declared.Known.the-variants as known

@@ -16,7 +16,7 @@ use Rattle.positions.specs.Positions.{Interval, GAsked, NAsked, CAsked, GPositi
 use Rattle.positions.specs.Answers.{unmarked, Marked, gFits, nFits, cFits, Fitted}
 use Rattle.positions.specs.laws.Ends.{row-plain, chain-tells}
 use Rattle.coding.specs.laws.Answered.{c-to-n-fits, n-to-c-fits, c-to-n-plain, n-to-c-plain}
-use Rattle.places.specs.Mapping.{gToN}
+use Rattle.spots.specs.Mapping.{gToN}
 use Rattle.places.specs.laws.Answered.{Across, g-to-n-fits, n-to-g-fits, g-to-n-across, n-to-g-across}
 use Rattle.chaining.specs.Given.{given}
 use Rattle.mapper.specs.Asking.{askGToN, askNToG, askNToC, askCToN, askGToC, askCToG}

@@ -8,9 +8,9 @@ use Rattle.holding.specs.Holding.{Lent, checked}
 use Rattle.positions.specs.Positions.{Interval, GAsked, NAsked, CAsked, asksN}
 use Rattle.positions.specs.Answers.{chain}
 use Rattle.coding.specs.Coding.{nToC, cToN}
-use Rattle.places.specs.Mapping.{nOfSpot, wholeN, gToN, gOfSpot, gOfEnds, nToG, inBounds}
-use Rattle.places.specs.Aligned.{alignedBy}
-use Rattle.places.specs.declared.Alignment.{Alignment}
+use Rattle.spots.specs.Mapping.{nOfSpot, wholeN, gToN, gOfSpot, gOfEnds, nToG, inBounds}
+use Rattle.spots.specs.Aligned.{alignedBy}
+use Rattle.spots.specs.declared.Alignment.{Alignment}
 use Rattle.knowing.specs.Knowing.{knownOf, paperCoding}
 use Rattle.knowing.specs.laws.Known.{Lies, known-lies, ask-lying}
 use Rattle.knowing.specs.declared.Coding.{Coding}

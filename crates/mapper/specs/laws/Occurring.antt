@@ -14,7 +14,7 @@ use Rattle.segments.specs.Exons.{goesOn, numbersHold, numbersFrom, exonFound, e
 use Rattle.holding.specs.Holding.{Lent, lent, cdsHolds, recordsHold, lengthHolds, holds, sourceOf, checked}
 use Rattle.positions.specs.Positions.{Interval, GAsked, at, missing, NAsked, CAsked}
 use Rattle.coding.specs.Coding.{beyond, cPosition, cOfInterval, nToC, nPosition, cToN}
-use Rattle.places.specs.Mapping.{inside, turned, nOfSpot, wholeN, gToN, gOfSpot, gOfEnds, nToG}
+use Rattle.spots.specs.Mapping.{inside, turned, nOfSpot, wholeN, gToN, gOfSpot, gOfEnds, nToG}
 use Rattle.mapper.specs.Asking.{askGToN, askNToG, askNToC, askCToN, askGToC, askCToG, askCoding, askInBounds}
 use Rattle.mapper.specs.laws.Refusing.{gToNRefusals, nToGRefusals, nToCRefusals, cToNRefusals, gToCRefusals, cToGRefusals, codingRefusals, inBoundsRefusals}
 

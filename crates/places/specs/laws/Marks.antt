@@ -22,7 +22,7 @@ use Rattle.transcript.specs.Transcript.{Transcript, genomeLength, transcriptLen
 use Rattle.positions.specs.Positions.{Interval, NAsked, GPosition, NPosition}
 use Rattle.positions.specs.Answers.{Mark, certain, uncertain, markOf, exonsOf, Marked, gFits, nFits}
 use Rattle.positions.specs.laws.Ends.{fitting-is}
-use Rattle.places.specs.Mapping.{inside, turned, earlier, later, placeOfG, wholeN, gToN, gOfEnds, nToG}
+use Rattle.spots.specs.Mapping.{inside, turned, earlier, later, placeOfG, wholeN, gToN, gOfEnds, nToG}
 use Rattle.places.specs.laws.Refusing.{nInside}
 
 -- an I or a D

@@ -5,7 +5,7 @@ use Rattle.holding.specs.Holding.{lent}
 use Rattle.positions.specs.Positions.{Interval, CAsked}
 use Rattle.positions.specs.Paper.{paperCQuestion}
 use Rattle.segments.specs.Tables.{tables}
-use Rattle.places.specs.Lone.{paperLone}
+use Rattle.lone.specs.Lone.{paperLone}
 use Rattle.taking.specs.Taking.{cAsked}
 use Rattle.layout.specs.Layout.{gLaid, laid}
 use Rattle.mapper.specs.Asking.{askCToG, askCToN, askNToG}

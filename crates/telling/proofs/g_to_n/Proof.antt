@@ -16,7 +16,7 @@ use Rattle.knowing.specs.declared.Known.the-variants as known
 use Rattle.knowing.specs.laws.Known.{known-lies, ask-length, ask-broken}
 use Rattle.segments.specs.Tables.{tables}
 use Rattle.segments.specs.Paper.{spotSaid}
-use Rattle.places.specs.Lone.{unsure, loneG, paperLone}
+use Rattle.lone.specs.Lone.{unsure, loneG, paperLone}
 use Rattle.telling.proofs.Ways.{n-by-ends, one-base, base-beside, roomy}
 use borrow.Author.Needs.{needs}
 use Rattle.telling.proofs.g_to_n.Statement.{statement}

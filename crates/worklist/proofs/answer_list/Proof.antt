@@ -53,10 +53,10 @@ use Rattle.transcript.proofs.Head as Hd
 use Rattle.transcript.proofs.Head.Laws as Hd′
 use Rattle.holding.specs.Holding.{ofRecords, headHolds, Lent, lent, holds}
 use Rattle.holding.specs.laws.Held.{together, held-head, held-segments, some as some-segment, few}
-use Rattle.places.specs.Aligned.{alignedBy, Aligns}
-use Rattle.places.specs.declared.Alignment.{Alignment}
-use Rattle.places.proofs.Alignment as Al
-use Rattle.places.proofs.Alignment.Laws as Al′
+use Rattle.spots.specs.Aligned.{alignedBy, Aligns}
+use Rattle.spots.specs.declared.Alignment.{Alignment}
+use Rattle.spots.proofs.Alignment as Al
+use Rattle.spots.proofs.Alignment.Laws as Al′
 use Rattle.knowing.specs.Knowing.{alignmentOf}
 use Rattle.worklist.specs.laws.Shared.{Starts, Letters, Exons, placed, Owned, owned-twice}
 use Rattle.worklist.specs.declared.Slot.{Slot}

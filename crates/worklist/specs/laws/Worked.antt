@@ -15,7 +15,7 @@ use Rattle.segments.specs.Exons.{goesOn, numbersHold, numbersFrom, exonFound}
 use Rattle.holding.specs.Holding.{Lent, lent, cdsHolds, recordsHold, holds, sourceOf, checked}
 use Rattle.positions.specs.Positions.{NPosition}
 use Rattle.positions.specs.Answers.{certainly}
-use Rattle.places.specs.Mapping.{inside, turned, nOfSpot, wholeN, gToN}
+use Rattle.spots.specs.Mapping.{inside, turned, nOfSpot, wholeN, gToN}
 use Rattle.mapper.specs.Asking.{askGToN}
 use Rattle.taking.specs.Taking.{gAsked}
 use Rattle.layout.specs.Layout.{nLaid, laid, refusal}
