@@ -11,9 +11,8 @@ ghost use Rattle.positions.specs.Paper.{paperGQuestion, paperNQuestion, paperCQ
 ghost use Rattle.coding.specs.Coding.{nToC, cToN};
 ghost use Rattle.spots.specs.Mapping.{gToN, nToG, inBounds};
 ghost use Rattle.spots.specs.Aligned.{alignedBy, Aligns};
-ghost use Rattle.chaining.specs.Given.{given, codes};
+ghost use Rattle.chaining.specs.Given.{given, codes, paperGiven};
 ghost use Rattle.knowing.specs.Knowing.{paperCoding};
-ghost use Rattle.chaining.specs.Given.{paperGiven};
 use knowing::Coding;
 use positions::CAnswer;
 use positions::CPlain;

@@ -10,8 +10,7 @@ use lib.ListN.{getD}
 use lib.Signed.{ltZ}
 use borrow.Author.Tests.{leb-true, leb-false}
 use Rattle.whole.specs.laws.Whole.{order, by-test}
-use Rattle.finding.specs.Finding.{Rising}
-use Rattle.finding.specs.Finding.{endsAbove, indexOf}
+use Rattle.finding.specs.Finding.{Rising, endsAbove, indexOf}
 use Rattle.finding.specs.laws.Index.{index-is}
 use Rattle.finding.specs.laws.Rising.{rising}
 

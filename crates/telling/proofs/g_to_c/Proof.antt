@@ -8,10 +8,9 @@ use Rattle.refusals.specs.Outcome.{answered}
 use Rattle.holding.specs.Holding.{lent}
 use Rattle.layout.specs.Layout.{cLaid, laid}
 use Rattle.taking.specs.Taking.{gAsked}
-use Rattle.chaining.specs.Given.{given}
+use Rattle.chaining.specs.Given.{given, paperGiven}
 use Rattle.mapper.specs.Asking.{askGToC, askGToN}
 use Rattle.knowing.specs.Knowing.{knownOf}
-use Rattle.chaining.specs.Given.{paperGiven}
 use Rattle.knowing.specs.declared.Known.the-variants as known
 use Rattle.knowing.specs.laws.Known.{known-lies, natural-bounds, ask-length, ask-broken}
 use Rattle.segments.specs.Tables.{tables}

@@ -478,6 +478,6 @@ answer-list-spec 𝓤 H 𝓜 𝓖 𝓡 =
     (answer-list-meets 𝓤 H (𝓖 .A) (givenOf 𝓤 H 𝓜 𝓖) (𝓜 .mem) (𝓡 .run) (tablesOf 𝓤 H 𝓜 (tables 𝓤 H 𝓜 𝓡 code.env))
     (cited 𝓤 H (Rises 𝓤 H (𝓖 .A) (𝓜 .mem) (𝓡 .run)) 𝓜 𝓡 code.env #rises rises-def.routine code.calls-worklist·order·never-falls (rises-thm.met 𝓤 H 𝓜 𝓖 𝓡))
     (cited 𝓤 H (Why 𝓤 H (𝓖 .A) (𝓜 .mem) (𝓡 .run)) 𝓜 𝓡 code.env #why why-def.routine code.calls-worklist·why-not (why-thm.met 𝓤 H 𝓜 𝓖 𝓡))
-    (cited 𝓤 H (Lying 𝓤 H (𝓖 .A) (𝓜 .mem) (𝓡 .run)) 𝓜 𝓡 code.env #lying lying-def.routine code.calls-mapper·knowing·alignment (lying-thm.met 𝓤 H 𝓜 𝓖 𝓡))
+    (cited 𝓤 H (Lying 𝓤 H (𝓖 .A) (𝓜 .mem) (𝓡 .run)) 𝓜 𝓡 code.env #lying lying-def.routine code.calls-knowing·alignment (lying-thm.met 𝓤 H 𝓜 𝓖 𝓡))
     (cited 𝓤 H (Fill 𝓤 H (𝓖 .A) (𝓜 .mem) (𝓡 .run)) 𝓜 𝓡 code.env #fill fill-def.routine code.calls-worklist·walk·fill (fill-thm.met 𝓤 H 𝓜 𝓖 𝓡))
     (cited 𝓤 H (Refuse 𝓤 H (𝓖 .A) (𝓜 .mem) (𝓡 .run)) 𝓜 𝓡 code.env #refuse refuse-def.routine code.calls-worklist·refused (refuse-thm.met 𝓤 H 𝓜 𝓖 𝓡)))
