@@ -10,14 +10,14 @@ use Rattle.whole.specs.Whole.{if_then_else_}
 use Rattle.holding.specs.Holding.{Lent, checked}
 use Rattle.mapper.specs.Asking.{askGToN, askNToG, askNToC, askCToN, askGToC, askCToG}
 use Rattle.layout.specs.Layout.{starOf, gLaid, nLaid, cLaid, refusal, laid}
-use Rattle.layout.specs.Questions.{gToN, nToG, nToC, cToN, gToC, isStrict, gOf, nOf, cOf}
+use Rattle.taking.specs.Questions.{gToN, nToG, nToC, cToN, gToC, isStrict, gOf, nOf, cOf}
 use Rattle.layout.specs.declared.lay.Answer.{Answer}
-use Rattle.layout.specs.declared.question.Question.{Question}
-use Rattle.log.specs.Canonical.{holdable}
+use Rattle.taking.specs.declared.question.Question.{Question}
+use Rattle.canonical.specs.Canonical.{holdable}
 use Rattle.log.specs.Logs.{appending}
-use Rattle.log.specs.declared.Entry.{Entry}
-use Rattle.log.specs.declared.logs.Appended.{Appended}
-use Rattle.log.specs.declared.logs.Appended.the-variants as appended
+use Rattle.entries.specs.declared.Entry.{Entry}
+use Rattle.log.specs.declared.Appended.{Appended}
+use Rattle.log.specs.declared.Appended.the-variants as appended
 use Rattle.asking.specs.declared.Recorded.{Recorded}
 
 module _ (x : Lent) where

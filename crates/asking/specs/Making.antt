@@ -6,10 +6,10 @@ use lib.ListN.{length}
 use Rattle.refusals.specs.Outcome.{answered}
 use Rattle.fields.specs.laws.RoundTrips.{Bytes}
 use Rattle.holding.specs.Holding.{Lent}
-use Rattle.layout.specs.declared.question.Question.{Question}
-use Rattle.log.specs.Entries.{QuestionFits}
+use Rattle.taking.specs.declared.question.Question.{Question}
+use Rattle.entries.specs.Entries.{QuestionFits}
 use Rattle.log.specs.Logs.{logAfter}
-use Rattle.log.specs.declared.Entry.{Entry}
+use Rattle.entries.specs.declared.Entry.{Entry}
 use Rattle.asking.specs.Asking.{recorded, recording}
 
 -- the entries of questions

@@ -3,22 +3,20 @@ ghost use mathlib.Core.Path.{_≡_};
 ghost use Rattle.holding.specs.Holding.{lent};
 ghost use Rattle.log.specs.Logs.{appendedOf, logAfter};
 ghost use Rattle.asking.specs.Asking.{named, asked, recording, recordedLaid};
+use entries::Entry;
 use layout::lay;
 use layout::lay::Answer;
-use layout::question;
-use layout::question::C_TO_N;
-use layout::question::G_TO_C;
-use layout::question::G_TO_N;
-use layout::question::N_TO_C;
-use layout::question::N_TO_G;
-use layout::question::Question;
-use log::Entry;
-use log::canonical;
-use log::logs;
-use log::logs::Appended;
+use log::Appended;
 use refusals::MOST_SEGMENTS;
 use refusals::MOST_STARTS;
 use refusals::NO_LOG;
+use taking::question;
+use taking::question::C_TO_N;
+use taking::question::G_TO_C;
+use taking::question::G_TO_N;
+use taking::question::N_TO_C;
+use taking::question::N_TO_G;
+use taking::question::Question;
 use transcript::Head;
 
 // What was said to a question, and how long the log is with it; all but the number is 0 where it is refused.
@@ -126,7 +124,7 @@ pub fn record(
             question: q,
             answer,
         };
-        return lay_recorded(answer, logs::append(log, used, entry));
+        return lay_recorded(answer, log::append(log, used, entry));
     }
     lay_recorded(lay::refusal_of(0), Appended::Refused(NO_LOG))
 }

@@ -4,7 +4,7 @@ use mathlib.Core.List.{List}
 use lib.ListN.{drop}
 use Rattle.refusals.specs.Numbers.{mostCard}
 use Rattle.refusals.specs.Outcome.{Outcome, answered, refused}
-use Rattle.cigar.specs.Write.{Writing, fitted}
+use Rattle.spelling.specs.Write.{Writing, fitted}
 use Rattle.transcript.specs.declared.Numbers.{Numbers}
 use Rattle.judging.specs.Input.{inputOf}
 use Rattle.judging.specs.Judging.{Made, judge}

@@ -4,11 +4,9 @@
 --     Text         what a text reads as
 --     Lent         lent memory whose front is filled
 --     Read         a text alone, read into lent tables
---     Write        what elements are written as
 pub mod Bytes
 pub mod Elements
 pub mod Text
 pub mod Lent
 pub mod Read
-pub mod Write
 pub mod laws

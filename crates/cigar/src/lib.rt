@@ -16,8 +16,6 @@ use refusals::MOST_TEXT;
 use refusals::NO_ELEMENT;
 use refusals::TOO_MUCH;
 
-pub mod write;
-
 // What reading at a place finds.
 pub enum Step {
     // A whole element: its count, its letter and the place after it.

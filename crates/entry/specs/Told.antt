@@ -6,7 +6,8 @@ use lib.IntN.{ℤ}
 use Rattle.refusals.specs.Outcome.{Outcome}
 use Rattle.holding.specs.Holding.{Lent, checked}
 use Rattle.mapper.specs.Asking.{askGToN, askNToG, askNToC, askCToN, askGToC, askCToG, askCoding, askInBounds}
-use Rattle.layout.specs.Layout.{gAsked, nAsked, cAsked, gLaid, nLaid, cLaid, laid, saidLaid}
+use Rattle.taking.specs.Taking.{gAsked, nAsked, cAsked}
+use Rattle.layout.specs.Layout.{gLaid, nLaid, cLaid, laid, saidLaid}
 use Rattle.layout.specs.declared.lay.Answer.{Answer}
 use Rattle.layout.specs.declared.lay.Said.{Said}
 use Rattle.alleles.specs.Joining.{Alleles, Rooms, Joining, joined}

@@ -1,11 +1,10 @@
 // The questions for the host, over a lent head and the four lent tables.
 ghost use mathlib.Core.Path.{_≡_};
-ghost use Rattle.layout.specs.Layout.{lentAt};
+ghost use Rattle.lending.specs.Lending.{lentAt};
 ghost use Rattle.entry.specs.Told.{toldGToN, toldGToC, toldNToG, toldNToC, toldCToN, toldCToG, toldInBounds, toldCoding};
 use layout::lay;
 use layout::lay::Answer;
 use layout::lay::Said;
-use layout::take;
 use refusals::MOST_SEGMENTS;
 use refusals::MOST_STARTS;
 
@@ -24,7 +23,7 @@ pub extern "C" fn txc_g_to_n(
     ensures { λ r. ⌜ r ≡ toldGToN (lentAt (now (head .entry)) (now (genome .entry)) (now (transcript .entry)) (now (letters .entry)) (now (exons .entry))) start end missing strict ⌝ }
 {
     telling::g_to_n(
-        take::head_of(head),
+        lending::head_of(head),
         genome,
         transcript,
         letters,
@@ -51,7 +50,7 @@ pub extern "C" fn txc_g_to_c(
     ensures { λ r. ⌜ r ≡ toldGToC (lentAt (now (head .entry)) (now (genome .entry)) (now (transcript .entry)) (now (letters .entry)) (now (exons .entry))) start end missing strict ⌝ }
 {
     telling::g_to_c(
-        take::head_of(head),
+        lending::head_of(head),
         genome,
         transcript,
         letters,
@@ -78,9 +77,9 @@ pub extern "C" fn txc_n_to_g(
 ) -> Answer
     ensures { λ r. ⌜ r ≡ toldNToG (lentAt (now (head .entry)) (now (genome .entry)) (now (transcript .entry)) (now (letters .entry)) (now (exons .entry))) start «start_offset» end «end_offset» strict ⌝ }
 {
-    let n = take::n_asked(start, start_offset, end, end_offset);
+    let n = taking::n_asked(start, start_offset, end, end_offset);
     lay::lay_g(mapper::n_to_g(
-        take::head_of(head),
+        lending::head_of(head),
         genome,
         transcript,
         letters,
@@ -105,9 +104,9 @@ pub extern "C" fn txc_n_to_c(
 ) -> Answer
     ensures { λ r. ⌜ r ≡ toldNToC (lentAt (now (head .entry)) (now (genome .entry)) (now (transcript .entry)) (now (letters .entry)) (now (exons .entry))) start «start_offset» end «end_offset» strict ⌝ }
 {
-    let n = take::n_asked(start, start_offset, end, end_offset);
+    let n = taking::n_asked(start, start_offset, end, end_offset);
     lay::lay_c_plain(mapper::n_to_c(
-        take::head_of(head),
+        lending::head_of(head),
         genome,
         transcript,
         letters,
@@ -134,9 +133,9 @@ pub extern "C" fn txc_c_to_n(
 ) -> Answer
     ensures { λ r. ⌜ r ≡ toldCToN (lentAt (now (head .entry)) (now (genome .entry)) (now (transcript .entry)) (now (letters .entry)) (now (exons .entry))) start «start_offset» «start_star» end «end_offset» «end_star» strict ⌝ }
 {
-    let c = take::c_asked(start, start_offset, start_star, end, end_offset, end_star);
+    let c = taking::c_asked(start, start_offset, start_star, end, end_offset, end_star);
     lay::lay_n_plain(mapper::c_to_n(
-        take::head_of(head),
+        lending::head_of(head),
         genome,
         transcript,
         letters,
@@ -164,7 +163,7 @@ pub extern "C" fn txc_c_to_g(
     ensures { λ r. ⌜ r ≡ toldCToG (lentAt (now (head .entry)) (now (genome .entry)) (now (transcript .entry)) (now (letters .entry)) (now (exons .entry))) start «start_offset» «start_star» end «end_offset» «end_star» strict ⌝ }
 {
     telling::c_to_g(
-        take::head_of(head),
+        lending::head_of(head),
         genome,
         transcript,
         letters,
@@ -193,9 +192,9 @@ pub extern "C" fn txc_in_bounds(
 ) -> Said
     ensures { λ r. ⌜ r ≡ toldInBounds (lentAt (now (head .entry)) (now (genome .entry)) (now (transcript .entry)) (now (letters .entry)) (now (exons .entry))) start end missing ⌝ }
 {
-    let g = take::g_asked(start, end, missing);
+    let g = taking::g_asked(start, end, missing);
     lay::lay_said(mapper::is_g_interval_in_bounds(
-        take::head_of(head),
+        lending::head_of(head),
         genome,
         transcript,
         letters,
@@ -216,7 +215,7 @@ pub extern "C" fn txc_is_coding(
     ensures { λ r. ⌜ r ≡ toldCoding (lentAt (now (head .entry)) (now (genome .entry)) (now (transcript .entry)) (now (letters .entry)) (now (exons .entry))) ⌝ }
 {
     lay::lay_said(mapper::is_coding_transcript(
-        take::head_of(head),
+        lending::head_of(head),
         genome,
         transcript,
         letters,

@@ -4,9 +4,9 @@ ghost use mathlib.Core.Path.{_≡_};
 ghost use lib.ListN.{length};
 ghost use Rattle.cigar.specs.Text.{countedOf};
 ghost use Rattle.cigar.specs.Read.{countsAfter, lettersAfter};
-ghost use Rattle.cigar.specs.Write.{bufferAfter};
+ghost use Rattle.spelling.specs.Write.{bufferAfter};
 ghost use Rattle.words.specs.Words.{readWords, writeWords, countedWords};
-ghost use Rattle.entry.specs.Boundary.{countedLaid};
+ghost use Rattle.results.specs.Results.{countedLaid};
 use layout::lay::Length;
 use refusals::MOST_SEGMENTS;
 
@@ -17,7 +17,7 @@ pub extern "C" fn txc_read_bam(words: &[u32], counts: &mut [i32], letters: &mut 
     ensures { λ _. ⌜ now (counts .exit) ≡ countsAfter (now (counts .entry)) (readWords (now (words .entry)) (length (now (counts .entry))) (length (now (letters .entry)))) ⌝ }
     ensures { λ _. ⌜ now (letters .exit) ≡ lettersAfter (now (letters .entry)) (readWords (now (words .entry)) (length (now (counts .entry))) (length (now (letters .entry)))) ⌝ }
 {
-    super::text::counted_laid(words::read_words(words, counts, letters))
+    results::counted_laid(words::read_words(words, counts, letters))
 }
 
 // How many words the first elements of the two tables are written with, at the front of the lent words.
@@ -31,5 +31,5 @@ pub extern "C" fn txc_write_bam(
     ensures { λ r. ⌜ r ≡ countedLaid (countedWords (writeWords number (now (counts .entry)) (now (letters .entry)) (length (now (words .entry))))) ⌝ }
     ensures { λ _. ⌜ now (words .exit) ≡ bufferAfter (now (words .entry)) (writeWords number (now (counts .entry)) (now (letters .entry)) (length (now (words .entry)))) ⌝ }
 {
-    super::text::counted_laid(words::write_words(number, counts, letters, words))
+    results::counted_laid(words::write_words(number, counts, letters, words))
 }

@@ -1,52 +1,17 @@
 // Building for the host: the head and the four tables are lent, and a refusal leaves all of them. And a card, written into a lent buffer.
 ghost use mathlib.Core.Path.{_≡_};
 ghost use lib.ListN.{length};
-ghost use Rattle.cigar.specs.Write.{writtenAnswer, bufferAfter};
+ghost use Rattle.spelling.specs.Write.{writtenAnswer, bufferAfter};
 ghost use Rattle.segments.specs.Tables.{tables};
 ghost use Rattle.judging.specs.Input.{numbersOf};
 ghost use Rattle.judging.specs.Judging.{judge, judgeLength};
 ghost use Rattle.building.specs.Afterwards.{builtAnswer, lengthAnswer, tablesAfter, exonsAfter};
 ghost use Rattle.card.specs.Writing.{cardWriting, judgeCard};
-ghost use Rattle.layout.specs.Layout.{headRow};
-ghost use Rattle.entry.specs.Boundary.{builtNumber, builtHead, writtenLaid};
-use crate::text;
+ghost use Rattle.results.specs.Results.{builtNumber, builtHead, writtenLaid};
 use layout::lay::Length;
 use refusals::MOST_SEGMENTS;
 use refusals::MOST_STARTS;
-use transcript::Built;
-use transcript::Head;
 use transcript::Numbers;
-
-// The nine numbers of a head, laid out in lent memory.
-fn lay_head(h: Head, head: &mut [i32; 9])
-    ensures { λ _. ⌜ now (head .exit) ≡ headRow h ⌝ }
-{
-    *head = [
-        h.kind,
-        h.strand,
-        h.first,
-        h.count,
-        h.bits,
-        h.start,
-        h.end,
-        h.length,
-        h.records,
-    ];
-}
-
-// 0 and the head laid out, or a refusal's number with the head as it was.
-fn lay_built(b: Built, head: &mut [i32; 9]) -> u32
-    ensures { λ r. ⌜ r ≡ builtNumber b ⌝ }
-    ensures { λ _. ⌜ now (head .exit) ≡ builtHead b (now (head .entry)) ⌝ }
-{
-    match b {
-        Built::Transcript(h) => {
-            lay_head(h, head);
-            0
-        }
-        Built::Refused(k) => k as u32,
-    }
-}
 
 // What building is handed beside the records' bytes.
 fn numbers_of(strand: i32, cds: u32, start: i32, end: i32, count: usize) -> Numbers
@@ -83,7 +48,7 @@ pub extern "C" fn txc_build(
 {
     let numbers = numbers_of(strand, cds, cds_start, cds_end, count);
     let built = building::build(numbers, records, genome, transcript, letters, exons);
-    lay_built(built, head)
+    results::lay_built(built, head)
 }
 
 // A transcript from a card: 0, or a refusal's number.
@@ -102,7 +67,7 @@ pub extern "C" fn txc_build_card(
     ensures { λ _. ⌜ now (exons .exit) ≡ exonsAfter (judgeCard (now (card .entry))) (now (exons .entry)) ⌝ }
 {
     let built = card::build_card(card, genome, transcript, letters, exons);
-    lay_built(built, head)
+    results::lay_built(built, head)
 }
 
 // A transcript from its length alone: 0, or a refusal's number.
@@ -118,7 +83,7 @@ pub extern "C" fn txc_build_length(
     ensures { λ _. ⌜ now (head .exit) ≡ builtHead (lengthAnswer (judgeLength length cds «cds_start» «cds_end»)) (now (head .entry)) ⌝ }
 {
     let built = building::length_only::build_length(length, cds, cds_start, cds_end);
-    lay_built(built, head)
+    results::lay_built(built, head)
 }
 
 // How many bytes the card of building's input has, at the front of the buffer.
@@ -136,5 +101,5 @@ pub extern "C" fn txc_write_card(
     ensures { λ _. ⌜ now (buffer .exit) ≡ bufferAfter (now (buffer .entry)) (cardWriting (numbersOf strand cds «cds_start» «cds_end» count) (now (records .entry)) (length (now (buffer .entry)))) ⌝ }
 {
     let numbers = numbers_of(strand, cds, cds_start, cds_end, count);
-    text::written_laid(card::write_card(numbers, records, buffer))
+    results::written_laid(card::write_card(numbers, records, buffer))
 }

@@ -1,20 +1,18 @@
 // A question as one value for the host: asked, recorded in a log, and a log replayed.
 ghost use mathlib.Core.Path.{_≡_};
 ghost use lib.ListN.{length};
-ghost use Rattle.cigar.specs.Write.{writtenAnswer, bufferAfter};
-ghost use Rattle.layout.specs.Layout.{lentAt};
+ghost use Rattle.spelling.specs.Write.{writtenAnswer, bufferAfter};
+ghost use Rattle.lending.specs.Lending.{lentAt};
 ghost use Rattle.log.specs.Logs.{appendedOf, logAfter};
 ghost use Rattle.asking.specs.Asking.{asked, recording, recordedLaid};
 ghost use Rattle.playback.specs.Replay.{replaying};
-ghost use Rattle.entry.specs.Boundary.{writtenLaid};
-use crate::text;
+ghost use Rattle.results.specs.Results.{writtenLaid};
 use asking::Recorded;
 use layout::lay::Answer;
 use layout::lay::Length;
-use layout::question::Question;
-use layout::take;
 use refusals::MOST_SEGMENTS;
 use refusals::MOST_STARTS;
+use taking::question::Question;
 
 // What the mapping says that a question names.
 #[no_mangle]
@@ -28,7 +26,7 @@ pub extern "C" fn txc_ask(
 ) -> Answer
     ensures { λ r. ⌜ r ≡ asked (lentAt (now (head .entry)) (now (genome .entry)) (now (transcript .entry)) (now (letters .entry)) (now (exons .entry))) question ⌝ }
 {
-    let known = take::head_of(head);
+    let known = lending::head_of(head);
     asking::ask(known, genome, transcript, letters, exons, question)
 }
 
@@ -47,7 +45,7 @@ pub extern "C" fn txc_record(
     ensures { λ r. ⌜ r ≡ recordedLaid (asked (lentAt (now (head .entry)) (now (genome .entry)) (now (transcript .entry)) (now (letters .entry)) (now (exons .entry))) question) (appendedOf «log_len» (recording (lentAt (now (head .entry)) (now (genome .entry)) (now (transcript .entry)) (now (letters .entry)) (now (exons .entry))) question (now (log .entry)) «log_len»)) ⌝ }
     ensures { λ _. ⌜ now (log .exit) ≡ logAfter (now (log .entry)) «log_len» (recording (lentAt (now (head .entry)) (now (genome .entry)) (now (transcript .entry)) (now (letters .entry)) (now (exons .entry))) question (now (log .entry)) «log_len») ⌝ }
 {
-    let known = take::head_of(head);
+    let known = lending::head_of(head);
     asking::record(
         known,
         genome,
@@ -74,7 +72,7 @@ pub extern "C" fn txc_replay<'a>(
     ensures { λ r. ⌜ r ≡ writtenLaid (writtenAnswer (replaying (lentAt (now (head .entry)) (now (genome .entry)) (now (transcript .entry)) (now (letters .entry)) (now (exons .entry))) (now (log .entry)) (length (now (buffer .entry))))) ⌝ }
     ensures { λ _. ⌜ now (buffer .exit) ≡ bufferAfter (now (buffer .entry)) (replaying (lentAt (now (head .entry)) (now (genome .entry)) (now (transcript .entry)) (now (letters .entry)) (now (exons .entry))) (now (log .entry)) (length (now (buffer .entry)))) ⌝ }
 {
-    let known = take::head_of(head);
+    let known = lending::head_of(head);
     let told = playback::replay(known, genome, transcript, letters, exons, log, buffer);
-    text::written_laid(told)
+    results::written_laid(told)
 }

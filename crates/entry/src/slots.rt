@@ -1,8 +1,7 @@
 // A sorted worklist for the host.
 ghost use mathlib.Core.Path.{_≡_};
-ghost use Rattle.layout.specs.Layout.{lentAt};
+ghost use Rattle.lending.specs.Lending.{lentAt};
 ghost use Rattle.entry.specs.Told.{toldSteps, toldSlots};
-use layout::take;
 use refusals::MOST_SEGMENTS;
 use refusals::MOST_STARTS;
 use worklist::Slot;
@@ -19,6 +18,6 @@ pub extern "C" fn txc_worklist<'a>(
 ) -> Steps
     ensures { λ r. ⌜ (r ≡ toldSteps (lentAt (now (head .entry)) (now (genome .entry)) (now (transcript .entry)) (now (letters .entry)) (now (exons .entry))) (now (slots .entry))) × (now (slots .exit) ≡ toldSlots (lentAt (now (head .entry)) (now (genome .entry)) (now (transcript .entry)) (now (letters .entry)) (now (exons .entry))) (now (slots .entry))) ⌝ }
 {
-    let known = take::head_of(head);
+    let known = lending::head_of(head);
     worklist::answer_list(known, genome, transcript, letters, exons, slots)
 }

@@ -2,28 +2,14 @@
 ghost use mathlib.Core.Path.{_≡_};
 ghost use lib.ListN.{length};
 ghost use Rattle.strands.specs.Turned.{turning, turnedInto};
-ghost use Rattle.layout.specs.Layout.{lentAt};
+ghost use Rattle.lending.specs.Lending.{lentAt};
 ghost use Rattle.alleles.specs.Joining.{alleles, rooms, joinedLaid, referenceAfter, alternativeAfter};
-ghost use Rattle.entry.specs.Boundary.{numberLaid, textLaid};
+ghost use Rattle.results.specs.Results.{textLaid};
 ghost use Rattle.entry.specs.Told.{toldJoined};
 use alleles::Joined;
 use layout::lay::Length;
-use layout::take;
 use refusals::MOST_SEGMENTS;
 use refusals::MOST_STARTS;
-
-// That many bytes, or the number of a refusal.
-fn number_laid(number: u8, length: usize) -> Length
-    ensures { λ r. ⌜ r ≡ numberLaid number length ⌝ }
-{
-    if number == 0 {
-        return Length { number: 0, length };
-    }
-    Length {
-        number: number as u32,
-        length: 0,
-    }
-}
 
 // How many bytes the turned allele has, at the front of the buffer.
 #[no_mangle]
@@ -32,7 +18,7 @@ pub extern "C" fn txc_turn(allele: &[u8], buffer: &mut [u8]) -> Length
     ensures { λ _. ⌜ now (buffer .exit) ≡ turnedInto (now (buffer .entry)) (turning (now (allele .entry)) (length (now (buffer .entry)))) ⌝ }
 {
     let number = strands::turn::turn(allele, buffer);
-    number_laid(number, allele.len())
+    results::number_laid(number, allele.len())
 }
 
 // g. to c., and what is left of the two alleles at the fronts of the two buffers.
@@ -56,8 +42,8 @@ pub extern "C" fn txc_g_to_c_alleles(
     ensures { λ _. ⌜ now («reference_out» .exit) ≡ referenceAfter (now («reference_out» .entry)) (toldJoined (lentAt (now (head .entry)) (now (genome .entry)) (now (transcript .entry)) (now (letters .entry)) (now (exons .entry))) start end missing strict (alleles (now (reference .entry)) (now (alternative .entry))) (rooms (length (now («reference_out» .entry))) (length (now («alternative_out» .entry))))) ⌝ }
     ensures { λ _. ⌜ now («alternative_out» .exit) ≡ alternativeAfter (now («alternative_out» .entry)) (toldJoined (lentAt (now (head .entry)) (now (genome .entry)) (now (transcript .entry)) (now (letters .entry)) (now (exons .entry))) start end missing strict (alleles (now (reference .entry)) (now (alternative .entry))) (rooms (length (now («reference_out» .entry))) (length (now («alternative_out» .entry))))) ⌝ }
 {
-    let g = take::g_asked(start, end, missing);
-    let known = take::head_of(head);
+    let g = taking::g_asked(start, end, missing);
+    let known = lending::head_of(head);
     alleles::join(
         known,
         genome,

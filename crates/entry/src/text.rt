@@ -3,53 +3,12 @@ ghost use mathlib.Core.Path.{_≡_};
 ghost use lib.ListN.{length};
 ghost use Rattle.cigar.specs.Text.{countedOf};
 ghost use Rattle.cigar.specs.Read.{readText, countsAfter, lettersAfter};
-ghost use Rattle.cigar.specs.Write.{writing, writtenAnswer, bufferAfter};
+ghost use Rattle.spelling.specs.Write.{writing, writtenAnswer, bufferAfter};
 ghost use Rattle.sequences.specs.Alleles.{prefixLen, suffixLen, changedPart};
-ghost use Rattle.entry.specs.Boundary.{countedLaid, writtenLaid, partLaid};
-use cigar::Counted;
-use cigar::write::Written;
+ghost use Rattle.results.specs.Results.{countedLaid, writtenLaid, partLaid};
 use layout::lay::Length;
 use refusals::MOST_SEGMENTS;
-
-// Where the changed part stands: of the reference (0) or of the alternative (1).
-#[repr(C)]
-pub struct Part {
-    pub alternative: u32,
-    pub from: usize,
-    pub to: usize,
-}
-
-// A number of elements or words, as a length.
-pub fn counted_laid(counted: Counted) -> Length
-    ensures { λ r. ⌜ r ≡ countedLaid counted ⌝ }
-{
-    match counted {
-        Counted::Count(n) => Length {
-            number: 0,
-            length: n,
-        },
-        Counted::Refused(k) => Length {
-            number: k as u32,
-            length: 0,
-        },
-    }
-}
-
-// A text that was written, as a length.
-pub fn written_laid(written: Written) -> Length
-    ensures { λ r. ⌜ r ≡ writtenLaid written ⌝ }
-{
-    match written {
-        Written::Text(n) => Length {
-            number: 0,
-            length: n,
-        },
-        Written::Refused(k) => Length {
-            number: k as u32,
-            length: 0,
-        },
-    }
-}
+use results::Part;
 
 // How many elements a text has, which then stand at the front of the two tables.
 #[no_mangle]
@@ -62,7 +21,7 @@ pub extern "C" fn txc_read_cigar(
     ensures { λ _. ⌜ now (counts .exit) ≡ countsAfter (now (counts .entry)) (readText (now (text .entry))) ⌝ }
     ensures { λ _. ⌜ now (letters .exit) ≡ lettersAfter (now (letters .entry)) (readText (now (text .entry))) ⌝ }
 {
-    counted_laid(cigar::read_cigar(text, counts, letters))
+    results::counted_laid(cigar::read_cigar(text, counts, letters))
 }
 
 // How many bytes the first elements of the two tables are written with, at the front of the buffer.
@@ -76,7 +35,7 @@ pub extern "C" fn txc_write_cigar(
     ensures { λ r. ⌜ r ≡ writtenLaid (writtenAnswer (writing number (now (counts .entry)) (now (letters .entry)) (length (now (buffer .entry))))) ⌝ }
     ensures { λ _. ⌜ now (buffer .exit) ≡ bufferAfter (now (buffer .entry)) (writing number (now (counts .entry)) (now (letters .entry)) (length (now (buffer .entry)))) ⌝ }
 {
-    written_laid(cigar::write::write_cigar(number, counts, letters, buffer))
+    results::written_laid(spelling::write_cigar(number, counts, letters, buffer))
 }
 
 // How many bytes two alleles have in common from the front.
@@ -100,11 +59,5 @@ pub extern "C" fn txc_trim_suffix(reference: &[u8], alternative: &[u8]) -> usize
 pub extern "C" fn txc_changed(reference: &[u8], alternative: &[u8]) -> Part
     ensures { λ r. ⌜ r ≡ partLaid (changedPart (now (reference .entry)) (now (alternative .entry))) ⌝ }
 {
-    let part = sequences::changed_part(reference, alternative);
-    let alternative = layout::lay::star_number(part.alternative);
-    Part {
-        alternative,
-        from: part.from,
-        to: part.to,
-    }
+    results::part_laid(sequences::changed_part(reference, alternative))
 }

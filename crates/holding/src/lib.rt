@@ -12,7 +12,6 @@ use refusals::MOST_BASES;
 use refusals::MOST_RECORDS;
 use refusals::MOST_SEGMENTS;
 use refusals::MOST_STARTS;
-use together::exons;
 use transcript::BOTH_GIVEN;
 use transcript::Head;
 use transcript::NONE_GIVEN;
@@ -146,7 +145,7 @@ fn tables_hold(
 {
     if together::segments_hold(genome, transcript, letters, count) {
         if totals_hold(first, genome[count], transcript[count]) {
-            return exons::numbers_hold(letters, exons, count, forward, records);
+            return numbered::numbers_hold(letters, exons, count, forward, records);
         }
     }
     false

@@ -1,59 +1,14 @@
--- How the boundary lays its answers out, and what it reads from plain numbers and lent memory: the words of include/txc.h. Assumes nothing.
-use Prim.Native.Nat.{ℕ, _/_, _%_}
+-- How the boundary lays its answers out: the words of include/txc.h. Assumes nothing.
+use Prim.Native.Nat.{ℕ}
 use mathlib.Core.Bool.{Bool, cond}
-use mathlib.Core.List.{List, [], _∷_}
-use lib.Dec.{eqb}
-use lib.IntN.{ℤ, pos}
-use lib.ListN.{getD}
+use lib.IntN.{pos}
 use Rattle.refusals.specs.Outcome.{Outcome, answered, refused}
-use Rattle.transcript.specs.declared.Head.{Head}
-use Rattle.holding.specs.Holding.{Lent, lent}
-use Rattle.positions.specs.Positions.{Interval, GAsked, at, missing, NAsked, CAsked, GPosition, NPosition, CPosition}
+use Rattle.positions.specs.Positions.{GPosition, NPosition, CPosition}
 use Rattle.positions.specs.Answers as paper
 use Rattle.positions.specs.Answers.Mark.{certain, uncertain, unmarked}
 use Rattle.layout.specs.declared.lay.Position.{Position}
 use Rattle.layout.specs.declared.lay.Answer.{Answer}
 use Rattle.layout.specs.declared.lay.Said.{Said}
-
--- ---- what is read
-
--- the nine numbers of a head
-unfoldable pub headAt : List ℤ → Head
-headAt h = record {
-  kind = getD h 0 (pos 0);
-  strand = getD h 1 (pos 0);
-  first = getD h 2 (pos 0);
-  count = getD h 3 (pos 0);
-  bits = getD h 4 (pos 0);
-  start = getD h 5 (pos 0);
-  end = getD h 6 (pos 0);
-  length = getD h 7 (pos 0);
-  records = getD h 8 (pos 0);
-}
-
--- and laid out again
-abbrev pub headRow : Head → List ℤ
-headRow h = h .kind ∷ h .strand ∷ h .first ∷ h .count ∷ h .bits ∷ h .start ∷ h .end ∷ h .length ∷ h .records ∷ []
-
--- what is lent: a head's numbers and the tables
-abbrev pub lentAt : List ℤ → List ℕ → List ℕ → List ℕ → List ℕ → Lent
-lentAt h g t l e = lent (headAt h) g t l e
-
--- an end of a g. interval: missing where its bit is set
-abbrev pub gEnd : Bool → ℤ → GAsked
-gEnd gone z = cond gone missing (at z)
-
--- bit 0 of `missing` is the start's, bit 1 the end's
-unfoldable pub gAsked : ℤ → ℤ → ℕ → Interval GAsked
-gAsked a b gone = record { from = gEnd (eqb (gone % 2) 1) a; to = gEnd (eqb (gone / 2 % 2) 1) b }
-
-abbrev pub nAsked : ℤ → ℤ → ℤ → ℤ → Interval NAsked
-nAsked a o b u = record { from = record { base = a; offset = o }; to = record { base = b; offset = u } }
-
-abbrev pub cAsked : ℤ → ℤ → Bool → ℤ → ℤ → Bool → Interval CAsked
-cAsked a o s b u t = record { from = record { base = record { 0 = a; 1 = s }; offset = o }; to = record { base = record { 0 = b; 1 = t }; offset = u } }
-
--- ---- how an answer is laid out
 
 abbrev pub starOf : Bool → ℕ
 starOf star = cond star 1 0

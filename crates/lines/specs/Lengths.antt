@@ -3,7 +3,7 @@ use Prim.Native.Nat.{ℕ, _+_, _*_, _^_, _≤_, _<_}
 use native.Mathlib.Omega.{arith}
 use lib.ListN.{length}
 use Rattle.refusals.specs.Numbers.{mostSegments}
-use Rattle.cigar.specs.laws.Decimal.{decimal-short}
+use Rattle.spelling.specs.laws.Decimal.{decimal-short}
 use Rattle.lines.specs.Listing.{numberText}
 
 -- a space and a number, three of them and the newline, a header, a line

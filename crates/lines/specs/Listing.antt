@@ -6,7 +6,7 @@ use lib.ListN.{length}
 use Rattle.refusals.specs.Outcome.{Outcome, answered, refused}
 use Rattle.whole.specs.Whole.{if_then_else_}
 use Rattle.cigar.specs.Elements.{Element, genome, transcript, total}
-use Rattle.cigar.specs.Write.{decimal}
+use Rattle.spelling.specs.Write.{decimal}
 use Rattle.judging.specs.Judging.{Made, elementsMade}
 use Rattle.card.specs.Layout.{mark}
 

@@ -33,7 +33,7 @@ fn put_number(buffer: &mut [u8], at: usize, n: u32) -> usize
     ensures within { λ r. ⌜ r ≤ at + mostNumber ⌝ }
 {
     buffer[at] = b' ';
-    cigar::write::put_digits(buffer, at + 1, n)
+    spelling::put_digits(buffer, at + 1, n)
 }
 
 // The three numbers that end a line, and the newline. Returns the place after it.

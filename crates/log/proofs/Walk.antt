@@ -7,9 +7,9 @@ use mathlib.Core.Bool.{true, false, _&&_}
 use mathlib.Core.List.{List}
 use Prim.Native.Nat.{ℕ, zero, suc, _+_, _-_, _<_}
 use native.Mathlib.Omega.{arith}
-use Rattle.log.specs.Layout.{entrySize}
-use Rattle.log.specs.Entries.{entryAt}
-use Rattle.log.specs.Canonical.{canonical}
+use Rattle.entries.specs.Layout.{entrySize}
+use Rattle.entries.specs.Entries.{entryAt}
+use Rattle.canonical.specs.Canonical.{canonical}
 use Rattle.log.specs.Logs.{entriesFrom, allCanonical}
 
 pred : (n : ℕ) → suc n - 1 ≡ n

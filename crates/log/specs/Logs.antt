@@ -10,14 +10,15 @@ use Rattle.refusals.specs.Numbers.{tooMuch, noRoom, noLog, mostLog}
 use Rattle.refusals.specs.Outcome.{Outcome, answered, refused}
 use Rattle.whole.specs.Whole.{if_then_else_}
 use Rattle.fields.specs.Fields.{le16, bytes16}
-use Rattle.log.specs.Layout.{mark, version, versionAt, entriesAt, entrySize}
-use Rattle.log.specs.Entries.{entryBytes, entryAt, EntryFits}
-use Rattle.log.specs.Canonical.{canonical}
-use Rattle.log.specs.declared.Entry.{Entry}
-use Rattle.log.specs.declared.logs.ReadLog.{ReadLog}
-use Rattle.log.specs.declared.logs.ReadLog.the-variants as read
-use Rattle.log.specs.declared.logs.Appended.{Appended}
-use Rattle.log.specs.declared.logs.Appended.the-variants as appended
+use Rattle.log.specs.Layout.{mark, version, versionAt, entriesAt}
+use Rattle.entries.specs.Layout.{entrySize}
+use Rattle.entries.specs.Entries.{entryBytes, entryAt, EntryFits}
+use Rattle.canonical.specs.Canonical.{canonical}
+use Rattle.entries.specs.declared.Entry.{Entry}
+use Rattle.log.specs.declared.ReadLog.{ReadLog}
+use Rattle.log.specs.declared.ReadLog.the-variants as read
+use Rattle.log.specs.declared.Appended.{Appended}
+use Rattle.log.specs.declared.Appended.the-variants as appended
 
 -- ---- writing
 

@@ -1,180 +1,153 @@
-// A log of questions: its entries as bytes, read and written where they lie.
+// A log: a mark, a version, and entries of a fixed size. Reading all of it, and putting an entry behind it.
 ghost use mathlib.Core.Path.{_≡_};
-ghost use Prim.Native.Nat.{_+_, _≤_};
+ghost use Prim.Native.Nat.{_+_, _*_, _≤_};
 ghost use lib.ListN.{length};
 ghost use lib.Seq.{sets};
-ghost use Rattle.log.specs.Layout.{entrySize, questionSize, answerSize};
-ghost use Rattle.log.specs.Entries.{fourBytes, fourNumbers, questionBytes, answerBytes, entryBytes, questionAt, answerAt, entryAt};
-use layout::lay::Answer;
-use layout::lay::Position;
-use layout::question::Question;
+ghost use mathlib.Core.List.{_++_};
+ghost use Rattle.log.specs.Layout.{entriesAt};
+ghost use Rattle.entries.specs.Layout.{entrySize};
+ghost use Rattle.entries.specs.Entries.{entryBytes};
+ghost use Rattle.log.specs.Logs.{headerBytes, isMarked, isHeaded, entriesFrom, allCanonical, readLog, answerOf, fitted, appending, appendedOf, logAfter};
+use entries::ENTRY_SIZE;
+use entries::Entry;
+use refusals::MOST_LOG;
+use refusals::NO_LOG;
+use refusals::NO_ROOM;
+use refusals::TOO_MUCH;
 
-pub mod canonical;
-pub mod logs;
+const VERSION: u32 = 1;
 
-// The bytes of an entry: a question's, and behind them an answer's.
-pub const ENTRY_SIZE: usize = 44;
+const VERSION_AT: usize = 3;
 
-const QUESTION_SIZE: usize = 20;
+// Where the entries begin.
+pub const ENTRIES_AT: usize = 5;
 
-// Where the numbers stand, counted from the first byte of a question or an answer. Of either the numbers of its positions:
-const START_AT: usize = 4;
-
-const START_OFFSET_AT: usize = 8;
-
-const END_AT: usize = 12;
-
-const END_OFFSET_AT: usize = 16;
-
-// Of a question, behind the kind:
-const STRICT_AT: usize = 1;
-
-const START_MARKS_AT: usize = 2;
-
-const END_MARKS_AT: usize = 3;
-
-// Of an answer, behind the tag:
-const REFUSAL_AT: usize = 1;
-
-const START_STAR_AT: usize = 2;
-
-const END_STAR_AT: usize = 3;
-
-const START_EXON_AT: usize = 20;
-
-const END_EXON_AT: usize = 22;
-
-// A question of one of the six mappings, and its answer or refusal as the boundary lays it out.
-pub struct Entry {
-    pub question: Question,
-    pub answer: Answer,
+// How many entries bytes are, or a refusal.
+pub enum ReadLog {
+    Entries(usize),
+    // 3 or 35.
+    Refused(u8),
 }
 
-// The question at a place.
-fn question_at(s: &[u8], at: usize) -> Question
-    requires { ⌜ at + questionSize ≤ length (now s) ⌝ }
-    ensures { λ r. ⌜ r ≡ questionAt (now (s .entry)) at ⌝ }
+// How many bytes a log has with one entry more, or a refusal.
+pub enum Appended {
+    Length(usize),
+    // 35, 3 or 20.
+    Refused(u8),
+}
+
+// Whether bytes begin with the mark.
+fn is_marked(log: &[u8]) -> bool
+    requires { ⌜ entriesAt ≤ length (now log) ⌝ }
+    ensures { λ r. ⌜ r ≡ isMarked (now (log .entry)) ⌝ }
 {
-    let kind = fields::u8_at(s, at);
-    let strict = fields::u8_at(s, at + STRICT_AT);
-    let start_marks = fields::u8_at(s, at + START_MARKS_AT);
-    let end_marks = fields::u8_at(s, at + END_MARKS_AT);
-    let start = fields::i32_at(s, at + START_AT);
-    let start_offset = fields::i32_at(s, at + START_OFFSET_AT);
-    let end = fields::i32_at(s, at + END_AT);
-    let end_offset = fields::i32_at(s, at + END_OFFSET_AT);
-    Question {
-        kind,
-        strict,
-        start_marks,
-        end_marks,
-        start,
-        start_offset,
-        end,
-        end_offset,
+    (log[0] == b'Q') & (log[1] == b'L') & (log[2] == b'G')
+}
+
+// Whether the first bytes have the mark, the version and the length of a log.
+fn is_headed(log: &[u8], used: usize) -> bool
+    requires { ⌜ used ≤ length (now log) ⌝ }
+    ensures { λ r. ⌜ r ≡ isHeaded (now (log .entry)) used ⌝ }
+{
+    if used < ENTRIES_AT {
+        return false;
     }
+    let marked = is_marked(log);
+    let version = fields::u16_at(log, VERSION_AT);
+    let rest = (used - ENTRIES_AT) % ENTRY_SIZE;
+    marked & (version == VERSION) & (rest == 0)
 }
 
-// The answer at a place.
-fn answer_at(s: &[u8], at: usize) -> Answer
-    requires { ⌜ at + answerSize ≤ length (now s) ⌝ }
-    ensures { λ r. ⌜ r ≡ answerAt (now (s .entry)) at ⌝ }
+// Whether that many entries are such as a log holds.
+fn are_canonical(log: &[u8], count: usize) -> bool
+    requires { ⌜ entriesAt + entrySize * count ≤ length (now log) ⌝ }
+    ensures { λ r. ⌜ r ≡ allCanonical (entriesFrom count (now (log .entry)) entriesAt) ⌝ }
 {
-    let mark = fields::u8_at(s, at);
-    let number = fields::u8_at(s, at + REFUSAL_AT);
-    let start = Position {
-        base: fields::i32_at(s, at + START_AT),
-        offset: fields::i32_at(s, at + START_OFFSET_AT),
-        star: fields::u8_at(s, at + START_STAR_AT),
-        exon: fields::u16_at(s, at + START_EXON_AT),
-    };
-    let end = Position {
-        base: fields::i32_at(s, at + END_AT),
-        offset: fields::i32_at(s, at + END_OFFSET_AT),
-        star: fields::u8_at(s, at + END_STAR_AT),
-        exon: fields::u16_at(s, at + END_EXON_AT),
-    };
-    Answer {
-        number,
-        mark,
-        start,
-        end,
+    let mut left = count;
+    let mut at = ENTRIES_AT;
+    while left > 0 {
+        if canonical::is_canonical(entries::entry_at(log, at)) {
+            at += ENTRY_SIZE;
+            left -= 1;
+        } else {
+            return false;
+        }
     }
+    true
 }
 
-// The entry at a place.
-pub fn entry_at(log: &[u8], at: usize) -> Entry
-    requires { ⌜ at + entrySize ≤ length (now log) ⌝ }
-    ensures { λ r. ⌜ r ≡ entryAt (now (log .entry)) at ⌝ }
+// How many entries bytes are, or a refusal.
+pub fn read_log(log: &[u8]) -> ReadLog
+    ensures { λ r. ⌜ r ≡ answerOf (readLog (now (log .entry))) ⌝ }
 {
-    let question = question_at(log, at);
-    let answer = answer_at(log, at + QUESTION_SIZE);
-    Entry { question, answer }
+    let size = log.len();
+    if MOST_LOG < size {
+        return ReadLog::Refused(TOO_MUCH);
+    }
+    if is_headed(log, size) {
+        let count = (size - ENTRIES_AT) / ENTRY_SIZE;
+        if are_canonical(log, count) {
+            return ReadLog::Entries(count);
+        }
+        return ReadLog::Refused(NO_LOG);
+    }
+    ReadLog::Refused(NO_LOG)
 }
 
-// Writes four numbers from a place on, a byte each.
-fn put_bytes(buffer: &mut [u8], at: usize, a: u32, b: u32, c: u32, d: u32)
-    requires { ⌜ at + 4 ≤ length (now buffer) ⌝ }
-    ensures { λ _. ⌜ now (buffer .exit) ≡ sets (now (buffer .entry)) at (fourBytes a b c d) ⌝ }
+// Writes the mark and the version at the front.
+fn put_header(log: &mut [u8])
+    requires { ⌜ entriesAt ≤ length (now log) ⌝ }
+    ensures { λ _. ⌜ now (log .exit) ≡ sets (now (log .entry)) 0 headerBytes ⌝ }
 {
-    fields::put_u8(buffer, at, a);
-    fields::put_u8(buffer, at + 1, b);
-    fields::put_u8(buffer, at + 2, c);
-    fields::put_u8(buffer, at + 3, d);
+    log[0] = b'Q';
+    log[1] = b'L';
+    log[2] = b'G';
+    fields::put_u16(log, VERSION_AT, VERSION);
 }
 
-// Writes four signed numbers from a place on.
-fn put_numbers(buffer: &mut [u8], at: usize, a: i32, b: i32, c: i32, d: i32)
-    requires { ⌜ at + 16 ≤ length (now buffer) ⌝ }
-    ensures { λ _. ⌜ now (buffer .exit) ≡ sets (now (buffer .entry)) at (fourNumbers a b c d) ⌝ }
+// The first entry, behind the header.
+fn put_first(log: &mut [u8], entry: Entry) -> Appended
+    ensures { λ r. ⌜ r ≡ appendedOf 0 (fitted (length (now (log .entry))) 0 (headerBytes ++ entryBytes entry)) ⌝ }
+    ensures { λ _. ⌜ now (log .exit) ≡ logAfter (now (log .entry)) 0 (fitted (length (now (log .entry))) 0 (headerBytes ++ entryBytes entry)) ⌝ }
 {
-    fields::put_i32(buffer, at, a);
-    fields::put_i32(buffer, at + 4, b);
-    fields::put_i32(buffer, at + 8, c);
-    fields::put_i32(buffer, at + 12, d);
+    let size = ENTRIES_AT + ENTRY_SIZE;
+    if log.len() < size {
+        return Appended::Refused(NO_ROOM);
+    }
+    put_header(log);
+    entries::put_entry(log, ENTRIES_AT, entry);
+    Appended::Length(size)
 }
 
-// Writes a question from a place on.
-fn put_question(buffer: &mut [u8], at: usize, q: Question)
-    requires { ⌜ at + questionSize ≤ length (now buffer) ⌝ }
-    ensures { λ _. ⌜ now (buffer .exit) ≡ sets (now (buffer .entry)) at (questionBytes q) ⌝ }
+// An entry more, behind the bytes in use.
+fn put_next(log: &mut [u8], used: usize, entry: Entry) -> Appended
+    ensures { λ r. ⌜ r ≡ appendedOf used (fitted (length (now (log .entry))) used (entryBytes entry)) ⌝ }
+    ensures { λ _. ⌜ now (log .exit) ≡ logAfter (now (log .entry)) used (fitted (length (now (log .entry))) used (entryBytes entry)) ⌝ }
 {
-    put_bytes(buffer, at, q.kind, q.strict, q.start_marks, q.end_marks);
-    put_numbers(
-        buffer,
-        at + START_AT,
-        q.start,
-        q.start_offset,
-        q.end,
-        q.end_offset,
-    );
+    if MOST_LOG - ENTRY_SIZE < used {
+        return Appended::Refused(TOO_MUCH);
+    }
+    let size = used + ENTRY_SIZE;
+    if log.len() < size {
+        return Appended::Refused(NO_ROOM);
+    }
+    entries::put_entry(log, used, entry);
+    Appended::Length(size)
 }
 
-// Writes an answer from a place on.
-fn put_answer(buffer: &mut [u8], at: usize, a: Answer)
-    requires { ⌜ at + answerSize ≤ length (now buffer) ⌝ }
-    ensures { λ _. ⌜ now (buffer .exit) ≡ sets (now (buffer .entry)) at (answerBytes a) ⌝ }
+// Puts an entry behind the bytes in use, or refuses and leaves all bytes as they are.
+pub fn append(log: &mut [u8], used: usize, entry: Entry) -> Appended
+    ensures { λ r. ⌜ r ≡ appendedOf used (appending (now (log .entry)) used entry) ⌝ }
+    ensures { λ _. ⌜ now (log .exit) ≡ logAfter (now (log .entry)) used (appending (now (log .entry)) used entry) ⌝ }
 {
-    let start = a.start;
-    let end = a.end;
-    put_bytes(buffer, at, a.mark, a.number, start.star, end.star);
-    put_numbers(
-        buffer,
-        at + START_AT,
-        start.base,
-        start.offset,
-        end.base,
-        end.offset,
-    );
-    fields::put_u16(buffer, at + START_EXON_AT, start.exon);
-    fields::put_u16(buffer, at + END_EXON_AT, end.exon);
-}
-
-// Writes an entry from a place on, and no other byte.
-pub fn put_entry(buffer: &mut [u8], at: usize, entry: Entry)
-    requires { ⌜ at + entrySize ≤ length (now buffer) ⌝ }
-    ensures { λ _. ⌜ now (buffer .exit) ≡ sets (now (buffer .entry)) at (entryBytes entry) ⌝ }
-{
-    put_question(buffer, at, entry.question);
-    put_answer(buffer, at + QUESTION_SIZE, entry.answer);
+    if log.len() < used {
+        return Appended::Refused(NO_LOG);
+    }
+    if used == 0 {
+        return put_first(log, entry);
+    }
+    if is_headed(log, used) {
+        return put_next(log, used, entry);
+    }
+    Appended::Refused(NO_LOG)
 }

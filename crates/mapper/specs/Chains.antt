@@ -5,7 +5,7 @@ use Rattle.transcript.specs.Transcript.{Transcript, transcriptLength}
 use Rattle.positions.specs.Positions.{Interval, CAsked, GPosition, CPosition, asksN}
 use Rattle.positions.specs.Answers.{Answer, chain}
 use Rattle.coding.specs.Coding.{nToC, cToN}
-use Rattle.places.specs.Mapping.{gToN, nToG}
+use Rattle.spots.specs.Mapping.{gToN, nToG}
 
 unfoldable pub gToC : Bool → Transcript → Interval ℤ → Answer CPosition
 gToC strict t i = chain asksN (gToN strict t i) (nToC strict (transcriptLength t) (t .coding))

@@ -19,9 +19,6 @@ use refusals::NO_GENOME;
 use refusals::NOT_TOGETHER;
 use transcript::Head;
 
-pub mod knowing;
-pub mod steps;
-
 // g. to n.: 23, 18, 19, 14, 17.
 pub fn g_to_n(
     head: Head,
@@ -35,7 +32,15 @@ pub fn g_to_n(
     ensures { λ r. ⌜ paperN r ≡ checked (lent head (now (genome .entry)) (now (transcript .entry)) (now (letters .entry)) (now (exons .entry))) (askGToN strict (paperGQuestion q)) ⌝ }
 {
     match knowing::known_of(head, genome, transcript, letters, exons) {
-        Known::Aligned(at, _) => steps::g_to_n(at, genome, transcript, letters, exons, q, strict),
+        Known::Aligned(at, _) => chaining::g_to_n(
+            at,
+            genome,
+            transcript,
+            letters,
+            exons,
+            q,
+            strict,
+        ),
         Known::OfLength(_, _) => NAnswer::Refused(NO_GENOME),
         Known::Broken => NAnswer::Refused(NOT_TOGETHER),
     }
@@ -75,9 +80,9 @@ pub fn n_to_c(
     match knowing::known_of(head, genome, transcript, letters, exons) {
         Known::Aligned(at, cds) => {
             let count = at.count;
-            steps::n_to_c(places::last(transcript, count), cds, q, strict)
+            chaining::n_to_c(spots::last(transcript, count), cds, q, strict)
         }
-        Known::OfLength(length, cds) => steps::n_to_c(length, cds, q, strict),
+        Known::OfLength(length, cds) => chaining::n_to_c(length, cds, q, strict),
         Known::Broken => CPlain::Refused(NOT_TOGETHER),
     }
 }
@@ -97,9 +102,9 @@ pub fn c_to_n(
     match knowing::known_of(head, genome, transcript, letters, exons) {
         Known::Aligned(at, cds) => {
             let count = at.count;
-            steps::c_to_n(places::last(transcript, count), cds, q, strict)
+            chaining::c_to_n(spots::last(transcript, count), cds, q, strict)
         }
-        Known::OfLength(length, cds) => steps::c_to_n(length, cds, q, strict),
+        Known::OfLength(length, cds) => chaining::c_to_n(length, cds, q, strict),
         Known::Broken => NPlain::Refused(NOT_TOGETHER),
     }
 }
@@ -119,9 +124,9 @@ pub fn g_to_c(
     match knowing::known_of(head, genome, transcript, letters, exons) {
         Known::Aligned(at, cds) => {
             let count = at.count;
-            let length = places::last(transcript, count);
-            let n = steps::g_to_n(at, genome, transcript, letters, exons, q, strict);
-            steps::then_n_to_c(n, length, cds, strict)
+            let length = spots::last(transcript, count);
+            let n = chaining::g_to_n(at, genome, transcript, letters, exons, q, strict);
+            chaining::then_n_to_c(n, length, cds, strict)
         }
         Known::OfLength(_, _) => CAnswer::Refused(NO_GENOME),
         Known::Broken => CAnswer::Refused(NOT_TOGETHER),
@@ -143,11 +148,11 @@ pub fn c_to_g(
     match knowing::known_of(head, genome, transcript, letters, exons) {
         Known::Aligned(at, cds) => {
             let count = at.count;
-            let length = places::last(transcript, count);
-            let n = steps::c_to_n(length, cds, q, strict);
-            steps::then_n_to_g(n, at, genome, transcript, letters, exons, strict)
+            let length = spots::last(transcript, count);
+            let n = chaining::c_to_n(length, cds, q, strict);
+            chaining::then_n_to_g(n, at, genome, transcript, letters, exons, strict)
         }
-        Known::OfLength(length, cds) => steps::then_no_genome(steps::c_to_n(
+        Known::OfLength(length, cds) => chaining::then_no_genome(chaining::c_to_n(
             length,
             cds,
             q,
@@ -168,8 +173,8 @@ pub fn is_coding_transcript(
     ensures { λ r. ⌜ paperSaid r ≡ checked (lent head (now (genome .entry)) (now (transcript .entry)) (now (letters .entry)) (now (exons .entry))) askCoding ⌝ }
 {
     match knowing::known_of(head, genome, transcript, letters, exons) {
-        Known::Aligned(_, cds) => steps::is_coding(cds),
-        Known::OfLength(_, cds) => steps::is_coding(cds),
+        Known::Aligned(_, cds) => chaining::is_coding(cds),
+        Known::OfLength(_, cds) => chaining::is_coding(cds),
         Known::Broken => Said::Refused(NOT_TOGETHER),
     }
 }
@@ -186,7 +191,7 @@ pub fn is_g_interval_in_bounds(
     ensures { λ r. ⌜ paperSaid r ≡ checked (lent head (now (genome .entry)) (now (transcript .entry)) (now (letters .entry)) (now (exons .entry))) (askInBounds (paperGQuestion q)) ⌝ }
 {
     match knowing::known_of(head, genome, transcript, letters, exons) {
-        Known::Aligned(at, _) => steps::is_in_bounds(at, genome, q),
+        Known::Aligned(at, _) => chaining::is_in_bounds(at, genome, q),
         Known::OfLength(_, _) => Said::Refused(NO_GENOME),
         Known::Broken => Said::Refused(NOT_TOGETHER),
     }

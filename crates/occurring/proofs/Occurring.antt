@@ -3,7 +3,7 @@ use mathlib.Core.Path.{refl}
 use Rattle.cigar.specs.Elements.{isLetter}
 use Rattle.cigar.specs.Text.{readFrom}
 use Rattle.cigar.specs.Read.{readText}
-use Rattle.cigar.specs.Write.{writing, givenFrom, elementsText, elementText}
+use Rattle.spelling.specs.Write.{writing, givenFrom, elementsText, elementText}
 use Rattle.words.specs.Words.{letterOf, allKnown, readWords, faultOf, faultFrom, writeWords}
 use Rattle.records.specs.Records.{recordText}
 use Rattle.judging.specs.Judging.{judgeLength, lengthFault, rangeFault}

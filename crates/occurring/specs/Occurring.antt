@@ -1,4 +1,4 @@
--- Each refusal of the table's rows occurs: for each number of a row an input that is refused with it, in the row's order. With `refusals` of `promises` the rows are exact. Assumes nothing.
+-- Each refusal of the table's rows occurs: for each number of a row an input that is refused with it, in the row's order. With `refusals` of `refusing` the rows are exact. Assumes nothing.
 use Prim.Native.Nat.{ℕ}
 use mathlib.Core.List.{List, [], _∷_, _++_, map}
 use mathlib.Core.Path.{_≡_}
@@ -7,7 +7,7 @@ use lib.ListN.{length, replicate, drop}
 use Rattle.refusals.specs.Outcome.{refused}
 use Rattle.cigar.specs.Elements.{letterD, letterM}
 use Rattle.cigar.specs.Read.{readText}
-use Rattle.cigar.specs.Write.{writing}
+use Rattle.spelling.specs.Write.{writing}
 use Rattle.words.specs.Words.{readWords, writeWords}
 use Rattle.records.specs.Records.{Record}
 use Rattle.judging.specs.Input.{inputOf, numbersOf}
@@ -17,7 +17,7 @@ use Rattle.transcript.specs.declared.Numbers.{Numbers}
 use Rattle.card.specs.Layout.{mark}
 use Rattle.card.specs.Card.{cardText}
 use Rattle.card.specs.Writing.{judgeCard, cardWriting}
-use Rattle.promises.specs.Refusals.{readingRefusals, writingRefusals, readingWordsRefusals, writingWordsRefusals, buildingRefusals, cardRefusals, lengthRefusals, cardWritingRefusals}
+use Rattle.refusing.specs.Refusals.{readingRefusals, writingRefusals, readingWordsRefusals, writingWordsRefusals, buildingRefusals, cardRefusals, lengthRefusals, cardWritingRefusals}
 
 -- a CIGAR of one segment too many
 abbrev many : List ℕ

@@ -1,8 +1,2 @@
--- The root of the crate's specs.
---     Mapping    g. to n. and back, of a transcript that lies on the genome
---     Lone       a base by itself
---     Aligned    how it lies as the code holds it, and what the steps give at one end
-pub mod Mapping
-pub mod Aligned
-pub mod Lone
+-- The root of the crate's specs. The mappings themselves are defined in `spots`, specs/Mapping.antt.
 pub mod laws

@@ -1,5 +1,3 @@
 -- What the proofs of several functions use.
 pub mod Walk
 pub mod Reading
-pub mod Written
-pub mod CardEnds

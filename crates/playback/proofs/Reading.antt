@@ -6,11 +6,12 @@ use Prim.Native.Nat.{ℕ, _+_, _*_, _≤_}
 use native.Mathlib.Omega.{arith}
 use lib.ListN.{length}
 use Rattle.refusals.specs.Outcome.{Outcome, answered, refused}
-use Rattle.log.specs.Layout.{entriesAt, entrySize}
+use Rattle.log.specs.Layout.{entriesAt}
+use Rattle.entries.specs.Layout.{entrySize}
 use Rattle.log.specs.Logs.{entriesFrom, countOf, readLog, answerOf}
 use Rattle.log.specs.laws.LogTrips.{from-length, read-means}
-use Rattle.log.specs.declared.Entry.{Entry}
-use Rattle.log.specs.declared.logs.ReadLog.the-variants as read
+use Rattle.entries.specs.declared.Entry.{Entry}
+use Rattle.log.specs.declared.ReadLog.the-variants as read
 use Rattle.playback.specs.Lines.{mostEntries}
 
 pub record Reads (log : List ℕ) (count : ℕ) : Type 0 where

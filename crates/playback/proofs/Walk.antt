@@ -13,8 +13,9 @@ use native.Mathlib.Omega.{arith}
 use lib.ListN.{length, length-append}
 use Rattle.holding.specs.Holding.{Lent}
 use Rattle.layout.specs.Layout.{starOf}
-use Rattle.log.specs.Layout.{entriesAt, entrySize}
-use Rattle.log.specs.Entries.{entryAt}
+use Rattle.log.specs.Layout.{entriesAt}
+use Rattle.entries.specs.Layout.{entrySize}
+use Rattle.entries.specs.Entries.{entryAt}
 use Rattle.log.specs.Logs.{entriesFrom}
 use Rattle.log.specs.laws.LogTrips.{from-length}
 use Rattle.playback.specs.Lines.{linesOf, indexIf}

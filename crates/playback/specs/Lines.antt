@@ -3,7 +3,7 @@ use Prim.Native.Nat.{ℕ, _+_, _*_, _-_}
 use mathlib.Core.Bool.{Bool}
 use mathlib.Core.List.{List, [], _∷_, _++_}
 use Rattle.whole.specs.Whole.{if_then_else_}
-use Rattle.cigar.specs.Write.{decimal}
+use Rattle.spelling.specs.Write.{decimal}
 
 -- a number in decimal and the newline
 unfoldable pub lineOf : ℕ → List ℕ

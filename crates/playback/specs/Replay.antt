@@ -12,7 +12,7 @@ use Rattle.holding.specs.Holding.{Lent, checked}
 use Rattle.layout.specs.declared.lay.Position.{Position}
 use Rattle.layout.specs.declared.lay.Answer.{Answer}
 use Rattle.log.specs.Logs.{readLog}
-use Rattle.log.specs.declared.Entry.{Entry}
+use Rattle.entries.specs.declared.Entry.{Entry}
 use Rattle.asking.specs.Asking.{asked}
 use Rattle.playback.specs.Lines.{lineOf, linesOf, indexIf}
 

@@ -1,4 +1,3 @@
 -- What is shown of the definitions.
 pub mod Lines
 pub mod Replay
-pub mod Played

@@ -2,24 +2,25 @@
 ghost use mathlib.Core.Path.{_≡_};
 ghost use Prim.Native.Nat.{_+_, _*_, _≤_};
 ghost use lib.ListN.{length};
-ghost use Rattle.cigar.specs.Write.{writtenAnswer, bufferAfter};
+ghost use Rattle.spelling.specs.Write.{writtenAnswer, bufferAfter};
 ghost use Rattle.holding.specs.Holding.{lent};
 ghost use Rattle.card.specs.Putting.{Put};
-ghost use Rattle.log.specs.Layout.{entriesAt, entrySize};
-ghost use Rattle.log.specs.Entries.{entryAt};
+ghost use Rattle.log.specs.Layout.{entriesAt};
+ghost use Rattle.entries.specs.Layout.{entrySize};
+ghost use Rattle.entries.specs.Entries.{entryAt};
 ghost use Rattle.log.specs.Logs.{entriesFrom};
 ghost use Rattle.playback.specs.Lines.{linesOf, mostEntries};
 ghost use Rattle.playback.specs.Replay.{samePosition, sameAnswer, differs, differing, roomed, replayText};
 use crate::text;
-use cigar::write::Written;
+use entries::ENTRY_SIZE;
 use layout::lay;
 use layout::lay::Answer;
 use layout::lay::Position;
-use log::ENTRY_SIZE;
-use log::logs::ENTRIES_AT;
+use log::ENTRIES_AT;
 use refusals::MOST_SEGMENTS;
 use refusals::MOST_STARTS;
 use refusals::NO_ROOM;
+use spelling::Written;
 use transcript::Head;
 
 // How many entries differ, and how many bytes the lines of their indices take.
@@ -57,7 +58,7 @@ fn differs_at<'a>(
     requires { ⌜ at + entrySize ≤ length (now log) ⌝ }
     ensures { λ r. ⌜ r ≡ differs (lent head (now (genome .entry)) (now (transcript .entry)) (now (letters .entry)) (now (exons .entry))) (entryAt (now (log .entry)) at) ⌝ }
 {
-    let entry = log::entry_at(log, at);
+    let entry = entries::entry_at(log, at);
     let question = entry.question;
     let answer = entry.answer;
     let said = asking::ask(head, genome, transcript, letters, exons, question);

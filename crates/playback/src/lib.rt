@@ -1,19 +1,17 @@
 // A log replayed: which of its questions a transcript answers otherwise than is recorded.
 ghost use mathlib.Core.Path.{_≡_};
 ghost use lib.ListN.{length};
-ghost use Rattle.cigar.specs.Write.{writtenAnswer, bufferAfter};
+ghost use Rattle.spelling.specs.Write.{writtenAnswer, bufferAfter};
 ghost use Rattle.holding.specs.Holding.{lent};
 ghost use Rattle.playback.specs.Replay.{replaying};
-use cigar::write::Written;
-use log::logs;
-use log::logs::ReadLog;
+use log::ReadLog;
 use refusals::MOST_SEGMENTS;
 use refusals::MOST_STARTS;
 use refusals::NOT_TOGETHER;
+use spelling::Written;
 use transcript::Head;
 
 pub mod differing;
-pub mod input;
 pub mod text;
 
 // The index of each entry whose answer differs, a line each, then the total, at the front of a lent buffer: 23, 3, 35, 20, and nothing is written
@@ -31,7 +29,7 @@ pub fn replay<'a>(
     ensures { λ _. ⌜ now (buffer .exit) ≡ bufferAfter (now (buffer .entry)) (replaying (lent head (now (genome .entry)) (now (transcript .entry)) (now (letters .entry)) (now (exons .entry))) (now (log .entry)) (length (now (buffer .entry)))) ⌝ }
 {
     if holding::check(head, genome, transcript, letters, exons) {
-        match logs::read_log(log) {
+        match log::read_log(log) {
             ReadLog::Entries(count) => {
                 differing::list(head, genome, transcript, letters, exons, log, count, buffer)
             }

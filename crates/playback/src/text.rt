@@ -13,7 +13,7 @@ pub fn line_len(n: u32) -> usize
     ensures { λ r. ⌜ r ≡ length (lineOf n) ⌝ }
     ensures within { λ r. ⌜ r ≤ mostLine ⌝ }
 {
-    cigar::write::digits_len(n) + 1
+    spelling::digits_len(n) + 1
 }
 
 // The line of a number. Returns the place after it.
@@ -21,7 +21,7 @@ pub fn put_line(buffer: &mut [u8], at: usize, n: u32) -> usize
     requires { ⌜ at + length (lineOf n) ≤ length (now buffer) ⌝ }
     ensures { λ r. ⌜ Put (now (buffer .entry)) (now (buffer .exit)) at r (lineOf n) ⌝ }
 {
-    let end = cigar::write::put_digits(buffer, at, n);
+    let end = spelling::put_digits(buffer, at, n);
     buffer[end] = b'\n';
     end + 1
 }

@@ -13,12 +13,13 @@ use Rattle.whole.specs.Fits.{fitOf, fits}
 use Rattle.numbering.specs.Numbers.{nOfPlace, placeOfN}
 use Rattle.cigar.specs.Elements.{kindOf, genome, transcript, total}
 use Rattle.segments.specs.Tables.{entriesFrom}
-use Rattle.segments.specs.Places.{firstBelow, indexOf, spotIn, nearer, mapByTables, mapPlace}
+use Rattle.finding.specs.Finding.{firstBelow, indexOf}
+use Rattle.segments.specs.Places.{spotIn, nearer, mapByTables, mapPlace}
 use Rattle.transcript.specs.Transcript.{Transcript}
 use Rattle.transcript.specs.Building.{partsOf, elementsAfter, elementsOf, firstStart, build}
 use Rattle.positions.specs.Positions.{Interval, NAsked, GPosition, NPosition}
 use Rattle.positions.specs.Answers.{exonsOf, Marked, Answer, certainly, plainly}
-use Rattle.places.specs.Mapping.{inside, turned, nOfSpot, wholeN, gToN, gOfSpot, gOfEnds, nToG}
+use Rattle.spots.specs.Mapping.{inside, turned, nOfSpot, wholeN, gToN, gOfSpot, gOfEnds, nToG}
 use Rattle.promises.specs.Demands.{Mapper, Demand-2-built, single}
 use Rattle.promises.specs.Table.{Reply, A, TableOfPlaces}
 use Rattle.promises.specs.Table.Reply.{in-n, in-g}

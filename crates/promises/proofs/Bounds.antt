@@ -11,11 +11,12 @@ use Rattle.cigar.specs.Elements.{Element, Side, Kind, kindOf, kind, total}
 use Rattle.cigar.specs.Elements.Kind.{matches, inserts, deletes, skips}
 use Rattle.cigar.specs.Read.{lettersOf}
 use Rattle.segments.specs.Tables.{entriesOf}
-use Rattle.segments.specs.Places.{End, leftNearer, nearer, spotIn, indexOf, mapByTables, mapPlace}
+use Rattle.segments.specs.Places.{End, leftNearer, nearer, spotIn, mapByTables, mapPlace}
+use Rattle.finding.specs.Finding.{indexOf}
 use Rattle.segments.specs.Places.End.{start, stop}
 use Rattle.segments.specs.laws.Totals.{total-append}
 use Rattle.segments.specs.laws.Made.{nowhere, letter-at, entry-at, entry-next}
-use Rattle.segments.specs.laws.Finding.{inside}
+use Rattle.segments.specs.laws.Spotting.{inside}
 use Rattle.promises.proofs.Fits.{Within}
 
 pub record Near (limit : ℕ) (z : ℤ) : Type 0 where

@@ -14,7 +14,7 @@ use Rattle.cigar.specs.Elements.Kind.{matches, skips}
 use Rattle.segments.specs.Places.{noEdge, leftEdge, rightEdge, surely, End, leftNearer, nearer, spotIn, mapPlace}
 use Rattle.segments.specs.Exons.{exonFound}
 use Rattle.transcript.specs.Transcript.{Transcript, exonNumber, genomeLength, transcriptLength}
-use Rattle.places.specs.Mapping.{signed}
+use Rattle.spots.specs.Mapping.{signed}
 use Rattle.promises.specs.Bases.{Lies, Matched, upstreamIn, upstreamOf, exonName, InIntron, placeBefore, placeAfter, apart, upstreamNearer, intronName, byElements, exonBaseNumbers, intronBaseNumbers}
 use Rattle.promises.specs.Demands.{ours, Named, FromNearest, BasesNamed}
 use Rattle.promises.proofs.InRange.{InRange}

@@ -13,7 +13,7 @@ use Rattle.judging.specs.laws.Accepted.{InOrder}
 use Rattle.positions.specs.Positions.{NPosition, asksN}
 use Rattle.positions.specs.Answers.{Answer, chain}
 use Rattle.coding.specs.Coding.{nToC, cOfInterval, cToN}
-use Rattle.places.specs.Mapping.{gToN}
+use Rattle.spots.specs.Mapping.{gToN}
 use Rattle.mapper.specs.Chains.{gToC, cToG}
 use Rattle.promises.specs.Demands.{ours, Keeps}
 use Rattle.promises.proofs.InRange.{InRange}

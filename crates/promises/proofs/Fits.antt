@@ -10,7 +10,7 @@ use Rattle.whole.specs.laws.Whole.{by-test, order, dif, neg, up, dn}
 use Rattle.whole.specs.Fits.{fits}
 use Rattle.numbering.specs.Numbers.{cOfN}
 use Rattle.positions.specs.laws.Fits.{fits-by}
-use Rattle.places.specs.Mapping.{signed}
+use Rattle.spots.specs.Mapping.{signed}
 
 -- z is at most m in size
 pub record Within (m : ℕ) (z : ℤ) : Type 0 where

@@ -19,7 +19,7 @@ use Rattle.segments.specs.Places.{Spot, Edge, noEdge, leftEdge, rightEdge, End,
 use Rattle.segments.specs.Places.End.{start, stop}
 use Rattle.segments.specs.Exons.{exonFound, exonChosen}
 use Rattle.segments.specs.laws.Totals.{total-append}
-use Rattle.segments.specs.laws.Finding.{inside, number-below}
+use Rattle.segments.specs.laws.Spotting.{inside, number-below}
 use Rattle.segments.specs.laws.Amid.{slid, place-amid}
 use Rattle.transcript.specs.Transcript.{Transcript, exonNumber, genomeLength, transcriptLength}
 use Rattle.transcript.specs.Transcript.Cds.{cds}
@@ -28,7 +28,7 @@ use Rattle.positions.specs.Answers.{Mark, unmarked, markOf, Answer, plainly, en
 use Rattle.positions.specs.laws.Ends.{row-plain}
 use Rattle.positions.specs.laws.Fits.{fits-by}
 use Rattle.coding.specs.Coding.{beyond, cPosition, cOfInterval, nToC, nPosition, cToN}
-use Rattle.places.specs.Mapping.{turned, signed, earlier, later, foundExons, chosenExons, placeOfG, nOfSpot, wholeN, gToN, gOfSpot, gOfEnds, nToG}
+use Rattle.spots.specs.Mapping.{turned, signed, earlier, later, foundExons, chosenExons, placeOfG, nOfSpot, wholeN, gToN, gOfSpot, gOfEnds, nToG}
 use Rattle.mapper.specs.Chains.{gToC, cToG}
 use Rattle.promises.specs.Demands.{markUp, answerUp, BaseOf}
 use Rattle.promises.proofs.Turns.{inside-within, beyond-means, place-of-base, answered-on-bases, either, turned-within, across, across-within, n-of-place}

@@ -7,10 +7,7 @@
 --     Demand3                       demand 3 over records whose CIGARs were read
 --     Rooms, Built, Counting        what is known of an input that builds, and its exon numbers
 --     Promises, Table               the promises
---     Refusals                      which refusals there are
 --     Questions                     which a question gives in strict mode
---     Host                          what a host sees
---     Playing                       a day recorded and played back
 --     Covers                        each place lies in an element
 --     Examples, Against             transcripts that meet every premise, and mappers that the promises shut out
 pub mod Turns
@@ -32,10 +29,7 @@ pub mod Built
 pub mod Counting
 pub mod Promises
 pub mod Table
-pub mod Refusals
 pub mod Questions
-pub mod Host
-pub mod Playing
 pub mod Covers
 pub mod Examples
 pub mod Against

@@ -21,7 +21,7 @@ use Rattle.positions.specs.Positions.{each, asksN, asksC}
 use Rattle.positions.specs.Answers.{certainly, plainly}
 use Rattle.positions.specs.laws.Fits.{fits-by}
 use Rattle.coding.specs.Coding.{beyond, cPosition, cOfInterval, nToC, nPosition, cToN}
-use Rattle.places.specs.Mapping.{turned, signed, nOfSpot, gOfSpot, wholeN, gToN, gOfEnds, nToG}
+use Rattle.spots.specs.Mapping.{turned, signed, nOfSpot, gOfSpot, wholeN, gToN, gOfEnds, nToG}
 use Rattle.mapper.specs.Chains.{gToC, cToG}
 use Rattle.promises.specs.Bases.{Name, nName, cNumber, ExonNumbers}
 use Rattle.promises.specs.Demands.{ours, single, gNumber, askedAt, gAt, nAt, cAt, Named}

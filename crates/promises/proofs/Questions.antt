@@ -29,8 +29,9 @@ use Rattle.positions.specs.laws.Ends.{fitting-is}
 use Rattle.positions.specs.laws.Fits.{fits-by}
 use Rattle.positions.specs.laws.Refusing.{only-if, only-ends, only-chain}
 use Rattle.coding.specs.Coding.{beyond, refuses15, cPosition, cOfInterval, nToC, nPosition, cToN}
-use Rattle.places.specs.Mapping.{inside, turned, earlier, placeOfG, nOfSpot, wholeN, gToN}
-use Rattle.mapper.specs.Asking.{given, askGToN, askNToC, askCToN, askGToC}
+use Rattle.spots.specs.Mapping.{inside, turned, earlier, placeOfG, nOfSpot, wholeN, gToN}
+use Rattle.chaining.specs.Given.{given}
+use Rattle.mapper.specs.Asking.{askGToN, askNToC, askCToN, askGToC}
 use Rattle.mapper.specs.laws.Refusing.{given-only}
 use Rattle.promises.specs.Questions.{strictGToN, strictNToC, strictCToN, strictGToC, StrictRefusals}
 use Rattle.promises.proofs.Turns.{inside-means, beyond-means, either}

@@ -8,7 +8,7 @@ use Rattle.whole.specs.Whole.{if_then_else_}
 use Rattle.whole.specs.laws.Whole.{by-test, order, sum, dif}
 use Rattle.numbering.specs.Numbers.{nOfPlace, plainC, starC, cOfN, nOfC, skipZero}
 use Rattle.numbering.specs.declared.CNumber.{CNumber}
-use Rattle.places.specs.Mapping.{turned}
+use Rattle.spots.specs.Mapping.{turned}
 
 -- ---- the c. number of a place: it goes by the distances to the CDS's bounds alone
 

@@ -5,14 +5,15 @@ use Rattle.numbering.specs.Numbers.{nOfPlace, placeOfN, cOfN, nOfC, skipZero}
 use Rattle.cigar.specs.Elements.{isLetter, kindOf, genome, transcript, total}
 use Rattle.cigar.specs.Text.{readFrom}
 use Rattle.cigar.specs.Read.{readText}
-use Rattle.cigar.specs.Write.{digitsBy, decimal, elementText, elementsText}
+use Rattle.spelling.specs.Write.{digitsBy, decimal, elementText, elementsText}
 use Rattle.segments.specs.Tables.{entriesFrom}
-use Rattle.segments.specs.Places.{firstBelow, indexOf, spotIn, nearer, mapByTables, mapPlace}
+use Rattle.finding.specs.Finding.{firstBelow, indexOf}
+use Rattle.segments.specs.Places.{spotIn, nearer, mapByTables, mapPlace}
 use Rattle.segments.specs.Exons.{exonFound, exonChosen}
 use Rattle.transcript.specs.Building.{partsOf, elementsAfter, elementsOf, numbersAfter, numbersOf, firstStart, build}
 use Rattle.whole.specs.Fits.{fitOf, fits}
 use Rattle.coding.specs.Coding.{beyond, cPosition, cOfInterval, nToC, nPosition, cToN}
-use Rattle.places.specs.Mapping.{inside, turned, nOfSpot, gOfSpot, wholeN, gToN, gOfEnds, nToG}
+use Rattle.spots.specs.Mapping.{inside, turned, nOfSpot, gOfSpot, wholeN, gToN, gOfEnds, nToG}
 use Rattle.records.specs.Faults.{faults, faultsAfter, ownFault, pairFault, followFault, spanFault, startFault, riseFault, joinFault}
 use Rattle.reading.specs.Reading.{spanning, readFirst, readNext, exonsAfter, exonsOf}
 use Rattle.judging.specs.Judging.{lastFault, rangeFault, judgeOn, judgeInput}

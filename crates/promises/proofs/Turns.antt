@@ -13,7 +13,7 @@ use Rattle.numbering.specs.Numbers.{nOfPlace}
 use Rattle.transcript.specs.Transcript.{Transcript, genomeLength}
 use Rattle.positions.specs.Positions.{Interval}
 use Rattle.coding.specs.Coding.{beyond}
-use Rattle.places.specs.Mapping.{inside, turned, signed, placeOfG, wholeN, gToN}
+use Rattle.spots.specs.Mapping.{inside, turned, signed, placeOfG, wholeN, gToN}
 use Rattle.mapper.specs.Chains.{gToC}
 use Rattle.promises.specs.Demands.{BaseOf}
 

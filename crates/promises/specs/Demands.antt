@@ -27,7 +27,7 @@ use Rattle.holding.specs.Holding.{Lent, holds, sourceOf}
 use Rattle.positions.specs.Positions.{Interval, each, NAsked, CAsked, GPosition, NPosition, CPosition, asksN, asksC}
 use Rattle.positions.specs.Answers.{Mark, certain, uncertain, unmarked, Marked, Answer, certainly}
 use Rattle.coding.specs.Coding.{nToC, cToN}
-use Rattle.places.specs.Mapping.{gToN, nToG}
+use Rattle.spots.specs.Mapping.{gToN, nToG}
 use Rattle.mapper.specs.Chains.{gToC, cToG}
 use Rattle.promises.specs.Bases.{Name, nName, cName, Matched, exonName, InIntron, placeBefore, placeAfter, upstreamPlace, downstreamPlace, intronName, Numbering, byElements, ExonNumbers, exonBaseNumbers, intronBaseNumbers}
 

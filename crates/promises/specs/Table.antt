@@ -13,7 +13,7 @@ use Rattle.numbering.specs.declared.CNumber.{CNumber}
 use Rattle.cigar.specs.Elements.{Element, letterEqual, letterD, letterI, letterM, letterN, letterX}
 use Rattle.cigar.specs.Text.{Reading, element}
 use Rattle.cigar.specs.Read.{readText}
-use Rattle.cigar.specs.Write.{elementsText}
+use Rattle.spelling.specs.Write.{elementsText}
 use Rattle.transcript.specs.Transcript.{Transcript, Source}
 use Rattle.transcript.specs.Transcript.Cds.{noCds, cds}
 use Rattle.transcript.specs.Transcript.Source.{aligned, lengthOnly}

@@ -1,8 +1,8 @@
 // Reads a card with its size before it, and behind it a log, from standard input, and writes which of the log's answers differ, or the line of a refusal.
 use libc::STDIN_FILENO;
 use libc::STDOUT_FILENO;
-use playback::input::SIZE;
 use playback::text::MOST_REPLAY;
+use playing::SIZE;
 use refusals::MOST_CARD;
 use refusals::MOST_LOG;
 use refusals::MOST_SEGMENTS;
@@ -19,7 +19,7 @@ fn main() {
     let mut exons = [0u16; MOST_SEGMENTS];
     let mut text = [0u8; MOST_REPLAY];
     let read = io::read_full(STDIN_FILENO, &mut input);
-    let size = playback::input::play_input(
+    let size = playing::play_input(
         &input[..read],
         &mut genome,
         &mut transcript,

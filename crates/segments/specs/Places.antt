@@ -1,6 +1,6 @@
 -- Where a place of one side is on the other. A place is a whole number, zero-based.
 -- The two directions of mapping differ only in which side is `from` and which is `to`, so both are defined, and their facts shown, once. Assumes nothing.
-use Prim.Native.Nat.{ℕ, zero, suc, _+_, _-_}
+use Prim.Native.Nat.{ℕ, _+_}
 use mathlib.Core.Bool.{Bool, true, false}
 use mathlib.Core.List.{List}
 use lib.IntN.{ℤ, pos, negℤ, _+ℤ_, _-ℤ_}
@@ -10,22 +10,8 @@ use Rattle.whole.specs.Whole.{if_then_else_}
 use Rattle.cigar.specs.Elements.{Element, Side, Kind, kindOf}
 use Rattle.cigar.specs.Elements.Kind.{matches, inserts, deletes, skips}
 use Rattle.cigar.specs.Read.{lettersOf}
+use Rattle.finding.specs.Finding.{indexOf}
 use Rattle.segments.specs.Tables.{entriesOf}
-
--- ---- which segment
-
--- the first number below n at which f is true, or else n
-unfoldable pub firstBelow : (ℕ → Bool) → ℕ → ℕ
-firstBelow f zero = 0
-firstBelow f (suc n) = if f 0 then 0 else suc (firstBelow (λ (i : ℕ). f (suc i)) n)
-
--- the end of segment i, the next entry of the table, is above p
-abbrev pub endsAbove : List ℕ → ℤ → ℕ → Bool
-endsAbove from p i = ltZ p (pos (getD from (i + 1) 0))
-
--- the number of the segment of the place p: the first of n segments whose end is above p, or else the last
-unfoldable pub indexOf : List ℕ → ℕ → ℤ → ℕ
-indexOf from n p = firstBelow (endsAbove from p) (n - 1)
 
 -- one segment as a question about a place sees it: where it begins and ends on the side that the place is on, and where it begins on the other
 pub record Segment : Type 0 where

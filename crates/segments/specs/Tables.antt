@@ -1,6 +1,6 @@
 -- The tables of a transcript: when their segments hold together, the elements that they stand for, and the tables that elements make.
 -- A table is the list of its entries. Segment i begins at entry i of a table of starts and ends at entry i + 1; entries past the last segment's end are not looked at. Assumes nothing.
-use Prim.Native.Nat.{ℕ, zero, suc, _+_, _-_, _≤_, _<_, max}
+use Prim.Native.Nat.{ℕ, zero, suc, _+_, _-_, _<_, max}
 use mathlib.Core.Bool.{Bool, true, _&&_}
 use mathlib.Core.List.{List, [], _∷_, _++_}
 use mathlib.Core.Path.{_≡_}
@@ -10,6 +10,7 @@ use Rattle.refusals.specs.Numbers.{mostSegments, mostStarts}
 use Rattle.cigar.specs.Elements.{Element, Side, Kind, isLetter, kindOf, genome, transcript}
 use Rattle.cigar.specs.Read.{lettersOf}
 use Rattle.cigar.specs.Elements.Kind.{matches, inserts, deletes, skips}
+use Rattle.finding.specs.Finding.{Rising}
 
 -- the starts on the genome and on the transcript, and the letters' bytes
 pub record Tables : Type 0 where
@@ -50,11 +51,7 @@ rightAt a i = stepRight (getD (a .letters) i 0) (getD (a .genome) i 0) (getD (a 
 unfoldable pub segmentsHold : Tables → ℕ → Bool
 segmentsHold a n = eqb (getD (a .genome) 0 0) 0 && eqb (getD (a .transcript) 0 0) 0 && (allBelow (knownAt (a .letters)) n && allBelow (rightAt a) n)
 
--- of the first n + 1 entries none is below the one before it
-pub record Rising (entries : List ℕ) (n : ℕ) : Type 0 where
-  pub each : (i : ℕ) → i < n → getD entries i 0 ≤ getD entries (i + 1) 0
-
--- the same as facts, at every index
+-- the same as facts, at every index; no start is below the one before it
 pub record Holds (a : Tables) (n : ℕ) : Type 0 where
   pub genome-from-0 : getD (a .genome) 0 0 ≡ 0
   pub transcript-from-0 : getD (a .transcript) 0 0 ≡ 0

@@ -12,8 +12,8 @@ use Rattle.positions.specs.Answers.{plainly}
 use Rattle.coding.specs.Coding.{sameC, nPosition, cToN}
 use Rattle.coding.specs.laws.Once.{one-to-n, offset-stays}
 use Rattle.coding.specs.laws.Same.{same-says}
-use Rattle.places.specs.Lone.{Lone, sure, unsure, other, loneN}
-use Rattle.places.specs.declared.Alignment.{Alignment}
+use Rattle.lone.specs.Lone.{Lone, sure, unsure, other, loneN}
+use Rattle.spots.specs.declared.Alignment.{Alignment}
 use Rattle.telling.specs.Telling.{loneAt, loneC}
 
 -- there is something to tell

@@ -17,17 +17,20 @@ use Rattle.positions.specs.Answers.{certain, Answer, once, ends, after, chain}
 use Rattle.positions.specs.laws.Ends.{ends-after}
 use Rattle.coding.specs.Coding.{cOfInterval, oneToC, nToC}
 use Rattle.coding.specs.laws.Once.{one-to-c}
-use Rattle.places.specs.Mapping.{gToN, nToG}
-use Rattle.places.specs.Aligned.{alignedBy, Aligns}
-use Rattle.places.specs.Lone.{Lone, sure, unsure, loneG, loneN, nOnce, gOnce, nBeside, gBeside, RoomyLone}
-use Rattle.places.specs.laws.Lone.{lone-to-n, lone-to-g, beside-to-n, beside-to-g}
-use Rattle.places.specs.declared.Alignment.{Alignment}
-use Rattle.places.specs.declared.Lone as code
-use Rattle.mapper.specs.Asking.{given, askGToN, askGToC, askCToG}
-use Rattle.mapper.specs.Knowing.{knownOf, paperCoding}
-use Rattle.mapper.specs.laws.Known.{known-lies, lying-g-to-n, lying-g-to-c, lying-c-to-g, plain-first}
-use Rattle.mapper.specs.declared.knowing.Coding.{Coding}
-use Rattle.mapper.specs.declared.knowing.Known.the-variants as known
+use Rattle.spots.specs.Mapping.{gToN, nToG}
+use Rattle.spots.specs.Aligned.{alignedBy, Aligns}
+use Rattle.lone.specs.Lone.{Lone, sure, unsure, loneG, loneN, nOnce, gOnce, nBeside, gBeside, RoomyLone}
+use Rattle.lone.specs.laws.Lone.{lone-to-n, lone-to-g, beside-to-n, beside-to-g}
+use Rattle.spots.specs.declared.Alignment.{Alignment}
+use Rattle.lone.specs.declared.Lone as code
+use Rattle.chaining.specs.Given.{given}
+use Rattle.mapper.specs.Asking.{askGToN, askGToC, askCToG}
+use Rattle.knowing.specs.Knowing.{knownOf, paperCoding}
+use Rattle.knowing.specs.laws.Known.{known-lies}
+use Rattle.mapper.specs.laws.Lying.{lying-g-to-n, lying-g-to-c, lying-c-to-g}
+use Rattle.chaining.specs.laws.Plain.{plain-first}
+use Rattle.knowing.specs.declared.Coding.{Coding}
+use Rattle.knowing.specs.declared.Known.the-variants as known
 use Rattle.telling.specs.Telling.{loneC}
 use Rattle.telling.proofs.Names.{Some, named}
 

@@ -12,8 +12,8 @@ use Rattle.transcript.specs.Transcript.{Cds, noCds, cds}
 use Rattle.positions.specs.Positions.{Interval, CAsked, NPosition, asksN}
 use Rattle.positions.specs.Answers.{chain}
 use Rattle.coding.specs.Coding.{sameC, nPosition, nToC}
-use Rattle.places.specs.Lone.{Lone, other, loneN, nOnce, gOnce}
-use Rattle.places.specs.declared.Alignment.{Alignment}
+use Rattle.lone.specs.Lone.{Lone, other, loneN, nOnce, gOnce}
+use Rattle.spots.specs.declared.Alignment.{Alignment}
 use Rattle.layout.specs.Layout.{gLaid, nLaid, cLaid, laid}
 use Rattle.layout.specs.declared.lay.Answer.{Answer}
 

@@ -12,24 +12,21 @@ ghost use Rattle.positions.specs.Positions.{asksN};
 ghost use Rattle.positions.specs.Answers.{certain, ends, chain};
 ghost use Rattle.positions.specs.Paper.{paperCQuestion, paperNEnd, paperC};
 ghost use Rattle.coding.specs.Coding.{nToC};
-ghost use Rattle.places.specs.Mapping.{gToN};
-ghost use Rattle.places.specs.Aligned.{alignedBy, Aligns};
-ghost use Rattle.places.specs.Lone.{nBeside, paperLone, RoomyLone};
+ghost use Rattle.spots.specs.Mapping.{gToN};
+ghost use Rattle.spots.specs.Aligned.{alignedBy, Aligns};
+ghost use Rattle.lone.specs.Lone.{nBeside, paperLone, RoomyLone};
 ghost use Rattle.mapper.specs.Asking.{askGToN, askGToC, askCToG};
-ghost use Rattle.mapper.specs.Knowing.{paperCoding};
-ghost use Rattle.layout.specs.Layout.{gAsked, cAsked, gLaid, nLaid, cLaid, laid};
+ghost use Rattle.knowing.specs.Knowing.{paperCoding};
+ghost use Rattle.taking.specs.Taking.{gAsked, cAsked};
+ghost use Rattle.layout.specs.Layout.{gLaid, nLaid, cLaid, laid};
 ghost use Rattle.telling.specs.Telling.{sureN, sureC, sureG, loneC};
+use chaining::Given;
+use knowing::Coding;
+use knowing::Known;
 use layout::lay;
 use layout::lay::Answer;
-use layout::take;
-use mapper::knowing;
-use mapper::knowing::Coding;
-use mapper::knowing::Known;
-use mapper::steps;
-use mapper::steps::Given;
+use lone::Lone;
 use numbering::Place;
-use places::Alignment;
-use places::Lone;
 use positions::CAnswer;
 use positions::CQuestion;
 use positions::fitting::CEnd;
@@ -42,6 +39,7 @@ use refusals::NO_GENOME;
 use refusals::NOT_CODING;
 use refusals::NOT_TOGETHER;
 use segments::Spot;
+use spots::Alignment;
 use transcript::Head;
 
 // Whether an interval is one base.
@@ -72,12 +70,12 @@ fn sure_n(
     ensures { λ r. ⌜ r ≡ sureN at (now (transcript .entry)) (now (exons .entry)) (spotSaid spot) ⌝ }
 {
     let count = at.count;
-    let exon = places::found_exon(at, exons, spot);
-    let len = places::last(transcript, count);
+    let exon = spots::found_exon(at, exons, spot);
+    let len = spots::last(transcript, count);
     if at.forward {
-        return laid_n(exon, places::n_of_spot(true, len, spot));
+        return laid_n(exon, spots::n_of_spot(true, len, spot));
     }
-    laid_n(exon, places::n_of_spot(false, len, spot))
+    laid_n(exon, spots::n_of_spot(false, len, spot))
 }
 
 // g. to n.: 23, 18, 19, 14, 17.
@@ -95,15 +93,15 @@ pub fn g_to_n(
     ensures { λ r. ⌜ r ≡ laid nLaid (checked (lent head (now (genome .entry)) (now (transcript .entry)) (now (letters .entry)) (now (exons .entry))) (askGToN strict (gAsked start end missing))) ⌝ }
 {
     match knowing::known_of(head, genome, transcript, letters, exons) {
-        Known::Aligned(at, _) => match steps::both_ends(take::g_asked(start, end, missing)) {
+        Known::Aligned(at, _) => match chaining::both_ends(taking::g_asked(start, end, missing)) {
             Given::Ends(from, to) => {
                 if is_base(from, to) {
-                    let lone = places::lone_g(at, genome, transcript, letters, from, strict);
+                    let lone = lone::lone_g(at, genome, transcript, letters, from, strict);
                     if let Lone::Sure(spot) = lone {
                         return sure_n(at, transcript, exons, spot);
                     }
                     if let Lone::Unsure(spot) = lone {
-                        return lay::lay_n(places::beside_n(
+                        return lay::lay_n(lone::beside_n(
                             knowing::alignment(head),
                             transcript,
                             exons,
@@ -143,9 +141,9 @@ fn sure_c(
     ensures { λ r. ⌜ r ≡ sureC strict at (now (transcript .entry)) (now (exons .entry)) (paperCoding cds) (spotSaid spot) ⌝ }
 {
     let count = at.count;
-    let exon = places::found_exon(at, exons, spot);
-    let len = places::last(transcript, count);
-    match places::n_of_spot(at.forward, len, spot) {
+    let exon = spots::found_exon(at, exons, spot);
+    let len = spots::last(transcript, count);
+    match spots::n_of_spot(at.forward, len, spot) {
         NEnd::At(n) => match cds {
             Coding::Cds(s, e) => match coding::one_to_c(strict, len, s, e, n) {
                 CEnd::At(c) => lay::lay_one_c(exon, c),
@@ -171,9 +169,9 @@ fn beside_c(
     ensures { λ r. ⌜ paperC r ≡ chain asksN (nBeside at (now (transcript .entry)) (now (exons .entry)) (place .0) number) (nToC strict (getD (now (transcript .entry)) (at .count) 0) (paperCoding cds)) ⌝ }
 {
     let count = at.count;
-    let len = places::last(transcript, count);
-    let n = places::beside_n(at, transcript, exons, place, number);
-    steps::then_n_to_c(n, len, cds, strict)
+    let len = spots::last(transcript, count);
+    let n = lone::beside_n(at, transcript, exons, place, number);
+    chaining::then_n_to_c(n, len, cds, strict)
 }
 
 // The c. interval of any g. interval.
@@ -192,9 +190,9 @@ fn interval_c(
     ensures { λ r. ⌜ paperC r ≡ chain asksN (gToN strict (alignedBy at (tables (now (genome .entry)) (now (transcript .entry)) (now (letters .entry))) (now (exons .entry))) (record { from = from; to = to })) (nToC strict (getD (now (transcript .entry)) (at .count) 0) (paperCoding cds)) ⌝ }
 {
     let count = at.count;
-    let len = places::last(transcript, count);
+    let len = spots::last(transcript, count);
     let n = places::to_n(at, genome, transcript, letters, exons, from, to, strict);
-    steps::then_n_to_c(n, len, cds, strict)
+    chaining::then_n_to_c(n, len, cds, strict)
 }
 
 // g. to c.: g. to n. wholly, then n. to c.
@@ -212,10 +210,10 @@ pub fn g_to_c(
     ensures { λ r. ⌜ r ≡ laid cLaid (checked (lent head (now (genome .entry)) (now (transcript .entry)) (now (letters .entry)) (now (exons .entry))) (askGToC strict (gAsked start end missing))) ⌝ }
 {
     match knowing::known_of(head, genome, transcript, letters, exons) {
-        Known::Aligned(at, cds) => match steps::both_ends(take::g_asked(start, end, missing)) {
+        Known::Aligned(at, cds) => match chaining::both_ends(taking::g_asked(start, end, missing)) {
             Given::Ends(from, to) => {
                 if is_base(from, to) {
-                    let lone = places::lone_g(at, genome, transcript, letters, from, strict);
+                    let lone = lone::lone_g(at, genome, transcript, letters, from, strict);
                     if let Lone::Sure(spot) = lone {
                         return sure_c(at, transcript, exons, cds, spot, strict);
                     }
@@ -267,9 +265,9 @@ fn lone_c(
     if let Coding::Cds(s, e) = cds {
         if coding::is_same(c.from, c.to) {
             let count = at.count;
-            let len = places::last(transcript, count);
+            let len = spots::last(transcript, count);
             if let NEnd::At(n) = coding::n_position(strict, len, s, e, c.from) {
-                return places::lone_n(at, genome, transcript, letters, n.base, strict);
+                return lone::lone_n(at, genome, transcript, letters, n.base, strict);
             }
         }
     }
@@ -281,8 +279,8 @@ fn sure_g(at: Alignment, exons: &[u16; MOST_SEGMENTS], spot: Spot, offset: i32) 
     requires { ⌜ (at .count ≤ mostSegments) × Small 37 spot × (spot .number < at .count) ⌝ }
     ensures { λ r. ⌜ r ≡ sureG at (now (exons .entry)) (spotSaid spot) offset ⌝ }
 {
-    let exon = places::chosen_exon(at, exons, spot);
-    match places::g_of_place(at.forward, at.first, spot.place, offset) {
+    let exon = spots::chosen_exon(at, exons, spot);
+    match spots::g_of_place(at.forward, at.first, spot.place, offset) {
         GEnd::At(g) => lay::lay_one_g(exon, g),
         GEnd::Refused(k) => lay::refusal_of(k),
     }
@@ -305,7 +303,7 @@ pub fn c_to_g(
 ) -> Answer
     ensures { λ r. ⌜ r ≡ laid gLaid (checked (lent head (now (genome .entry)) (now (transcript .entry)) (now (letters .entry)) (now (exons .entry))) (askCToG strict (cAsked start «start_offset» «start_star» end «end_offset» «end_star»))) ⌝ }
 {
-    let asked = take::c_asked(start, start_offset, start_star, end, end_offset, end_star);
+    let asked = taking::c_asked(start, start_offset, start_star, end, end_offset, end_star);
     match knowing::known_of(head, genome, transcript, letters, exons) {
         Known::Aligned(at, cds) => {
             let lone = lone_c(at, genome, transcript, letters, cds, asked, strict);
@@ -313,7 +311,7 @@ pub fn c_to_g(
                 return sure_g(at, exons, spot, start_offset);
             }
             if let Lone::Unsure(spot) = lone {
-                return lay::lay_g(places::beside_g(
+                return lay::lay_g(lone::beside_g(
                     knowing::alignment(head),
                     exons,
                     spot.place,
@@ -323,14 +321,14 @@ pub fn c_to_g(
             }
             let again = knowing::alignment(head);
             let count = again.count;
-            let len = places::last(transcript, count);
-            let c = take::c_asked(start, start_offset, start_star, end, end_offset, end_star);
-            let n = steps::c_to_n(len, knowing::coding_of(head), c, strict);
-            lay::lay_g(steps::then_n_to_g(n, again, genome, transcript, letters, exons, strict))
+            let len = spots::last(transcript, count);
+            let c = taking::c_asked(start, start_offset, start_star, end, end_offset, end_star);
+            let n = chaining::c_to_n(len, knowing::coding_of(head), c, strict);
+            lay::lay_g(chaining::then_n_to_g(n, again, genome, transcript, letters, exons, strict))
         }
         Known::OfLength(length, cds) => {
-            let c = take::c_asked(start, start_offset, start_star, end, end_offset, end_star);
-            lay::lay_g(steps::then_no_genome(steps::c_to_n(length, cds, c, strict)))
+            let c = taking::c_asked(start, start_offset, start_star, end, end_offset, end_star);
+            lay::lay_g(chaining::then_no_genome(chaining::c_to_n(length, cds, c, strict)))
         }
         Known::Broken => lay::refusal_of(NOT_TOGETHER),
     }

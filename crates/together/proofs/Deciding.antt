@@ -10,12 +10,15 @@ use lib.Dec.{eqb, leb}
 use lib.ListN.{getD}
 use borrow.Author.Tests.{eqb-true, eq-eqb, leb-true, le-leb, ltb-true, lt-ltb}
 use Rattle.whole.specs.laws.Whole.{by-test, both, both-of}
-use Rattle.cigar.specs.Elements.{isLetter, letterD, letterEqual, letterI, letterM, letterN, letterX}
-use Rattle.segments.specs.Tables.{Tables, allBelow, knownAt, segmentsHold, Rising, Holds}
-use Rattle.segments.specs.laws.Meaning.{all-at, all-of, rising, holds-means, holds-where}
-use Rattle.together.specs.Steps.{wrapped, within, same, stepsWithin, isCommon, commonSame, commonWithin, sameAt, withinAt, endsWithinAt, commonAt, commonSameAt, commonWithinAt, begin, LowEnds}
-use Rattle.together.proofs.All.{equal-where}
-use Rattle.together.proofs.OneStep.{masked}
+use Rattle.cigar.specs.Elements.{isLetter, kindOf, letterD, letterEqual, letterI, letterM, letterN, letterX}
+use Rattle.segments.specs.Tables.{Tables, allBelow, stepsOf, knownAt, segmentsHold, Holds}
+use Rattle.finding.specs.Finding.{Rising}
+use Rattle.segments.specs.laws.Meaning.{all-at, all-of, holds-means, holds-where}
+use Rattle.finding.specs.laws.Rising.{rising}
+use Rattle.stepping.specs.Steps.{wrapped, within, same, stepsWithin, commonSame, commonWithin, sameAt, withinAt, commonSameAt, commonWithinAt}
+use Rattle.letters.specs.Letters.{isCommon, commonAt}
+use Rattle.together.specs.Ends.{endsWithinAt, begin, LowEnds}
+use Rattle.numbered.specs.laws.All.{equal-where, eqb-sym}
 
 -- ---- numbers of so many bits, and differences
 
@@ -39,6 +42,22 @@ not-wrapped a b d s is small room =
     by-test (leb b a)
     (λ t. leb-true b a t)
     (λ t. let e : d ≡ a + 2 ^ 32 - b = rw t at is in absurd (omega arith))
+
+-- ---- one segment
+
+-- the code's one test, of what is left of each step where the letter does not advance the other side, is `stepsOf`
+masked : (c dg dt : ℕ) → eqb (cond (eqb c letterI || eqb c letterN) 0 dg) (cond (eqb c letterD) 0 dt) ≡ stepsOf (kindOf c) dg dt
+unfolding kindOf
+masked c dg dt =
+    by-test (eqb c letterN)
+    (λ e. rw (eqb-true c letterN e) (eqb-sym 0 dt))
+    (λ e.
+    by-test (eqb c letterI)
+    (λ u. rw (eqb-true c letterI u) (eqb-sym 0 dt))
+    (λ u.
+    by-test (eqb c letterD)
+    (λ v. rw (eqb-true c letterD v))
+    (λ v. rw (e, u, v))))
 
 -- ---- a common letter
 

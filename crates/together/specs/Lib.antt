@@ -1,5 +1,3 @@
 -- What the contracts of `together` cite.
---     Steps    a segment's steps as the machine takes them
---     Numbers  exon numbers as the machine steps from one to the next
-pub mod Steps
-pub mod Numbers
+--     Ends    where tables begin and end, and the bits of their ends
+pub mod Ends

@@ -13,8 +13,8 @@ use lib.Seq.{drop-drop}
 use borrow.Author.Tests.{eq-eqb, ne-eqb}
 use Rattle.refusals.specs.Numbers.{mostSegments, mostStarts}
 use Rattle.segments.specs.Tables.{Tables, tables}
-use Rattle.vectors.specs.Sizes.{headNumbers}
-use Rattle.vectors.specs.Rows.{firstOf, wordAt, rowSize}
+use Rattle.comparing.specs.Sizes.{headNumbers}
+use Rattle.rows.specs.Rows.{firstOf, wordAt, rowSize}
 use Rattle.vectors.specs.Tally.{counts, counted}
 use Rattle.vectors.specs.Replay.{agreed, headNext, tablesNext, exonsNext, replayedFrom, replayed}
 

@@ -9,8 +9,8 @@ use Rattle.holding.specs.Holding.{Lent}
 use Rattle.entry.specs.Told.{toldGToN, toldGToC, toldNToG, toldNToC, toldCToN, toldCToG, toldInBounds, toldCoding}
 use Rattle.layout.specs.declared.lay.Answer.{Answer}
 use Rattle.layout.specs.declared.lay.Said.{Said}
-use Rattle.vectors.specs.Rows.{callOf, flagsOf, recordedNumber}
-use Rattle.vectors.specs.Words.{answerWords, saidWords}
+use Rattle.rows.specs.Rows.{callOf, flagsOf, recordedNumber}
+use Rattle.comparing.specs.Words.{answerWords, saidWords}
 
 -- bit 0 of the flags: bounds are strict; bits 1 and 2: start and end have a star; bits 3 and 4: which ends are missing
 abbrev pub isStrict : List ℕ → Bool

@@ -8,13 +8,13 @@ use lib.ListN.{length, drop, replicate}
 use Rattle.whole.specs.Whole.{if_then_else_}
 use Rattle.refusals.specs.Numbers.{mostSegments, mostStarts}
 use Rattle.segments.specs.Tables.{Tables, tables}
-use Rattle.layout.specs.Layout.{lentAt}
-use Rattle.vectors.specs.Sizes.{headNumbers}
-use Rattle.vectors.specs.Rows.{firstOf, callOf, expected, rowSize}
+use Rattle.lending.specs.Lending.{lentAt}
+use Rattle.comparing.specs.Sizes.{headNumbers}
+use Rattle.rows.specs.Rows.{firstOf, callOf, expected, rowSize}
 use Rattle.vectors.specs.Questions.{questionWords}
-use Rattle.vectors.specs.Changes.{headAfter, tablesThen, exonsThen, changeWords}
-use Rattle.vectors.specs.Texts.{textRowAgrees}
-use Rattle.vectors.specs.Bam.{bamRowAgrees}
+use Rattle.comparing.specs.Changes.{headAfter, tablesThen, exonsThen, changeWords}
+use Rattle.comparing.specs.Texts.{textRowAgrees}
+use Rattle.comparing.specs.Bam.{bamRowAgrees}
 use Rattle.vectors.specs.Tally.{counts, counted}
 
 -- ---- one row: 1 to 4 change the lent transcript, 5 to 12 ask it, and the others lend none

@@ -5,7 +5,7 @@ use mathlib.Core.List.{List}
 use lib.Dec.{ltb}
 use lib.ListN.{getD, set}
 use Rattle.whole.specs.Whole.{if_then_else_}
-use Rattle.vectors.specs.Rows.{callOf, originOf, recordedAnswer}
+use Rattle.rows.specs.Rows.{callOf, originOf, recordedAnswer}
 
 -- how many counts a tally has
 abbrev pub counts : ℕ

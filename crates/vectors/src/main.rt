@@ -5,20 +5,18 @@ ghost use Rattle.segments.specs.Tables.{tables};
 ghost use Rattle.vectors.specs.Tally.{counted};
 ghost use Rattle.vectors.specs.Replay.{agreed, headNext, tablesNext, exonsNext, replayed};
 
-mod answers;
 mod bam;
 mod calls;
 mod questions;
-mod rows;
 mod say;
 mod tally;
 mod texts;
 mod transcripts;
 
+use comparing::lent::HEAD;
 use refusals::MOST_SEGMENTS;
 use refusals::MOST_STARTS;
 use tally::COUNTS;
-use transcripts::HEAD;
 
 // Whether a row is answered as recorded.
 fn agrees(
@@ -100,7 +98,7 @@ fn main() {
     let file = &space[..n];
     if rows::has_head(file) {
         let tally = replay(sequences::rest(file, rows::BLOCK));
-        rows::tell_promised(file, tally::rows_in(&tally));
+        tally::tell_promised(file, tally::rows_in(&tally));
         tally::tell(&tally);
     } else {
         say::text(b"no recorded answers of version 2\n");

@@ -1,18 +1,17 @@
 // Rows that put a question to a lent transcript. Bit 0 of a row's flags says that bounds are strict, bits 1 and 2 that start and end have a star, and
 // bits 3 and 4 which ends are missing, as the boundary has it.
 ghost use mathlib.Core.Path.{_≡_};
-ghost use Rattle.layout.specs.Layout.{lentAt};
+ghost use Rattle.lending.specs.Lending.{lentAt};
 ghost use Rattle.vectors.specs.Questions.{isStrict, startStar, endStar, missingOf, fromG, fromN, cToN, cToG, fromC, saidTo, questionWords};
-use crate::answers;
 use crate::calls;
-use crate::rows;
-use crate::rows::ANSWER;
-use crate::transcripts::HEAD;
+use comparing::answers;
+use comparing::lent::HEAD;
 use entry::ask;
 use layout::lay::Answer;
 use layout::lay::Said;
 use refusals::MOST_SEGMENTS;
 use refusals::MOST_STARTS;
+use rows::ANSWER;
 
 // Whether bounds are strict.
 fn is_strict(row: &[u8]) -> bool

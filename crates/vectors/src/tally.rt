@@ -5,7 +5,6 @@ ghost use Prim.Native.Nat.{_+_, _%_, _^_, _≤_};
 ghost use lib.ListN.{getD};
 ghost use Rattle.vectors.specs.Tally.{counts, bumped, counted};
 use crate::calls;
-use crate::rows;
 use crate::say;
 
 // The refusals' numbers, and 0 for none.
@@ -160,6 +159,16 @@ fn tell_numbers(tally: &[u64; COUNTS]) {
 fn tell_origins(tally: &[u64; COUNTS]) {
     for origin in 0..ORIGINS {
         tell_origin(origin, tally[BY_ORIGIN + origin]);
+    }
+}
+
+// Tells how many rows a file's head promises, unless it has just so many.
+pub(crate) fn tell_promised(file: &[u8], rows: u64) {
+    let promised = rows::size(file, 1) as u64;
+    if promised != rows {
+        say::text(b"promised are ");
+        say::number(promised);
+        say::text(b" rows\n");
     }
 }
 

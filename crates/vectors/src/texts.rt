@@ -1,113 +1,20 @@
 // Rows about CIGAR text, cards that are written, and alleles: each asks the boundary and says whether it answers as recorded.
 ghost use mathlib.Core.Path.{_≡_};
-ghost use Prim.Native.Nat.{_≤_, _<_};
-ghost use lib.ListN.{length, getD, replicate};
-ghost use Rattle.refusals.specs.Numbers.{mostSegments};
-ghost use Rattle.cigar.specs.Write.{writing, bufferAfter};
+ghost use lib.ListN.{length};
+ghost use Rattle.spelling.specs.Write.{writing, bufferAfter};
 ghost use Rattle.card.specs.Writing.{cardWriting};
-ghost use Rattle.vectors.specs.Sizes.{mostRoom};
-ghost use Rattle.vectors.specs.Rows.{recordedSize};
-ghost use Rattle.vectors.specs.Changes.{recordedNumbers};
-ghost use Rattle.vectors.specs.Texts.{laidOut, recordedCount, letterAt, isElement, beginWith, countsPut, lettersPut, holdsText, textAgrees, cardAgrees, partWords, commonWords, allelesWords, allelesAgree, readAgrees, writeAgrees, writeCardAgrees, textRowAgrees};
-use crate::answers;
+ghost use Rattle.rows.specs.Rows.{recordedSize};
+ghost use Rattle.comparing.specs.Changes.{recordedNumbers};
+ghost use Rattle.comparing.specs.Texts.{textAgrees, cardAgrees, allelesWords, allelesAgree, readAgrees, writeAgrees, writeCardAgrees, textRowAgrees};
 use crate::calls;
-use crate::rows;
-use crate::rows::ANSWER;
 use card::RECORDS_AT;
-use entry::text::Part;
+use comparing::answers;
+use comparing::buffers;
+use comparing::buffers::MOST_ROOM;
+use comparing::elements;
+use comparing::elements::ELEMENT;
 use refusals::MOST_SEGMENTS;
-
-// The most bytes that a row lends as a buffer.
-const MOST_ROOM: usize = 2 * refusals::MOST_CARD;
-// An element is laid out as a count of 32 bits and a letter.
-pub const ELEMENT: usize = 5;
-
-// Room for a buffer.
-fn room() -> [u8; MOST_ROOM]
-    ensures { λ r. ⌜ r ≡ replicate mostRoom 0 ⌝ }
-    ensures size { λ r. ⌜ mostRoom ≡ length r ⌝ }
-{
-    [0; MOST_ROOM]
-}
-
-// The count of the element at an index of a layout.
-pub(crate) fn count_at(elements: &[u8], i: usize) -> i32
-    requires { ⌜ i < laidOut (now elements) ⌝ }
-    ensures { λ r. ⌜ r ≡ recordedCount (now (elements .entry)) i ⌝ }
-{
-    fields::i32_at(elements, ELEMENT * i)
-}
-
-// Its letter.
-pub(crate) fn letter_at(elements: &[u8], i: usize) -> u8
-    requires { ⌜ i < laidOut (now elements) ⌝ }
-    ensures { λ r. ⌜ r ≡ letterAt (now (elements .entry)) i ⌝ }
-{
-    elements[ELEMENT * i + 4]
-}
-
-// A byte, 0 where there is none.
-fn byte_at(s: &[u8], i: usize) -> u8
-    ensures { λ r. ⌜ r ≡ getD (now (s .entry)) i 0 ⌝ }
-{
-    if i < s.len() { s[i] } else { 0 }
-}
-
-// Whether the element at an index of a layout has this count and letter.
-fn is_element(elements: &[u8], i: usize, count: i32, letter: u8) -> bool
-    requires { ⌜ i < laidOut (now elements) ⌝ }
-    ensures { λ r. ⌜ r ≡ isElement (now (elements .entry)) i count letter ⌝ }
-{
-    let own = count_at(elements, i);
-    if own == count {
-        return letter_at(elements, i) == letter;
-    }
-    false
-}
-
-// Whether the tables begin with the elements laid out.
-fn begin_with(elements: &[u8], counts: &[i32; MOST_SEGMENTS], letters: &[u8; MOST_SEGMENTS]) -> bool
-    requires { ⌜ laidOut (now elements) ≤ mostSegments ⌝ }
-    ensures { λ r. ⌜ r ≡ beginWith (now (elements .entry)) (now (counts .entry)) (now (letters .entry)) ⌝ }
-{
-    let number = elements.len() / ELEMENT;
-    let mut same = true;
-    let mut i = 0;
-    while i < number {
-        same = same & is_element(elements, i, counts[i], letters[i]);
-        i += 1;
-    }
-    same
-}
-
-// Puts the elements laid out at the front of the tables.
-pub(crate) fn put_elements(elements: &[u8], counts: &mut [i32], letters: &mut [u8])
-    requires { ⌜ (laidOut (now elements) ≤ length (now counts)) × (laidOut (now elements) ≤ length (now letters)) ⌝ }
-    ensures { λ _. ⌜ now (counts .exit) ≡ countsPut (now (elements .entry)) (now (counts .entry)) (laidOut (now (elements .entry))) ⌝ }
-    ensures { λ _. ⌜ now (letters .exit) ≡ lettersPut (now (elements .entry)) (now (letters .entry)) (laidOut (now (elements .entry))) ⌝ }
-{
-    let number = elements.len() / ELEMENT;
-    let mut i = 0;
-    while i < number {
-        let count = count_at(elements, i);
-        counts[i] = count;
-        letters[i] = letter_at(elements, i);
-        i += 1;
-    }
-}
-
-// Whether a buffer holds a text and after it only zeros.
-fn holds(buffer: &[u8], text: &[u8]) -> bool
-    ensures { λ r. ⌜ r ≡ holdsText (now (buffer .entry)) (now (text .entry)) ⌝ }
-{
-    let mut same = true;
-    let mut i = 0;
-    while i < buffer.len() {
-        same = same & (buffer[i] == byte_at(text, i));
-        i += 1;
-    }
-    same & (text.len() <= buffer.len())
-}
+use rows::ANSWER;
 
 // Whether `txc_read_cigar` answers as recorded.
 fn read_cigar(row: &[u8]) -> bool
@@ -125,7 +32,7 @@ fn read_cigar(row: &[u8]) -> bool
     }
     rows::expects(row, answers::of_length(answer))
         & (answer.length == number)
-        & begin_with(elements, &counts, &letters)
+        & elements::begin_with(elements, &counts, &letters)
 }
 
 // Whether a text is written into a buffer as recorded.
@@ -140,7 +47,7 @@ fn writes_cigar(
     ensures { λ _. ⌜ now (buffer .exit) ≡ bufferAfter (now (buffer .entry)) (writing (recordedSize (now (row .entry)) 0) (now (counts .entry)) (now (letters .entry)) (length (now (buffer .entry)))) ⌝ }
 {
     let answer = entry::text::txc_write_cigar(rows::size(row, 0), counts, letters, buffer);
-    rows::expects(row, answers::of_length(answer)) & holds(buffer, text)
+    rows::expects(row, answers::of_length(answer)) & buffers::holds(buffer, text)
 }
 
 // Whether `txc_write_cigar` answers as recorded.
@@ -160,8 +67,8 @@ fn write_cigar(row: &[u8]) -> bool
     let from = MOST_ROOM - lent;
     let mut counts = [0i32; MOST_SEGMENTS];
     let mut letters = [0u8; MOST_SEGMENTS];
-    put_elements(elements, &mut counts, &mut letters);
-    let mut buffer = room();
+    elements::put_elements(elements, &mut counts, &mut letters);
+    let mut buffer = buffers::room();
     writes_cigar(
         row,
         &counts,
@@ -187,9 +94,9 @@ fn writes_card(row: &[u8], records: &[u8], buffer: &mut [u8]) -> bool
     );
     let same = rows::expects(row, answers::of_length(answer));
     if answer.number == 0 {
-        return same & holds(sequences::rest(buffer, RECORDS_AT), records);
+        return same & buffers::holds(sequences::rest(buffer, RECORDS_AT), records);
     }
-    same & holds(buffer, b"")
+    same & buffers::holds(buffer, b"")
 }
 
 // Whether `txc_write_card` answers as recorded.
@@ -201,29 +108,8 @@ fn write_card(row: &[u8]) -> bool
         return false;
     }
     let from = MOST_ROOM - lent;
-    let mut buffer = room();
+    let mut buffer = buffers::room();
     writes_card(row, rows::payload(row), &mut buffer[from..])
-}
-
-// The part of two alleles that changed.
-fn of_part(part: Part) -> [i64; ANSWER]
-    ensures { λ r. ⌜ r ≡ partWords part ⌝ }
-{
-    answers::of_numbers(
-        0,
-        part.alternative as i64,
-        answers::of_size(part.from),
-        answers::of_size(part.to),
-        0,
-        0,
-    )
-}
-
-// How much of two alleles is common.
-fn of_common(length: usize) -> [i64; ANSWER]
-    ensures { λ r. ⌜ r ≡ commonWords length ⌝ }
-{
-    answers::of_numbers(0, answers::of_size(length), 0, 0, 0, 0)
 }
 
 // What is answered to a row about two alleles.
@@ -231,12 +117,12 @@ fn of_alleles(call: usize, reference: &[u8], alternative: &[u8]) -> [i64; ANSWER
     ensures { λ r. ⌜ r ≡ allelesWords call (now (reference .entry)) (now (alternative .entry)) ⌝ }
 {
     if call == calls::TRIM_PREFIX {
-        return of_common(entry::text::txc_trim_prefix(reference, alternative));
+        return answers::of_common(entry::text::txc_trim_prefix(reference, alternative));
     }
     if call == calls::TRIM_SUFFIX {
-        return of_common(entry::text::txc_trim_suffix(reference, alternative));
+        return answers::of_common(entry::text::txc_trim_suffix(reference, alternative));
     }
-    of_part(entry::text::txc_changed(reference, alternative))
+    answers::of_part(entry::text::txc_changed(reference, alternative))
 }
 
 // Whether a row about two alleles is answered as recorded.

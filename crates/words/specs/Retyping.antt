@@ -1,7 +1,7 @@
 -- The CIGAR text that an aligner shows of its words, and how it is retyped by hand: what the words are held against. Assumes nothing.
 use Prim.Native.Nat.{ℕ}
 use mathlib.Core.List.{List, [], _∷_, _++_, map}
-use Rattle.cigar.specs.Write.{decimal}
+use Rattle.spelling.specs.Write.{decimal}
 use Rattle.words.specs.Words.{bamLetter, exchanged, lengthIn, codeIn}
 
 -- each length in decimal, 1 too, and BAM's own letter. (For no words at all SAM has `*`, which no one retypes.)

@@ -13,7 +13,7 @@ use Rattle.refusals.specs.Outcome.{answered, refused, unless}
 use Rattle.cigar.specs.Bytes.{ascii}
 use Rattle.cigar.specs.Elements.{Element, isLetter, letterD, letterI}
 use Rattle.cigar.specs.Text.{Reading, element}
-use Rattle.cigar.specs.Write.{Writing}
+use Rattle.spelling.specs.Write.{Writing}
 use Rattle.cigar.specs.declared.Counted.{Counted}
 use Rattle.cigar.specs.declared.Counted.the-variants as counted
 

@@ -11,7 +11,7 @@ ghost use Rattle.refusals.specs.Numbers.{mostWordCount, mostSegments};
 ghost use Rattle.cigar.specs.Elements.{isLetter};
 ghost use Rattle.cigar.specs.Text.{element, countedOf};
 ghost use Rattle.cigar.specs.Read.{countsAfter, lettersAfter, FullLength, Filled};
-ghost use Rattle.cigar.specs.Write.{bufferAfter};
+ghost use Rattle.spelling.specs.Write.{bufferAfter};
 ghost use Rattle.words.specs.Words.{letterOf, codeOf, lengthIn, codeIn, elementOfWord, wordOf, isKnown, allKnown, readWords, faultOf, faultFrom, elementsAt, writeWords, countedWords, Room};
 use cigar::Counted;
 use refusals::MOST_SEGMENTS;
@@ -157,7 +157,7 @@ fn word_of(count: i32, letter: u8) -> u32
     requires { ⌜ faultOf count letter ≡ 0 ⌝ }
     ensures { λ r. ⌜ r ≡ wordOf (element (natAbs count) letter) ⌝ }
 {
-    let length = cigar::write::unsigned(count);
+    let length = spelling::unsigned(count);
     let code = code_of(letter);
     length * CODES + code
 }

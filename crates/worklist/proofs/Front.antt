@@ -4,13 +4,12 @@
 --     front-length      it is as long as ys.        front-set      one store more.        front-all      at the end it is ws
 -- Assumes nothing.
 use mathlib.Core.Path.{_≡_, sym, _∙_}
-use mathlib.Core.List.{List, _++_}
+use mathlib.Core.List.{List, _++_, append-nil}
 use Prim.Native.Nat.{ℕ, suc, _+_, _≤_, _<_}
 use native.Mathlib.Numerals.{add-one}
 use native.Mathlib.Omega.{arith}
 use lib.ListN.{length, getD, take, drop, set, length-append, length-drop, drop-of-length-le}
 use lib.Seq.{getD-at, drop-cons, take-suc, take-all, set-at, length-take-le, append-snoc}
-use mathlib.Core.List.{append-nil}
 
 abbrev pub front : {X : Type 0} → List X → List X → ℕ → List X
 front ys ws i = take i ws ++ drop i ys

@@ -14,13 +14,14 @@ use Rattle.segments.specs.laws.Meaning.{holds-means}
 use Rattle.transcript.specs.Transcript.{Transcript}
 use Rattle.holding.specs.Holding.{ofRecords, Lent, segmentsOf, holds}
 use Rattle.holding.specs.laws.Held.{together, source-of-records, source-of-length, some, held-segments, checked-held, checked-broken}
-use Rattle.places.specs.Aligned.{alignedBy}
-use Rattle.places.specs.declared.Alignment.{Alignment}
-use Rattle.mapper.specs.Knowing.{alignmentOf, codingIn, knownOf}
-use Rattle.mapper.specs.laws.Known.{lying-g-to-n}
-use Rattle.mapper.specs.declared.knowing.Coding.{Coding}
-use Rattle.mapper.specs.declared.knowing.Known.the-variants as known
-use Rattle.layout.specs.Layout.{gAsked, nLaid, laid}
+use Rattle.spots.specs.Aligned.{alignedBy}
+use Rattle.spots.specs.declared.Alignment.{Alignment}
+use Rattle.knowing.specs.Knowing.{alignmentOf, codingIn, knownOf}
+use Rattle.mapper.specs.laws.Lying.{lying-g-to-n}
+use Rattle.knowing.specs.declared.Coding.{Coding}
+use Rattle.knowing.specs.declared.Known.the-variants as known
+use Rattle.taking.specs.Taking.{gAsked}
+use Rattle.layout.specs.Layout.{nLaid, laid}
 use Rattle.layout.specs.declared.lay.Answer.{Answer}
 use Rattle.worklist.specs.Worklist.{answeredSlot, positionsOf, neverFalls, stepsOf, askSteps, listed, slotsAfter}
 use Rattle.worklist.specs.Walking.{trackBy, answeredBy, whyNot}

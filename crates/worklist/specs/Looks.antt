@@ -4,7 +4,7 @@ use mathlib.Core.List.{List}
 use lib.IntN.{ℤ, pos}
 use lib.ListN.{getD}
 use Rattle.whole.specs.Whole.{if_then_else_}
-use Rattle.segments.specs.Places.{endsAbove}
+use Rattle.finding.specs.Finding.{endsAbove}
 use Rattle.worklist.specs.Worklist.{Track, placeOn, within, stepsAfter}
 
 -- from the segment i on, with m segments behind it: each turn looks at one end, and goes on unless it is above the place; the last segment's end is not looked at

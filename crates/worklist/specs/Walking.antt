@@ -8,8 +8,8 @@ use Rattle.refusals.specs.Numbers.{noGenome, notTogether, falling}
 use Rattle.whole.specs.Whole.{if_then_else_}
 use Rattle.transcript.specs.Transcript.{Transcript}
 use Rattle.holding.specs.Holding.{ofRecords, Lent, holds}
-use Rattle.places.specs.Mapping.{gToN}
-use Rattle.places.specs.declared.Alignment.{Alignment}
+use Rattle.spots.specs.Mapping.{gToN}
+use Rattle.spots.specs.declared.Alignment.{Alignment}
 use Rattle.layout.specs.Layout.{nLaid, laid}
 use Rattle.worklist.specs.Worklist.{Track, placeOn, within, segmentOf}
 use Rattle.worklist.specs.declared.Slot.{Slot}

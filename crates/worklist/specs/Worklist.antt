@@ -11,13 +11,14 @@ use Rattle.refusals.specs.Outcome.{Outcome, answered, refused}
 use Rattle.whole.specs.Whole.{if_then_else_}
 use Rattle.cigar.specs.Elements.{genome}
 use Rattle.segments.specs.Tables.{allBelow, entriesOf}
-use Rattle.segments.specs.Places.{indexOf}
+use Rattle.finding.specs.Finding.{indexOf}
 use Rattle.transcript.specs.Transcript.{Transcript, Source}
 use Rattle.transcript.specs.Transcript.Source.{aligned, lengthOnly}
 use Rattle.holding.specs.Holding.{Lent, checked}
-use Rattle.places.specs.Mapping.{inside, placeOfG}
+use Rattle.spots.specs.Mapping.{inside, placeOfG}
 use Rattle.mapper.specs.Asking.{askGToN}
-use Rattle.layout.specs.Layout.{gAsked, nLaid, laid}
+use Rattle.taking.specs.Taking.{gAsked}
+use Rattle.layout.specs.Layout.{nLaid, laid}
 use Rattle.layout.specs.declared.lay.Answer.{Answer}
 use Rattle.worklist.specs.declared.Slot.{Slot}
 use Rattle.worklist.specs.declared.Steps.{Steps}

@@ -6,15 +6,15 @@ ghost use Prim.Native.Nat.{_≤_};
 ghost use Rattle.refusals.specs.Numbers.{mostSegments};
 ghost use Rattle.refusals.specs.Outcome.{Outcome.answered};
 ghost use Rattle.segments.specs.Tables.{tables};
-ghost use Rattle.places.specs.Aligned.{alignedBy, Aligns, InSegment};
+ghost use Rattle.spots.specs.Aligned.{alignedBy, Aligns, InSegment};
 ghost use Rattle.worklist.specs.Worklist.{positionsOf, neverFalls, stepsOf, stepsLaid};
 ghost use Rattle.worklist.specs.Walking.{trackBy, nextIndex, Ready, answeredBy};
 use crate::Slot;
 use crate::Steps;
 use layout::lay;
-use places::Alignment;
 use refusals::MOST_SEGMENTS;
 use refusals::MOST_STARTS;
+use spots::Alignment;
 
 // Where the walk stands after a slot: on the slot's segment, or where it stood if the slot's place lies outside.
 fn step(at: Alignment, genome: &[u32; MOST_STARTS], index: usize, s: Slot) -> usize
@@ -22,9 +22,9 @@ fn step(at: Alignment, genome: &[u32; MOST_STARTS], index: usize, s: Slot) -> us
     ensures { λ r. ⌜ r ≡ nextIndex (trackBy at (now (genome .entry))) index (s .position) ⌝ }
 {
     let count = at.count;
-    let p = places::place_of_g(at.first, s.position);
-    if places::is_inside(true, places::last(genome, count), p) {
-        return segments::find_from(genome, count, index, p.0);
+    let p = spots::place_of_g(at.first, s.position);
+    if spots::is_inside(true, spots::last(genome, count), p) {
+        return finding::find_from(genome, count, index, p.0);
     }
     index
 }
@@ -43,7 +43,7 @@ fn answer_slot<'a>(
     ensures { λ r. ⌜ r ≡ answeredBy (alignedBy at (tables (now (genome .entry)) (now (transcript .entry)) (now (letters .entry))) (now (exons .entry))) s ⌝ }
 {
     let position = s.position;
-    let n = places::one_to_n_at(at, genome, transcript, letters, exons, index, position);
+    let n = lone::one_to_n_at(at, genome, transcript, letters, exons, index, position);
     let answer = lay::lay_n(n);
     Slot { position, answer }
 }

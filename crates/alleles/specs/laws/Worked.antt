@@ -11,13 +11,14 @@ use Rattle.whole.specs.Fits.{fits, fitOf}
 use Rattle.numbering.specs.Numbers.{nOfPlace, cOfN, skipZero}
 use Rattle.cigar.specs.Elements.{letterM, letterN, isLetter, kindOf, genome, transcript, total}
 use Rattle.segments.specs.Tables.{stepRight, allBelow, segmentsHold, elementsFrom, entriesFrom}
-use Rattle.segments.specs.Places.{firstBelow, indexOf, nearer, spotIn, mapByTables, mapPlace}
+use Rattle.finding.specs.Finding.{firstBelow, indexOf}
+use Rattle.segments.specs.Places.{nearer, spotIn, mapByTables, mapPlace}
 use Rattle.segments.specs.Exons.{goesOn, numbersHold, numbersFrom, exonFound}
 use Rattle.holding.specs.Holding.{Lent, lent, cdsHolds, recordsHold, lengthHolds, holds, sourceOf, checked}
 use Rattle.positions.specs.Positions.{Interval, GAsked, at, missing, CPosition}
 use Rattle.positions.specs.Answers.{certainly}
 use Rattle.coding.specs.Coding.{beyond, cPosition, cOfInterval, nToC}
-use Rattle.places.specs.Mapping.{inside, turned, nOfSpot, wholeN, gToN}
+use Rattle.spots.specs.Mapping.{inside, turned, nOfSpot, wholeN, gToN}
 use Rattle.mapper.specs.Asking.{askGToN, askNToC, askGToC}
 use Rattle.sequences.specs.Alleles.{prefixLen, suffixLen}
 use Rattle.strands.specs.Turned as turn

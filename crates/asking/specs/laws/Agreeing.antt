@@ -8,9 +8,10 @@ use Rattle.whole.specs.laws.Whole.{both-of}
 use Rattle.holding.specs.Holding.{Lent, checked}
 use Rattle.positions.specs.Positions.{Interval, GAsked, NAsked, CAsked}
 use Rattle.mapper.specs.Asking.{askGToN, askNToG, askNToC, askCToN, askGToC, askCToG}
-use Rattle.layout.specs.Layout.{starOf, gEnd, gAsked, nAsked, cAsked, gLaid, nLaid, cLaid, laid}
-use Rattle.layout.specs.Questions.{gToN, nToG, nToC, cToN, gToC, cToG, fromG, fromC, isStar, isMissing, gOf, nOf, cOf}
-use Rattle.log.specs.Canonical.{endHoldable, holdable}
+use Rattle.layout.specs.Layout.{starOf, gLaid, nLaid, cLaid, laid}
+use Rattle.taking.specs.Taking.{gEnd, gAsked, nAsked, cAsked}
+use Rattle.taking.specs.Questions.{gToN, nToG, nToC, cToN, gToC, cToG, fromG, fromC, isStar, isMissing, gOf, nOf, cOf}
+use Rattle.canonical.specs.Canonical.{endHoldable, holdable}
 use Rattle.asking.specs.Asking.{named, asked, missingMark, unlessMissing, gQuestion, nQuestion, cQuestion}
 use Rattle.asking.specs.laws.Saying.{asked-is}
 

@@ -13,13 +13,14 @@ use Rattle.refusals.specs.laws.Outcomes.{clash}
 use Rattle.whole.specs.laws.Whole.{by-test}
 use Rattle.fields.specs.laws.RoundTrips.{Bytes}
 use Rattle.holding.specs.Holding.{Lent}
-use Rattle.layout.specs.declared.question.Question.{Question}
-use Rattle.log.specs.Layout.{entriesAt, entrySize}
-use Rattle.log.specs.Entries.{entryBytes, QuestionFits}
-use Rattle.log.specs.Canonical.{holdable}
+use Rattle.taking.specs.declared.question.Question.{Question}
+use Rattle.log.specs.Layout.{entriesAt}
+use Rattle.entries.specs.Layout.{entrySize}
+use Rattle.entries.specs.Entries.{entryBytes, QuestionFits}
+use Rattle.canonical.specs.Canonical.{holdable}
 use Rattle.log.specs.Logs.{headerBytes, logBytes, readLog, appending, Holds, not-begun, begun}
 use Rattle.log.specs.laws.Appending.{grown, grown-reads, takes-first, takes-next}
-use Rattle.log.specs.declared.Entry.{Entry}
+use Rattle.entries.specs.declared.Entry.{Entry}
 use Rattle.asking.specs.Asking.{recorded, recording}
 use Rattle.asking.specs.Making.{allRecorded, Made, none-yet, one-more}
 use Rattle.asking.specs.laws.Saying.{recorded-canonical, recorded-fits}

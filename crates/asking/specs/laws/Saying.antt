@@ -24,12 +24,12 @@ use Rattle.mapper.specs.Asking.{askGToN, askNToG, askNToC, askCToN, askGToC, as
 use Rattle.mapper.specs.laws.Refusing.{gToNRefusals, nToGRefusals, nToCRefusals, cToNRefusals, gToCRefusals, cToGRefusals, in-row, g-to-n-refuses, n-to-g-refuses, n-to-c-refuses, c-to-n-refuses, g-to-c-refuses, c-to-g-refuses}
 use Rattle.mapper.specs.laws.Answered.{AnsweredAcross, AnsweredPlainly, g-to-n-answered, n-to-g-answered, n-to-c-answered, c-to-n-answered, g-to-c-answered, c-to-g-answered}
 use Rattle.layout.specs.Layout.{starOf, nowhere, gLaid, nLaid, cLaid, markNumber, laid}
-use Rattle.layout.specs.Questions.{gToN, nToG, nToC, cToN, gToC, cToG, toG, toC, isPlain, isStrict, gOf, nOf, cOf}
+use Rattle.taking.specs.Questions.{gToN, nToG, nToC, cToN, gToC, cToG, toG, toC, isPlain, isStrict, gOf, nOf, cOf}
 use Rattle.layout.specs.declared.lay.Position.{Position}
 use Rattle.layout.specs.declared.lay.Answer.{Answer}
-use Rattle.layout.specs.declared.question.Question.{Question}
-use Rattle.log.specs.Entries.{QuestionFits, PositionFits, AnswerFits, EntryFits}
-use Rattle.log.specs.Canonical.{endHoldable, holdable, refusalsOf, refusedTag, tagOfKind, exonOfKind, endSayable, isNowhere, sayable, canonical}
+use Rattle.taking.specs.declared.question.Question.{Question}
+use Rattle.entries.specs.Entries.{QuestionFits, PositionFits, AnswerFits, EntryFits}
+use Rattle.canonical.specs.Canonical.{endHoldable, holdable, refusalsOf, refusedTag, tagOfKind, exonOfKind, endSayable, isNowhere, sayable, canonical}
 use Rattle.asking.specs.Asking.{named, asked, recorded}
 
 -- ---- one table of refusals

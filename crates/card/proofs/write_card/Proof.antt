@@ -3,7 +3,7 @@ use mathlib.Core.Path.{_≡_, sym, ap, _∙_}
 use lib.ListN.{length}
 use Rattle.refusals.specs.Outcome.{Outcome, answered, refused}
 use Rattle.refusals.specs.Numbers.{mostCard}
-use Rattle.cigar.specs.Write.{Writing, fitted, writtenAnswer, bufferAfter}
+use Rattle.spelling.specs.Write.{Writing, fitted, writtenAnswer, bufferAfter}
 use Rattle.judging.specs.Input.{inputOf}
 use Rattle.judging.specs.Judging.{Made, judge}
 use Rattle.judging.specs.laws.Told.{told-made, told-refused}

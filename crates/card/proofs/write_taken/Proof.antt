@@ -13,7 +13,7 @@ use Rattle.whole.specs.laws.Whole.{told}
 use Rattle.fields.specs.laws.RoundTrips.{Bytes}
 use Rattle.cigar.specs.laws.Lent.{sets-front}
 use Rattle.cigar.specs.laws.Stores.{sets-append}
-use Rattle.cigar.specs.declared.write.Written.the-variants as answer
+use Rattle.spelling.specs.declared.Written.the-variants as answer
 use Rattle.transcript.specs.Heads.{startOf, endOf}
 use Rattle.transcript.specs.declared.Bound.{Bound}
 use Rattle.transcript.specs.declared.Numbers.{Numbers}

@@ -22,7 +22,7 @@ use Rattle.refusals.specs.Numbers.{mostRecords, mostCard}
 use Rattle.refusals.specs.Outcome.{Outcome, answered, refused}
 use Rattle.refusals.specs.laws.Outcomes.{clash, same}
 use Rattle.whole.specs.laws.Whole.{by-test}
-use Rattle.cigar.specs.Write.{fitted}
+use Rattle.spelling.specs.Write.{fitted}
 use Rattle.fields.specs.laws.RoundTrips.{Bytes}
 use Rattle.records.specs.Records.{exactly}
 use Rattle.records.specs.laws.Walk.{records-length}

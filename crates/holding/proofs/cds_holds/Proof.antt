@@ -5,9 +5,8 @@ use lib.IntN.{pos}
 use mir.Syntax.{w32}
 use mir.Val.{SFits}
 use Rattle.whole.specs.laws.Whole.{read, fits-wider}
-use Rattle.whole.specs.laws.Machine.{entry}
+use Rattle.whole.specs.laws.Machine.{entry, same-32, other-32}
 use Rattle.holding.specs.Holding.{cdsHolds}
-use Rattle.whole.specs.laws.Machine.{same-32, other-32}
 use Rattle.holding.proofs.cds_holds.Statement.{statement}
 use Rattle.holding.proofs.cds_holds.Tie as tie
 

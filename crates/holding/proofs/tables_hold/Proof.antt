@@ -10,7 +10,7 @@ use borrow.Author.Needs.{needs}
 use borrow.Author.Tests.{leb-true}
 use Rattle.refusals.specs.Numbers.{mostBases}
 use Rattle.whole.specs.laws.Whole.{by-test, both}
-use Rattle.together.specs.Steps.{LowEnds}
+use Rattle.together.specs.Ends.{LowEnds}
 use Rattle.holding.specs.Holding.{totalsHold}
 use Rattle.holding.specs.Parts.{tablesHold}
 use Rattle.holding.proofs.tables_hold.Statement.{statement}

@@ -7,7 +7,7 @@ use Prim.Native.String.{String}
 use Rattle.cigar.specs.Elements.{letterM, letterN, kindOf, genome, transcript, total}
 use Rattle.cigar.specs.Bytes.{ascii}
 use Rattle.cigar.specs.Text.{element}
-use Rattle.cigar.specs.Write.{digitsBy, decimal}
+use Rattle.spelling.specs.Write.{digitsBy, decimal}
 use Rattle.lines.specs.Listing.{numbersText, listingHeader, linesText, listingText, refusalText}
 
 -- a text as a line

@@ -22,13 +22,14 @@ use Rattle.refusals.specs.laws.Outcomes.{clash, same}
 use Rattle.whole.specs.laws.Whole.{by-test, both}
 use Rattle.fields.specs.Fields.{little, le16}
 use Rattle.fields.specs.laws.RoundTrips.{Bytes, take-bytes}
-use Rattle.log.specs.Layout.{versionAt, entriesAt, entrySize}
-use Rattle.log.specs.Entries.{entryBytes, EntryFits}
-use Rattle.log.specs.Canonical.{canonical}
-use Rattle.log.specs.laws.RoundTrips.{entry-length}
+use Rattle.log.specs.Layout.{versionAt, entriesAt}
+use Rattle.entries.specs.Layout.{entrySize}
+use Rattle.entries.specs.Entries.{entryBytes, EntryFits}
+use Rattle.canonical.specs.Canonical.{canonical}
+use Rattle.entries.specs.laws.RoundTrips.{entry-length}
 use Rattle.log.specs.Logs.{headerBytes, entriesBytes, logBytes, isMarked, isHeaded, allCanonical, readLog, fitted, appending, AllFit, none, more, Holds, not-begun, begun}
 use Rattle.log.specs.laws.LogTrips.{reads-back, read-means, is-log, read-fits}
-use Rattle.log.specs.declared.Entry.{Entry}
+use Rattle.entries.specs.declared.Entry.{Entry}
 
 -- ---- what is known where an entry is put
 

@@ -21,11 +21,12 @@ use Rattle.refusals.specs.laws.Outcomes.{clash, same}
 use Rattle.whole.specs.laws.Whole.{by-test, both}
 use Rattle.fields.specs.Fields.{le16, bytes16}
 use Rattle.fields.specs.laws.RoundTrips.{Bytes, bytes16-le, beside}
-use Rattle.log.specs.Layout.{mark, version, versionAt, entriesAt, entrySize}
-use Rattle.log.specs.Entries.{entryBytes}
-use Rattle.log.specs.laws.RoundTrips.{entry-length, entry-back, bytes-back, entry-fits}
+use Rattle.log.specs.Layout.{mark, version, versionAt, entriesAt}
+use Rattle.entries.specs.Layout.{entrySize}
+use Rattle.entries.specs.Entries.{entryBytes}
+use Rattle.entries.specs.laws.RoundTrips.{entry-length, entry-back, bytes-back, entry-fits}
 use Rattle.log.specs.Logs.{headerBytes, entriesBytes, logBytes, isMarked, isHeaded, entriesFrom, countOf, entriesIn, allCanonical, readLog, AllFit, none, more}
-use Rattle.log.specs.declared.Entry.{Entry}
+use Rattle.entries.specs.declared.Entry.{Entry}
 
 -- ---- a header
 

@@ -9,14 +9,14 @@ use Rattle.refusals.specs.Numbers.{outside, nOutside, missingEnd, noRoom, noLog
 use Rattle.refusals.specs.Outcome.{answered, refused}
 use Rattle.fields.specs.Fields.{le16, le32}
 use Rattle.layout.specs.Layout.{nowhere, refusal}
-use Rattle.layout.specs.Questions.{gToN, nToC, cToG}
-use Rattle.layout.specs.declared.question.Question.{Question}
+use Rattle.taking.specs.Questions.{gToN, nToC, cToG}
+use Rattle.taking.specs.declared.question.Question.{Question}
 use Rattle.layout.specs.declared.lay.Position.{Position}
 use Rattle.layout.specs.declared.lay.Answer.{Answer}
-use Rattle.log.specs.Entries.{fourBytes, fourNumbers, questionBytes, answerBytes, entryBytes, questionAt, answerAt, entryAt}
-use Rattle.log.specs.Canonical.{endHoldable, holdable, refusalsOf, tagOfKind, exonOfKind, endSayable, isNowhere, sayable, canonical}
+use Rattle.entries.specs.Entries.{fourBytes, fourNumbers, questionBytes, answerBytes, entryBytes, questionAt, answerAt, entryAt}
+use Rattle.canonical.specs.Canonical.{endHoldable, holdable, refusalsOf, tagOfKind, exonOfKind, endSayable, isNowhere, sayable, canonical}
 use Rattle.log.specs.Logs.{entriesBytes, logBytes, isMarked, isHeaded, entriesFrom, allCanonical, readLog, appending}
-use Rattle.log.specs.declared.Entry.{Entry}
+use Rattle.entries.specs.declared.Entry.{Entry}
 
 -- the numbers of a question, an end of an answer and an answer in their order
 abbrev asks : ℕ → ℕ → ℕ → ℕ → ℤ → ℤ → ℤ → ℤ → Question

@@ -1,7 +1,8 @@
 -- `mapper::c_to_g` meets its contract: what is lent is known once; the first mapping is asked wholly, and the second on its answer asked again, or 18. Assumes nothing.
 use mathlib.Core.Path.{sym, _∙_}
 use Rattle.mapper.specs.Asking.{askCToG, askCToN, askNToG}
-use Rattle.mapper.specs.laws.Known.{known-lies, lying-c-to-g, ask-length, ask-broken}
+use Rattle.knowing.specs.laws.Known.{known-lies, ask-length, ask-broken}
+use Rattle.mapper.specs.laws.Lying.{lying-c-to-g}
 use borrow.Author.Needs.{needs}
 use Rattle.mapper.proofs.c_to_g.Statement.{statement}
 use Rattle.mapper.proofs.c_to_g.Tie as tie

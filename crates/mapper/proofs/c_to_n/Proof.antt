@@ -1,7 +1,8 @@
 -- `mapper::c_to_n` meets its contract: what is lent is known once, its length is the last entry or the head's number, and each arm is what the question then is. Assumes nothing.
 use mathlib.Core.Path.{sym, _∙_}
 use Rattle.mapper.specs.Asking.{askCToN}
-use Rattle.mapper.specs.laws.Known.{known-lies, lying-c-to-n, ask-length, ask-broken}
+use Rattle.knowing.specs.laws.Known.{known-lies, ask-length, ask-broken}
+use Rattle.mapper.specs.laws.Lying.{lying-c-to-n}
 use borrow.Author.Needs.{needs}
 use Rattle.mapper.proofs.c_to_n.Statement.{statement}
 use Rattle.mapper.proofs.c_to_n.Tie as tie

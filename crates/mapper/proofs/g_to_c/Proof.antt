@@ -1,7 +1,8 @@
 -- `mapper::g_to_c` meets its contract: what is lent is known once; the first mapping is asked wholly, and the second on its answer asked again. Assumes nothing.
 use mathlib.Core.Path.{sym, _∙_}
 use Rattle.mapper.specs.Asking.{askGToC, askGToN}
-use Rattle.mapper.specs.laws.Known.{known-lies, lying-g-to-c, ask-length, ask-broken}
+use Rattle.knowing.specs.laws.Known.{known-lies, ask-length, ask-broken}
+use Rattle.mapper.specs.laws.Lying.{lying-g-to-c}
 use borrow.Author.Needs.{needs}
 use Rattle.mapper.proofs.g_to_c.Statement.{statement}
 use Rattle.mapper.proofs.g_to_c.Tie as tie

@@ -1,7 +1,8 @@
 -- `mapper::g_to_n` meets its contract: what is lent is known once, and each arm is what the question then is. Assumes nothing.
 use mathlib.Core.Path.{sym, _∙_}
 use Rattle.mapper.specs.Asking.{askGToN}
-use Rattle.mapper.specs.laws.Known.{known-lies, lying-g-to-n, ask-length, ask-broken}
+use Rattle.knowing.specs.laws.Known.{known-lies, ask-length, ask-broken}
+use Rattle.mapper.specs.laws.Lying.{lying-g-to-n}
 use borrow.Author.Needs.{needs}
 use Rattle.mapper.proofs.g_to_n.Statement.{statement}
 use Rattle.mapper.proofs.g_to_n.Tie as tie

@@ -1,7 +1,8 @@
 -- `mapper::is_coding_transcript` meets its contract: what is lent is known once, and a transcript of either kind codes where it has a CDS. Assumes nothing.
 use mathlib.Core.Path.{sym, _∙_}
 use Rattle.mapper.specs.Asking.{askCoding}
-use Rattle.mapper.specs.laws.Known.{lying-coding, ask-length, ask-broken}
+use Rattle.mapper.specs.laws.Lying.{lying-coding}
+use Rattle.knowing.specs.laws.Known.{ask-length, ask-broken}
 use borrow.Author.Needs.{needs}
 use Rattle.mapper.proofs.is_coding_transcript.Statement.{statement}
 use Rattle.mapper.proofs.is_coding_transcript.Tie as tie

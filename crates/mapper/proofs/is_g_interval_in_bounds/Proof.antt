@@ -1,7 +1,8 @@
 -- `mapper::is_g_interval_in_bounds` meets its contract: what is lent is known once, and each arm is what the question then is. Assumes nothing.
 use mathlib.Core.Path.{sym, _∙_}
 use Rattle.mapper.specs.Asking.{askInBounds}
-use Rattle.mapper.specs.laws.Known.{known-lies, lying-in-bounds, ask-length, ask-broken}
+use Rattle.knowing.specs.laws.Known.{known-lies, ask-length, ask-broken}
+use Rattle.mapper.specs.laws.Lying.{lying-in-bounds}
 use borrow.Author.Needs.{needs}
 use Rattle.mapper.proofs.is_g_interval_in_bounds.Statement.{statement}
 use Rattle.mapper.proofs.is_g_interval_in_bounds.Tie as tie

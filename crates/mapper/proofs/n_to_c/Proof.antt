@@ -1,7 +1,8 @@
 -- `mapper::n_to_c` meets its contract: what is lent is known once, its length is the last entry or the head's number, and each arm is what the question then is. Assumes nothing.
 use mathlib.Core.Path.{sym, _∙_}
 use Rattle.mapper.specs.Asking.{askNToC}
-use Rattle.mapper.specs.laws.Known.{known-lies, lying-n-to-c, ask-length, ask-broken}
+use Rattle.knowing.specs.laws.Known.{known-lies, ask-length, ask-broken}
+use Rattle.mapper.specs.laws.Lying.{lying-n-to-c}
 use borrow.Author.Needs.{needs}
 use Rattle.mapper.proofs.n_to_c.Statement.{statement}
 use Rattle.mapper.proofs.n_to_c.Tie as tie

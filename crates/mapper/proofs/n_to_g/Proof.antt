@@ -1,7 +1,8 @@
 -- `mapper::n_to_g` meets its contract: what is lent is known once, and each arm is what the question then is. Assumes nothing.
 use mathlib.Core.Path.{sym, _∙_}
 use Rattle.mapper.specs.Asking.{askNToG}
-use Rattle.mapper.specs.laws.Known.{known-lies, lying-n-to-g, ask-length, ask-broken}
+use Rattle.knowing.specs.laws.Known.{known-lies, ask-length, ask-broken}
+use Rattle.mapper.specs.laws.Lying.{lying-n-to-g}
 use borrow.Author.Needs.{needs}
 use Rattle.mapper.proofs.n_to_g.Statement.{statement}
 use Rattle.mapper.proofs.n_to_g.Tie as tie

@@ -16,9 +16,10 @@ use Rattle.positions.specs.Positions.{Interval, GAsked, NAsked, CAsked, GPositi
 use Rattle.positions.specs.Answers.{unmarked, Marked, gFits, nFits, cFits, Fitted}
 use Rattle.positions.specs.laws.Ends.{row-plain, chain-tells}
 use Rattle.coding.specs.laws.Answered.{c-to-n-fits, n-to-c-fits, c-to-n-plain, n-to-c-plain}
-use Rattle.places.specs.Mapping.{gToN}
+use Rattle.spots.specs.Mapping.{gToN}
 use Rattle.places.specs.laws.Answered.{Across, g-to-n-fits, n-to-g-fits, g-to-n-across, n-to-g-across}
-use Rattle.mapper.specs.Asking.{given, askGToN, askNToG, askNToC, askCToN, askGToC, askCToG}
+use Rattle.chaining.specs.Given.{given}
+use Rattle.mapper.specs.Asking.{askGToN, askNToG, askNToC, askCToN, askGToC, askCToG}
 
 -- an answer across the genome, and one between n. and c.
 pub record AnsweredAcross {P : Type 0} (fit : P → Bool) (a : Marked P) : Type 0 where

@@ -10,9 +10,10 @@ use Rattle.holding.specs.Holding.{Lent, holds, sourceOf, checked}
 use Rattle.positions.specs.Positions.{Interval, GAsked, NAsked, CAsked, asksN}
 use Rattle.positions.specs.laws.Keeping.{kept-under, kept-chain}
 use Rattle.coding.specs.laws.Keeping.{n-to-c-kept, c-to-n-kept}
-use Rattle.places.specs.Mapping.{gToN}
+use Rattle.spots.specs.Mapping.{gToN}
 use Rattle.places.specs.laws.Keeping.{g-to-n-kept, n-to-g-kept}
-use Rattle.mapper.specs.Asking.{given, askGToN, askNToG, askNToC, askCToN, askGToC, askCToG}
+use Rattle.chaining.specs.Given.{given}
+use Rattle.mapper.specs.Asking.{askGToN, askNToG, askNToC, askCToN, askGToC, askCToG}
 
 -- ---- of either kind of transcript
 

@@ -13,7 +13,7 @@ use Rattle.positions.specs.Answers.{Marked}
 use Rattle.positions.specs.laws.Ends.{row-plain, chain-mark}
 use Rattle.coding.specs.Coding.{nToC, cToN}
 use Rattle.coding.specs.laws.Answered.{c-to-n-crossed, c-to-n-plain, n-to-c-plain}
-use Rattle.places.specs.Mapping.{gToN, nToG}
+use Rattle.spots.specs.Mapping.{gToN, nToG}
 use Rattle.places.specs.laws.Marks.{MarkedIf, gFell, nFell, g-to-n-marked, n-to-g-marked}
 use Rattle.mapper.specs.Chains.{gToC, cToG}
 

@@ -8,12 +8,13 @@ use Rattle.whole.specs.Fits.{fits, fitOf}
 use Rattle.numbering.specs.Numbers.{nOfPlace, placeOfN, plainC, cOfN, nOfC, skipZero}
 use Rattle.cigar.specs.Elements.{letterI, letterM, letterN, isLetter, kindOf, genome, transcript, total}
 use Rattle.segments.specs.Tables.{stepRight, allBelow, segmentsHold, elementsFrom, entriesFrom}
-use Rattle.segments.specs.Places.{firstBelow, indexOf, nearer, spotIn, mapByTables, mapPlace}
+use Rattle.finding.specs.Finding.{firstBelow, indexOf}
+use Rattle.segments.specs.Places.{nearer, spotIn, mapByTables, mapPlace}
 use Rattle.segments.specs.Exons.{goesOn, numbersHold, numbersFrom, exonFound, exonChosen}
 use Rattle.holding.specs.Holding.{Lent, lent, cdsHolds, recordsHold, lengthHolds, holds, sourceOf, checked}
 use Rattle.positions.specs.Positions.{Interval, GAsked, at, missing, NAsked, CAsked}
 use Rattle.coding.specs.Coding.{beyond, cPosition, cOfInterval, nToC, nPosition, cToN}
-use Rattle.places.specs.Mapping.{inside, turned, nOfSpot, wholeN, gToN, gOfSpot, gOfEnds, nToG}
+use Rattle.spots.specs.Mapping.{inside, turned, nOfSpot, wholeN, gToN, gOfSpot, gOfEnds, nToG}
 use Rattle.mapper.specs.Asking.{askGToN, askNToG, askNToC, askCToN, askGToC, askCToG, askCoding, askInBounds}
 use Rattle.mapper.specs.laws.Refusing.{gToNRefusals, nToGRefusals, nToCRefusals, cToNRefusals, gToCRefusals, cToGRefusals, codingRefusals, inBoundsRefusals}
 

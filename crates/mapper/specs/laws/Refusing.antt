@@ -23,9 +23,10 @@ use Rattle.positions.specs.laws.Refusing.{only-if, only-chain}
 use Rattle.coding.specs.Coding.{beyond, cToN}
 use Rattle.coding.specs.laws.Answered.{c-to-n-crossed}
 use Rattle.coding.specs.laws.Refusing.{n-to-c-only, c-to-n-only}
-use Rattle.places.specs.Mapping.{inside, turned, inBounds, gToN}
+use Rattle.spots.specs.Mapping.{inside, turned, inBounds, gToN}
 use Rattle.places.specs.laws.Refusing.{g-to-n-only, n-to-g-only, n-to-g-inside}
-use Rattle.mapper.specs.Asking.{givenEnds, given, askGToN, askNToG, askNToC, askCToN, askGToC, askCToG, askCoding, askInBounds}
+use Rattle.chaining.specs.Given.{givenEnds, given}
+use Rattle.mapper.specs.Asking.{askGToN, askNToG, askNToC, askCToN, askGToC, askCToG, askCoding, askInBounds}
 
 -- ---- a number that strict c. to n. gives lies in 1 to the length, so that its place is inside
 

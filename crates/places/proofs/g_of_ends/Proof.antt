@@ -4,9 +4,9 @@ use lib.ListN.{getD}
 use mir.Syntax.{w32}
 use Rattle.whole.specs.laws.Whole.{told}
 use Rattle.numbering.specs.Numbers.{placeOfN}
-use Rattle.places.specs.Mapping.{turned}
+use Rattle.spots.specs.Mapping.{turned}
 use Rattle.positions.specs.Paper.{paperNAsked}
-use Rattle.places.specs.laws.Spans.{g-answered, g-refused, t-inside}
+use Rattle.spots.specs.laws.Spans.{g-answered, g-refused, t-inside}
 use Rattle.segments.specs.Tables.{tables}
 use Rattle.segments.specs.laws.Sizes.{wider}
 use borrow.Author.Needs.{needs}

@@ -1,5 +1,5 @@
 -- `places::to_g` meets its contract: the branch hands `g_of_ends` the two positions as `earlier` and `later` order them on that strand. Assumes nothing.
-use Rattle.places.specs.Mapping.{nToG}
+use Rattle.spots.specs.Mapping.{nToG}
 use borrow.Author.Needs.{needs}
 use Rattle.places.proofs.to_g.Statement.{statement}
 use Rattle.places.proofs.to_g.Tie as tie

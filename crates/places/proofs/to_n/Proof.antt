@@ -1,8 +1,8 @@
 -- `places::to_n` meets its contract: where both numbers are one, `one_to_n` answers for them. Otherwise `place_of_g` gives the places, so that the test made is 14's; by it the answer is `nJoined` of the two spots (`n-answered`) or 14 (`n-refused`). Assumes nothing.
 use mathlib.Core.Path.{_≡_, sym, _∙_}
 use Rattle.whole.specs.laws.Whole.{read}
-use Rattle.places.specs.laws.Spans.{n-answered, n-refused, g-inside}
-use Rattle.places.specs.Mapping.{placeOfG}
+use Rattle.spots.specs.laws.Spans.{n-answered, n-refused, g-inside}
+use Rattle.spots.specs.Mapping.{placeOfG}
 use Rattle.segments.specs.Tables.{tables}
 use Rattle.segments.specs.laws.Sizes.{wider}
 use borrow.Author.Needs.{needs}

@@ -16,7 +16,7 @@ use Rattle.transcript.specs.Transcript.{Transcript, exonNumber, genomeLength, t
 use Rattle.positions.specs.Positions.{Interval, NAsked, GPosition, NPosition}
 use Rattle.positions.specs.Answers.{Mark, markOf, exonsOf, Marked, gFits, nFits, Fitted}
 use Rattle.positions.specs.laws.Ends.{fitting-is, fitting-fits}
-use Rattle.places.specs.Mapping.{inside, turned, earlier, later, foundExons, chosenExons, placeOfG, wholeN, gToN, gOfEnds, nToG}
+use Rattle.spots.specs.Mapping.{inside, turned, earlier, later, foundExons, chosenExons, placeOfG, wholeN, gToN, gOfEnds, nToG}
 use Rattle.places.specs.laws.Refusing.{nInside}
 
 -- the mark of an interval across the genome, where there are so many records: certain or uncertain, and each end has the number of an exon

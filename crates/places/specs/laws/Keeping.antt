@@ -7,7 +7,7 @@ use Rattle.transcript.specs.Transcript.{Transcript, genomeLength}
 use Rattle.positions.specs.Positions.{Interval, NAsked}
 use Rattle.positions.specs.Answers.{gFits, nFits}
 use Rattle.positions.specs.laws.Keeping.{kept-if, kept-fitting}
-use Rattle.places.specs.Mapping.{inside, earlier, later, placeOfG, wholeN, gToN, gOfEnds, nToG}
+use Rattle.spots.specs.Mapping.{inside, earlier, later, placeOfG, wholeN, gToN, gOfEnds, nToG}
 use Rattle.places.specs.laws.Refusing.{nInside}
 
 pub g-to-n-kept : (t : Transcript) (i : Interval ℤ) → Kept (gToN true t i) (gToN false t i)

@@ -15,13 +15,14 @@ use Rattle.cigar.specs.Elements.{Element, Side, Kind, kindOf, genome, transcrip
 use Rattle.cigar.specs.Elements.Kind.{matches, inserts, deletes, skips}
 use Rattle.cigar.specs.Read.{lettersOf}
 use Rattle.segments.specs.Tables.{entriesOf}
-use Rattle.segments.specs.Places.{End, leftNearer, indexOf, nearer, spotIn, mapByTables, mapPlace}
+use Rattle.segments.specs.Places.{End, leftNearer, nearer, spotIn, mapByTables, mapPlace}
+use Rattle.finding.specs.Finding.{indexOf}
 use Rattle.segments.specs.Places.End.{start, stop}
 use Rattle.transcript.specs.Transcript.{Transcript, genomeLength, transcriptLength}
 use Rattle.positions.specs.Positions.{Interval, NAsked, GPosition, NPosition}
 use Rattle.positions.specs.Answers.{Mark, certain, uncertain, markOf, exonsOf, Marked, gFits, nFits}
 use Rattle.positions.specs.laws.Ends.{fitting-is}
-use Rattle.places.specs.Mapping.{inside, turned, earlier, later, placeOfG, wholeN, gToN, gOfEnds, nToG}
+use Rattle.spots.specs.Mapping.{inside, turned, earlier, later, placeOfG, wholeN, gToN, gOfEnds, nToG}
 use Rattle.places.specs.laws.Refusing.{nInside}
 
 -- an I or a D

@@ -12,7 +12,7 @@ use Rattle.transcript.specs.Transcript.{Transcript, genomeLength, transcriptLen
 use Rattle.positions.specs.Positions.{Interval, NAsked}
 use Rattle.positions.specs.Answers.{gFits, nFits}
 use Rattle.positions.specs.laws.Refusing.{only-if, only-fitting}
-use Rattle.places.specs.Mapping.{inside, turned, earlier, later, placeOfG, wholeN, gToN, gOfEnds, nToG}
+use Rattle.spots.specs.Mapping.{inside, turned, earlier, later, placeOfG, wholeN, gToN, gOfEnds, nToG}
 
 -- the place that an n. number is looked up at lies inside
 abbrev pub nInside : Bool → Transcript → NAsked → Bool

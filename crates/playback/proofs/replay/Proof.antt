@@ -5,7 +5,7 @@ use mathlib.Core.Bool.{true}
 use mathlib.Core.List.{List}
 use Prim.Native.Nat.{ℕ}
 use lib.ListN.{length}
-use Rattle.cigar.specs.Write.{writtenAnswer, bufferAfter}
+use Rattle.spelling.specs.Write.{writtenAnswer, bufferAfter}
 use Rattle.holding.specs.Holding.{Lent, lent, holds}
 use Rattle.log.specs.Layout.{entriesAt}
 use Rattle.log.specs.Logs.{entriesFrom}

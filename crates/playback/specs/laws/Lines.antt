@@ -11,8 +11,8 @@ use Prim.Native.Nat.{ℕ, _+_, _/_, _≤_, _<_}
 use native.Mathlib.Decide.{decLt}
 use native.Mathlib.Omega.{arith}
 use lib.ListN.{length, length-append}
-use Rattle.cigar.specs.Write.{decimal}
-use Rattle.cigar.specs.laws.Decimal.{decimal-one, length-more}
+use Rattle.spelling.specs.Write.{decimal}
+use Rattle.spelling.specs.laws.Decimal.{decimal-one, length-more}
 use Rattle.playback.specs.Lines.{lineOf, linesOf, mostEntries, allLines, mostReplay}
 
 pub line-length : (n : ℕ) → length (lineOf n) ≡ length (decimal n) + 1

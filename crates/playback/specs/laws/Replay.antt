@@ -24,14 +24,14 @@ use Rattle.refusals.specs.Refusing.{oneOf}
 use Rattle.refusals.specs.laws.Outcomes.{clash, same}
 use Rattle.whole.specs.Whole.{eqZ}
 use Rattle.whole.specs.laws.Whole.{by-test, both}
-use Rattle.cigar.specs.Write.{digitsBy, decimal}
+use Rattle.spelling.specs.Write.{digitsBy, decimal}
 use Rattle.holding.specs.Holding.{Lent, holds, checked}
 use Rattle.layout.specs.declared.lay.Position.{Position}
 use Rattle.layout.specs.declared.lay.Answer.{Answer}
 use Rattle.log.specs.Layout.{entriesAt}
 use Rattle.log.specs.Logs.{readLog}
 use Rattle.log.specs.laws.LogTrips.{from-length, read-means}
-use Rattle.log.specs.declared.Entry.{Entry}
+use Rattle.entries.specs.declared.Entry.{Entry}
 use Rattle.asking.specs.Asking.{asked, recorded}
 use Rattle.playback.specs.Lines.{lineOf, linesOf, indexIf, mostEntries, allLines, mostReplay}
 use Rattle.playback.specs.Replay.{samePosition, sameAnswer, differs, indicesFrom, differing, replayText, replayed, roomed, replaying}

@@ -7,7 +7,8 @@ use mathlib.Core.Path.{_≡_, sym, _∙_}
 use borrow.Author.Needs.{needs}
 use Rattle.whole.specs.laws.Whole.{read}
 use Rattle.segments.specs.Paper.{endSaid, spotSaid}
-use Rattle.segments.specs.Places.{indexOf, mapByTables}
+use Rattle.finding.specs.Finding.{indexOf}
+use Rattle.segments.specs.Places.{mapByTables}
 use Rattle.segments.specs.Tables.{tables, Holds}
 use Rattle.segments.specs.laws.Meaning.{holds-means}
 use Rattle.segments.specs.laws.Reading.{by-transcript}

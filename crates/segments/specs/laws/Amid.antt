@@ -14,11 +14,13 @@ use Rattle.cigar.specs.Elements.{Element, Side, Kind, kind, kindOf, total}
 use Rattle.cigar.specs.Elements.Kind.{matches, inserts, deletes, skips}
 use Rattle.cigar.specs.Read.{lettersOf}
 use Rattle.segments.specs.Tables.{entriesFrom, entriesOf}
-use Rattle.segments.specs.Places.{Spot, End, beside, leftNearer, nearer, spotIn, firstBelow, endsAbove, indexOf, mapByTables, mapPlace}
+use Rattle.segments.specs.Places.{Spot, End, beside, leftNearer, nearer, spotIn, mapByTables, mapPlace}
+use Rattle.finding.specs.Finding.{firstBelow, endsAbove, indexOf}
 use Rattle.segments.specs.Places.End.{start, stop}
 use Rattle.segments.specs.laws.Totals.{total-append}
 use Rattle.segments.specs.laws.Made.{nowhere, entry-at, letter-at}
-use Rattle.segments.specs.laws.Finding.{Found, Inside, index-says, index-is, inside}
+use Rattle.finding.specs.laws.Index.{Found, index-says, index-is}
+use Rattle.segments.specs.laws.Spotting.{Inside, inside}
 
 -- ---- entries and letters
 

@@ -11,7 +11,8 @@ use borrow.Author.Tests.{eqb-true, ltb-true, ltb-false, le-ltb}
 use Rattle.whole.specs.laws.Whole.{by-test, both}
 use Rattle.cigar.specs.Elements.{letterN}
 use Rattle.segments.specs.Tables.{allBelow, padded}
-use Rattle.segments.specs.laws.Meaning.{all-at, onward}
+use Rattle.segments.specs.laws.Meaning.{all-at}
+use Rattle.finding.specs.laws.Rising.{onward}
 use Rattle.segments.specs.laws.Made.{padded-at}
 use Rattle.segments.specs.Exons.{firstNumber, lastNumber, numberAt, numbersFrom, readNumbers, goesOn, goesOnAt, numbersHold, IsExon}
 

@@ -1,8 +1,6 @@
 -- What the tests of `Tables` mean: each is true exactly where the facts hold that it stands for. Assumes nothing.
 use Prim.Native.Nat.{ℕ, zero, suc, _+_, _-_, _≤_, _<_}
-use native.Mathlib.Nat.{not-suc-le-zero, le-of-suc-le-suc, eq-or-lt-of-le, le-trans, le-step, le-refl}
-use native.Mathlib.Numerals.{add-one}
-use native.Mathlib.Omega.{arith}
+use native.Mathlib.Nat.{not-suc-le-zero, le-of-suc-le-suc, eq-or-lt-of-le, le-step, le-refl}
 use mathlib.Core.Bool.{Bool, true, _&&_}
 use mathlib.Core.List.{List}
 use mathlib.Core.Logic.{⊎-elim}
@@ -12,7 +10,7 @@ use lib.Dec.{leb, eqb}
 use borrow.Author.Tests.{leb-true, eqb-true, le-leb, eq-eqb}
 use Rattle.whole.specs.laws.Whole.{both, both-of}
 use Rattle.cigar.specs.Elements.{kindOf}
-use Rattle.segments.specs.Tables.{Tables, allBelow, stepRight, stepsOf, knownAt, rightAt, segmentsHold, Rising, Holds}
+use Rattle.segments.specs.Tables.{Tables, allBelow, stepRight, stepsOf, knownAt, rightAt, segmentsHold, Holds}
 
 -- `allBelow f n` is true exactly where f is true at each number below n
 pub all-at : (f : ℕ → Bool) (n : ℕ) → allBelow f n ≡ true → (i : ℕ) → i < n → f i ≡ true
@@ -28,20 +26,6 @@ pub all-of : (f : ℕ → Bool) (n : ℕ) → ((i : ℕ) → i < n → f i ≡ t
 unfolding allBelow
 all-of f zero h = refl
 all-of f (suc n) h = both-of (all-of f n (λ i l. h i (le-step l))) (h n (le-refl (suc n)))
-
--- what goes from each of the first n numbers to the next goes from any of them to a later one, where it goes from one to itself and through another
-pub onward : (Goes : ℕ → ℕ → Type 0) → ((k : ℕ) → Goes k k) → ((a b c : ℕ) → Goes a b → Goes b c → Goes a c)
-    → (number : ℕ → ℕ) (n : ℕ) → ((i : ℕ) → i < n → Goes (number i) (number (i + 1))) → (i j : ℕ) → i ≤ j → j ≤ n → Goes (number i) (number j)
-onward Goes stays on number n next i zero i≤j j≤n = let e : i ≡ 0 = omega arith in rw e (stays (number 0))
-onward Goes stays on number n next i (suc j) i≤j j≤n =
-    ⊎-elim
-    (λ (e : i ≡ suc j). rw e (stays (number (suc j))))
-    (λ (l : i < suc j). on (number i) (number j) (number (suc j)) (onward Goes stays on number n next i j (omega arith) (omega arith)) (rw add-one at (next j j≤n)))
-    (eq-or-lt-of-le i≤j)
-
--- where no entry is below the one before it, none is below an earlier one
-pub rising : (entries : List ℕ) (n : ℕ) → Rising entries n → (i j : ℕ) → i ≤ j → j ≤ n → getD entries i 0 ≤ getD entries j 0
-rising entries n up = onward _≤_ le-refl (λ a b c. le-trans) (λ (i : ℕ). getD entries i 0) n (up .each)
 
 -- the parts of one segment's test
 module _ (c g₀ g₁ t₀ t₁ : ℕ) where

@@ -11,9 +11,10 @@ use Rattle.cigar.specs.Elements.{Side, Kind, kindOf, alongGenome, alongTranscri
 use Rattle.cigar.specs.Elements.Kind.{matches, inserts, deletes, skips}
 use Rattle.cigar.specs.Read.{lettersOf}
 use Rattle.segments.specs.Tables.{Tables, stepsOf, Holds, elementAt, elementsFrom, read, entriesFrom, entriesOf}
-use Rattle.segments.specs.Places.{End, indexOf, mapByTables, mapPlace}
+use Rattle.segments.specs.Places.{End, mapByTables, mapPlace}
+use Rattle.finding.specs.Finding.{indexOf}
 use Rattle.segments.specs.laws.Made.{entry-total}
-use Rattle.segments.specs.laws.Finding.{index-says, same-index}
+use Rattle.finding.specs.laws.Index.{index-says, same-index}
 
 -- two tables have the same entries at each number below n
 abbrev Alike : ℕ → List ℕ → List ℕ → Type 0

@@ -5,12 +5,14 @@ use Rattle.holding.specs.Holding.{lent}
 use Rattle.positions.specs.Positions.{Interval, CAsked}
 use Rattle.positions.specs.Paper.{paperCQuestion}
 use Rattle.segments.specs.Tables.{tables}
-use Rattle.places.specs.Lone.{paperLone}
-use Rattle.layout.specs.Layout.{cAsked, gLaid, laid}
+use Rattle.lone.specs.Lone.{paperLone}
+use Rattle.taking.specs.Taking.{cAsked}
+use Rattle.layout.specs.Layout.{gLaid, laid}
 use Rattle.mapper.specs.Asking.{askCToG, askCToN, askNToG}
-use Rattle.mapper.specs.Knowing.{knownOf, paperCoding}
-use Rattle.mapper.specs.declared.knowing.Known.the-variants as known
-use Rattle.mapper.specs.laws.Known.{known-lies, natural-bounds, lying-c-to-g, ask-length, ask-broken}
+use Rattle.knowing.specs.Knowing.{knownOf, paperCoding}
+use Rattle.knowing.specs.declared.Known.the-variants as known
+use Rattle.knowing.specs.laws.Known.{known-lies, natural-bounds, ask-length, ask-broken}
+use Rattle.mapper.specs.laws.Lying.{lying-c-to-g}
 use Rattle.telling.specs.Telling.{loneC}
 use Rattle.telling.proofs.Ways.{one-name, name-beside, roomy}
 use borrow.Author.Needs.{needs}

@@ -6,14 +6,16 @@ use mir.Val.{toZ, ofZ}
 use Rattle.whole.specs.laws.Whole.{read, told, eq-means}
 use Rattle.refusals.specs.Outcome.{answered}
 use Rattle.holding.specs.Holding.{lent}
-use Rattle.layout.specs.Layout.{nLaid, laid, gAsked}
-use Rattle.mapper.specs.Asking.{given, askGToN}
-use Rattle.mapper.specs.Knowing.{knownOf, paperGiven}
-use Rattle.mapper.specs.declared.knowing.Known.the-variants as known
-use Rattle.mapper.specs.laws.Known.{known-lies, ask-length, ask-broken}
+use Rattle.layout.specs.Layout.{nLaid, laid}
+use Rattle.taking.specs.Taking.{gAsked}
+use Rattle.chaining.specs.Given.{given, paperGiven}
+use Rattle.mapper.specs.Asking.{askGToN}
+use Rattle.knowing.specs.Knowing.{knownOf}
+use Rattle.knowing.specs.declared.Known.the-variants as known
+use Rattle.knowing.specs.laws.Known.{known-lies, ask-length, ask-broken}
 use Rattle.segments.specs.Tables.{tables}
 use Rattle.segments.specs.Paper.{spotSaid}
-use Rattle.places.specs.Lone.{unsure, loneG, paperLone}
+use Rattle.lone.specs.Lone.{unsure, loneG, paperLone}
 use Rattle.telling.proofs.Ways.{n-by-ends, one-base, base-beside, roomy}
 use borrow.Author.Needs.{needs}
 use Rattle.telling.proofs.g_to_n.Statement.{statement}

@@ -7,7 +7,7 @@ use Rattle.positions.specs.Positions.{asksN}
 use Rattle.positions.specs.Paper.{paperNPosition, paperCEnd}
 use Rattle.coding.specs.Coding.{nToC}
 use Rattle.layout.specs.Layout.{cLaid, laid}
-use Rattle.mapper.specs.Knowing.{paperCoding}
+use Rattle.knowing.specs.Knowing.{paperCoding}
 use Rattle.telling.specs.Telling.{sureC}
 use Rattle.telling.proofs.Ways.{c-once, c-missing}
 use borrow.Author.Needs.{needs}

@@ -1,6 +1,6 @@
 -- The two tests are the definition's. Assumes nothing.
 use borrow.Author.Needs.{needs}
-use Rattle.together.specs.Steps.{begin}
+use Rattle.together.specs.Ends.{begin}
 use Rattle.together.proofs.begins.Statement.{statement}
 use Rattle.together.proofs.begins.Tie as tie
 

@@ -5,9 +5,11 @@ use mathlib.Core.Path.{_≡_, ap, _∙_}
 use borrow.Author.Needs.{needs}
 use Rattle.segments.specs.Tables.{allBelow}
 use Rattle.segments.specs.laws.Gathering.{all-done}
-use Rattle.together.specs.Steps.{within, endsWithinAt, from}
-use Rattle.together.proofs.All.{from-none, from-more}
-use Rattle.together.proofs.OneStep.{within-none}
+use Rattle.numbered.specs.Stretches.{from}
+use Rattle.stepping.specs.Steps.{within}
+use Rattle.together.specs.Ends.{endsWithinAt}
+use Rattle.numbered.specs.laws.All.{from-none, from-more}
+use Rattle.stepping.specs.laws.OneStep.{within-none}
 use Rattle.together.proofs.ends_in.Statement.{statement}
 use Rattle.together.proofs.ends_in.Tie as tie
 

@@ -3,7 +3,7 @@ use native.Mathlib.Omega.{arith}
 use mathlib.Core.Bool.{_&&_}
 use mathlib.Core.Path.{ap₂, _∙_}
 use borrow.Author.Needs.{needs}
-use Rattle.together.proofs.All.{from-start, stretched}
+use Rattle.numbered.specs.laws.All.{from-start, stretched}
 use Rattle.together.proofs.ends_of.Statement.{statement}
 use Rattle.together.proofs.ends_of.Tie as tie
 

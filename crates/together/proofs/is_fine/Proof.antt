@@ -3,7 +3,7 @@ use mathlib.Core.Bool.{Bool, true, false, _&&_}
 use mathlib.Core.Path.{_≡_, refl, ap, _∙_}
 use borrow.Author.Needs.{needs}
 use borrow.Author.Tests.{lt-ltb, le-ltb}
-use Rattle.together.specs.Steps.{within}
+use Rattle.stepping.specs.Steps.{within}
 use Rattle.together.proofs.is_fine.Statement.{statement}
 use Rattle.together.proofs.is_fine.Tie as tie
 

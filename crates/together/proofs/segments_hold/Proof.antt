@@ -3,7 +3,7 @@ use mathlib.Core.Bool.{Bool, true, false, _&&_, _||_}
 use mathlib.Core.Path.{_≡_, refl, sym, ap, ap₂, _∙_}
 use borrow.Author.Needs.{needs}
 use Rattle.segments.specs.Tables.{tables, allBelow, knownAt}
-use Rattle.together.specs.Steps.{sameAt, withinAt}
+use Rattle.stepping.specs.Steps.{sameAt, withinAt}
 use Rattle.together.proofs.Deciding.{lowEnds, decided}
 use Rattle.together.proofs.segments_hold.Statement.{statement}
 use Rattle.together.proofs.segments_hold.Tie as tie

@@ -6,7 +6,7 @@ use borrow.Author.Needs.{needs}
 use borrow.Author.Tests.{leb-true}
 use Rattle.whole.specs.laws.Whole.{both}
 use Rattle.segments.specs.Tables.{tables, allBelow}
-use Rattle.together.specs.Steps.{commonAt}
+use Rattle.letters.specs.Letters.{commonAt}
 use Rattle.together.proofs.Deciding.{common-sames, common-withins}
 use Rattle.together.proofs.shown.Statement.{statement}
 use Rattle.together.proofs.shown.Tie as tie

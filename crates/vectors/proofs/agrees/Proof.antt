@@ -1,8 +1,8 @@
 -- The tests on the way to each kind of row are those of the definitions.
 use mathlib.Core.Path.{refl, ap, ap₂, _∙_}
 use borrow.Author.Tests.{lt-ltb, le-ltb}
-use Rattle.vectors.specs.Rows.{expected}
-use Rattle.vectors.specs.Changes.{changeWords}
+use Rattle.rows.specs.Rows.{expected}
+use Rattle.comparing.specs.Changes.{changeWords}
 use Rattle.vectors.specs.Replay.{agreed, headNext, tablesNext, exonsNext}
 use borrow.Author.Needs.{needs}
 use Rattle.vectors.proofs.agrees.Statement.{statement}

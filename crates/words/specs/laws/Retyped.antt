@@ -17,11 +17,11 @@ use Rattle.refusals.specs.Outcome.{answered}
 use Rattle.cigar.specs.Elements.{Element, letterD, letterI}
 use Rattle.cigar.specs.Text.{before, readFrom, readAll}
 use Rattle.cigar.specs.Read.{countsAfter, lettersAfter}
-use Rattle.cigar.specs.Write.{decimal, textOf, writing}
-use Rattle.cigar.specs.laws.Decimal.{decimal-one, decimal-more}
+use Rattle.spelling.specs.Write.{decimal, textOf, writing}
+use Rattle.spelling.specs.laws.Decimal.{decimal-one, decimal-more}
 use Rattle.cigar.specs.laws.Sound.{AllSound}
-use Rattle.cigar.specs.laws.RoundTrip.{read-count, read-letter}
-use Rattle.cigar.specs.laws.BothWays.{given-back}
+use Rattle.spelling.specs.laws.RoundTrip.{read-count, read-letter}
+use Rattle.spelling.specs.laws.BothWays.{given-back}
 use Rattle.words.specs.Words.{bamLetter, exchanged, letterOf, lengthIn, codeIn, elementOfWord, isKnown, allKnown, readWords}
 use Rattle.words.specs.Retyping.{alignersText, retyped}
 use Rattle.words.specs.laws.RoundTrips.{AllFit, AllWordable, elements-wordable, read-says}

@@ -9,7 +9,7 @@ use Rattle.refusals.specs.Outcome.{answered, refused}
 use Rattle.cigar.specs.Bytes.{ascii}
 use Rattle.cigar.specs.Elements.{Element, isLetter}
 use Rattle.cigar.specs.Text.{element}
-use Rattle.cigar.specs.Write.{digitsBy, decimal, elementText, elementsText}
+use Rattle.spelling.specs.Write.{digitsBy, decimal, elementText, elementsText}
 use Rattle.words.specs.Words.{letterOf, codeOf, allKnown, readWords, faultOf, faultFrom, elementsAt, writeWords}
 use Rattle.words.specs.Retyping.{alignersText, retyped}
 

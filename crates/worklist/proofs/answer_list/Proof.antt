@@ -53,11 +53,11 @@ use Rattle.transcript.proofs.Head as Hd
 use Rattle.transcript.proofs.Head.Laws as Hd′
 use Rattle.holding.specs.Holding.{ofRecords, headHolds, Lent, lent, holds}
 use Rattle.holding.specs.laws.Held.{together, held-head, held-segments, some as some-segment, few}
-use Rattle.places.specs.Aligned.{alignedBy, Aligns}
-use Rattle.places.specs.declared.Alignment.{Alignment}
-use Rattle.places.proofs.Alignment as Al
-use Rattle.places.proofs.Alignment.Laws as Al′
-use Rattle.mapper.specs.Knowing.{alignmentOf}
+use Rattle.spots.specs.Aligned.{alignedBy, Aligns}
+use Rattle.spots.specs.declared.Alignment.{Alignment}
+use Rattle.spots.proofs.Alignment as Al
+use Rattle.spots.proofs.Alignment.Laws as Al′
+use Rattle.knowing.specs.Knowing.{alignmentOf}
 use Rattle.worklist.specs.laws.Shared.{Starts, Letters, Exons, placed, Owned, owned-twice}
 use Rattle.worklist.specs.declared.Slot.{Slot}
 use Rattle.worklist.specs.declared.Steps.{Steps}
@@ -77,10 +77,10 @@ use Rattle.worklist.proofs.why_not as why
 use Rattle.worklist.proofs.why_not.Symbol as why-def
 use Rattle.worklist.proofs.why_not.Symbol.{name as #why}
 use Rattle.worklist.proofs.why_not.Met as why-thm
-use Rattle.mapper.proofs.knowing.alignment as lying
-use Rattle.mapper.proofs.knowing.alignment.Symbol as lying-def
-use Rattle.mapper.proofs.knowing.alignment.Symbol.{name as #lying}
-use Rattle.mapper.proofs.knowing.alignment.Met as lying-thm
+use Rattle.knowing.proofs.alignment as lying
+use Rattle.knowing.proofs.alignment.Symbol as lying-def
+use Rattle.knowing.proofs.alignment.Symbol.{name as #lying}
+use Rattle.knowing.proofs.alignment.Met as lying-thm
 use Rattle.worklist.proofs.walk.fill as fill
 use Rattle.worklist.proofs.walk.fill.Symbol as fill-def
 use Rattle.worklist.proofs.walk.fill.Symbol.{name as #fill}
@@ -478,6 +478,6 @@ answer-list-spec 𝓤 H 𝓜 𝓖 𝓡 =
     (answer-list-meets 𝓤 H (𝓖 .A) (givenOf 𝓤 H 𝓜 𝓖) (𝓜 .mem) (𝓡 .run) (tablesOf 𝓤 H 𝓜 (tables 𝓤 H 𝓜 𝓡 code.env))
     (cited 𝓤 H (Rises 𝓤 H (𝓖 .A) (𝓜 .mem) (𝓡 .run)) 𝓜 𝓡 code.env #rises rises-def.routine code.calls-worklist·order·never-falls (rises-thm.met 𝓤 H 𝓜 𝓖 𝓡))
     (cited 𝓤 H (Why 𝓤 H (𝓖 .A) (𝓜 .mem) (𝓡 .run)) 𝓜 𝓡 code.env #why why-def.routine code.calls-worklist·why-not (why-thm.met 𝓤 H 𝓜 𝓖 𝓡))
-    (cited 𝓤 H (Lying 𝓤 H (𝓖 .A) (𝓜 .mem) (𝓡 .run)) 𝓜 𝓡 code.env #lying lying-def.routine code.calls-mapper·knowing·alignment (lying-thm.met 𝓤 H 𝓜 𝓖 𝓡))
+    (cited 𝓤 H (Lying 𝓤 H (𝓖 .A) (𝓜 .mem) (𝓡 .run)) 𝓜 𝓡 code.env #lying lying-def.routine code.calls-knowing·alignment (lying-thm.met 𝓤 H 𝓜 𝓖 𝓡))
     (cited 𝓤 H (Fill 𝓤 H (𝓖 .A) (𝓜 .mem) (𝓡 .run)) 𝓜 𝓡 code.env #fill fill-def.routine code.calls-worklist·walk·fill (fill-thm.met 𝓤 H 𝓜 𝓖 𝓡))
     (cited 𝓤 H (Refuse 𝓤 H (𝓖 .A) (𝓜 .mem) (𝓡 .run)) 𝓜 𝓡 code.env #refuse refuse-def.routine code.calls-worklist·refused (refuse-thm.met 𝓤 H 𝓜 𝓖 𝓡)))

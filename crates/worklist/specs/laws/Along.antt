@@ -12,7 +12,7 @@ use lib.Signed.{ltZ, leZ}
 use Rattle.whole.specs.Whole.{if_then_else_}
 use Rattle.whole.specs.laws.Whole.{by-test, order, dif}
 use Rattle.segments.specs.laws.Meaning.{all-at}
-use Rattle.segments.specs.laws.Finding.{index-says, index-rises}
+use Rattle.finding.specs.laws.Index.{index-says, index-rises}
 use Rattle.worklist.specs.Worklist.{Track, placeOn, within, segmentOf, wider, largest, segmentOr0, stepsAfter, risesAt, neverFalls}
 use Rattle.worklist.specs.Walking.{nextIndex, Ready}
 

@@ -8,8 +8,8 @@ use mathlib.Core.Path.{_≡_}
 use lib.IntN.{ℤ, pos}
 use lib.ListN.{getD, length}
 use Rattle.whole.specs.laws.Whole.{by-test}
-use Rattle.segments.specs.Places.{endsAbove, indexOf}
-use Rattle.segments.specs.laws.Finding.{walk-goes-on}
+use Rattle.finding.specs.Finding.{endsAbove, indexOf}
+use Rattle.finding.specs.laws.Index.{walk-goes-on}
 use Rattle.worklist.specs.Worklist.{Track, placeOn, within, stepsAfter, stepsOf, neverFalls}
 use Rattle.worklist.specs.Looks.{looksFrom, looksAt, looksAfter}
 use Rattle.worklist.specs.laws.Along.{index-on, walk-ready, walk-here, walk-stays}

@@ -9,14 +9,16 @@ use Rattle.whole.specs.Fits.{fits, fitOf}
 use Rattle.numbering.specs.Numbers.{nOfPlace}
 use Rattle.cigar.specs.Elements.{letterM, letterN, isLetter, kindOf, genome, transcript, total}
 use Rattle.segments.specs.Tables.{stepRight, allBelow, segmentsHold, elementsFrom, entriesFrom}
-use Rattle.segments.specs.Places.{firstBelow, indexOf, nearer, spotIn, mapByTables, mapPlace}
+use Rattle.finding.specs.Finding.{firstBelow, indexOf}
+use Rattle.segments.specs.Places.{nearer, spotIn, mapByTables, mapPlace}
 use Rattle.segments.specs.Exons.{goesOn, numbersHold, numbersFrom, exonFound}
 use Rattle.holding.specs.Holding.{Lent, lent, cdsHolds, recordsHold, holds, sourceOf, checked}
 use Rattle.positions.specs.Positions.{NPosition}
 use Rattle.positions.specs.Answers.{certainly}
-use Rattle.places.specs.Mapping.{inside, turned, nOfSpot, wholeN, gToN}
+use Rattle.spots.specs.Mapping.{inside, turned, nOfSpot, wholeN, gToN}
 use Rattle.mapper.specs.Asking.{askGToN}
-use Rattle.layout.specs.Layout.{gAsked, nLaid, laid, refusal}
+use Rattle.taking.specs.Taking.{gAsked}
+use Rattle.layout.specs.Layout.{nLaid, laid, refusal}
 use Rattle.worklist.specs.Worklist.{neverFalls, largest, askSteps, listed, slotsAfter}
 use Rattle.worklist.specs.declared.Slot.{Slot}
 

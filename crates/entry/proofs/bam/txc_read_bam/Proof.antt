@@ -1,6 +1,6 @@
 -- `entry::bam::txc_read_bam` meets its contract: what `read_words` answers is laid out.
 use mathlib.Core.Path.{ap, _∙_}
-use Rattle.entry.specs.Boundary.{countedLaid}
+use Rattle.results.specs.Results.{countedLaid}
 use borrow.Author.Needs.{needs}
 use Rattle.entry.proofs.bam.txc_read_bam.Statement.{statement}
 use Rattle.entry.proofs.bam.txc_read_bam.Tie as tie

@@ -2,7 +2,7 @@
 use mathlib.Core.Path.{ap, _∙_}
 use Rattle.whole.specs.laws.Whole.{read}
 use Rattle.transcript.specs.declared.Built.{Built}
-use Rattle.entry.specs.Boundary.{builtNumber, builtHead}
+use Rattle.results.specs.Results.{builtNumber, builtHead}
 use borrow.Author.Needs.{needs}
 use Rattle.entry.proofs.build.txc_build.Statement.{statement}
 use Rattle.entry.proofs.build.txc_build.Tie as tie

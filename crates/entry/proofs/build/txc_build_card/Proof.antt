@@ -1,7 +1,7 @@
 -- `entry::build::txc_build_card` meets its contract: what `build_card` answers is laid out, and what it leaves in the tables stays.
 use mathlib.Core.Path.{ap, _∙_}
 use Rattle.transcript.specs.declared.Built.{Built}
-use Rattle.entry.specs.Boundary.{builtNumber, builtHead}
+use Rattle.results.specs.Results.{builtNumber, builtHead}
 use borrow.Author.Needs.{needs}
 use Rattle.entry.proofs.build.txc_build_card.Statement.{statement}
 use Rattle.entry.proofs.build.txc_build_card.Tie as tie

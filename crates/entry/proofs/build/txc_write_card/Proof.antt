@@ -2,7 +2,7 @@
 use mathlib.Core.Path.{_≡_, ap, _∙_}
 use Rattle.whole.specs.laws.Whole.{read}
 use Rattle.judging.specs.Input.{numbersOf}
-use Rattle.entry.specs.Boundary.{writtenLaid}
+use Rattle.results.specs.Results.{writtenLaid}
 use borrow.Author.Needs.{needs}
 use Rattle.entry.proofs.build.txc_write_card.Statement.{statement}
 use Rattle.entry.proofs.build.txc_write_card.Tie as tie

@@ -1,6 +1,6 @@
 -- `entry::logs::txc_replay` meets its contract: `head_of` reads the head, and what `replay` answers is laid out. Assumes nothing.
 use mathlib.Core.Path.{ap, _∙_}
-use Rattle.entry.specs.Boundary.{writtenLaid}
+use Rattle.results.specs.Results.{writtenLaid}
 use borrow.Author.Needs.{needs}
 use Rattle.entry.proofs.logs.txc_replay.Statement.{statement}
 use Rattle.entry.proofs.logs.txc_replay.Tie as tie

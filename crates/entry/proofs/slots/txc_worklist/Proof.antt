@@ -40,7 +40,7 @@ use Rattle.transcript.specs.declared.Head.{Head}
 use Rattle.transcript.proofs.Head as Hd
 use Rattle.transcript.proofs.Head.Laws as Hd′
 use Rattle.holding.specs.Holding.{Lent, lent}
-use Rattle.layout.specs.Layout.{headAt, lentAt}
+use Rattle.lending.specs.Lending.{headAt, lentAt}
 use Rattle.worklist.specs.laws.Shared.{Starts, Letters, Exons, placed, Owned, owned-twice}
 use Rattle.worklist.specs.declared.Slot.{Slot}
 use Rattle.worklist.specs.declared.Steps.{Steps}
@@ -50,10 +50,10 @@ use Rattle.worklist.proofs.Slot as T
 use Rattle.worklist.proofs.Steps as S
 use Rattle.worklist.proofs.Steps.Laws as S′
 use Rattle.entry.specs.Told.{toldSteps, toldSlots}
-use Rattle.layout.proofs.take.head_of as reads
-use Rattle.layout.proofs.take.head_of.Symbol as reads-def
-use Rattle.layout.proofs.take.head_of.Symbol.{name as #reads}
-use Rattle.layout.proofs.take.head_of.Met as reads-thm
+use Rattle.lending.proofs.head_of as reads
+use Rattle.lending.proofs.head_of.Symbol as reads-def
+use Rattle.lending.proofs.head_of.Symbol.{name as #reads}
+use Rattle.lending.proofs.head_of.Met as reads-thm
 use Rattle.worklist.proofs.answer_list as answers
 use Rattle.worklist.proofs.answer_list.Symbol as answers-def
 use Rattle.worklist.proofs.answer_list.Symbol.{name as #answers}
@@ -254,5 +254,5 @@ txc-worklist-spec 𝓤 H 𝓜 𝓖 𝓡 =
     entered 𝓤 H (tripleOf 𝓤 H (𝓖 .A) f.signature (f.spec 𝓤 H (𝓖 .A) (𝓜 .mem) (𝓡 .run)))
     (tables 𝓤 H 𝓜 𝓡 code.env .C) (tables 𝓤 H 𝓜 𝓡 code.env .Λ) #txc-worklist code.function (code.unfolded 𝓤 H 𝓜 𝓡)
     (txc-worklist-meets 𝓤 H (𝓖 .A) (givenOf 𝓤 H 𝓜 𝓖) (𝓜 .mem) (𝓡 .run) (tablesOf 𝓤 H 𝓜 (tables 𝓤 H 𝓜 𝓡 code.env))
-    (cited 𝓤 H (Reads 𝓤 H (𝓖 .A) (𝓜 .mem) (𝓡 .run)) 𝓜 𝓡 code.env #reads reads-def.routine code.calls-layout·take·head-of (reads-thm.met 𝓤 H 𝓜 𝓖 𝓡))
+    (cited 𝓤 H (Reads 𝓤 H (𝓖 .A) (𝓜 .mem) (𝓡 .run)) 𝓜 𝓡 code.env #reads reads-def.routine code.calls-lending·head-of (reads-thm.met 𝓤 H 𝓜 𝓖 𝓡))
     (cited 𝓤 H (Answers 𝓤 H (𝓖 .A) (𝓜 .mem) (𝓡 .run)) 𝓜 𝓡 code.env #answers answers-def.routine code.calls-worklist·answer-list (answers-thm.met 𝓤 H 𝓜 𝓖 𝓡)))

@@ -9,7 +9,7 @@ use Rattle.refusals.specs.Outcome.{numberOf}
 use Rattle.whole.specs.laws.Whole.{by-test}
 use Rattle.strands.specs.Turned.{areBases, turning}
 use Rattle.strands.specs.laws.Turning.{turned-length, turning-other, turning-long, turning-fits}
-use Rattle.entry.specs.Boundary.{lengthLaid, numberLaid, textLaid}
+use Rattle.results.specs.Results.{lengthLaid, numberLaid, textLaid}
 use borrow.Author.Needs.{needs}
 use Rattle.entry.proofs.strand.txc_turn.Statement.{statement}
 use Rattle.entry.proofs.strand.txc_turn.Tie as tie

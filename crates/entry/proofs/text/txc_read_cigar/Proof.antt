@@ -1,6 +1,6 @@
 -- `entry::text::txc_read_cigar` meets its contract: what `read_cigar` answers is laid out.
 use mathlib.Core.Path.{ap, _∙_}
-use Rattle.entry.specs.Boundary.{countedLaid}
+use Rattle.results.specs.Results.{countedLaid}
 use borrow.Author.Needs.{needs}
 use Rattle.entry.proofs.text.txc_read_cigar.Statement.{statement}
 use Rattle.entry.proofs.text.txc_read_cigar.Tie as tie

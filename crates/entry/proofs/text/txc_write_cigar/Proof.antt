@@ -1,6 +1,6 @@
 -- `entry::text::txc_write_cigar` meets its contract: what `write_cigar` answers is laid out.
 use mathlib.Core.Path.{ap, _∙_}
-use Rattle.entry.specs.Boundary.{writtenLaid}
+use Rattle.results.specs.Results.{writtenLaid}
 use borrow.Author.Needs.{needs}
 use Rattle.entry.proofs.text.txc_write_cigar.Statement.{statement}
 use Rattle.entry.proofs.text.txc_write_cigar.Tie as tie

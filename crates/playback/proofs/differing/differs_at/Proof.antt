@@ -3,8 +3,8 @@
 use mathlib.Core.Path.{_≡_, ap, ap₂, _∙_}
 use mathlib.Core.Bool.{not}
 use Rattle.holding.specs.Holding.{lent}
-use Rattle.log.specs.Entries.{entryAt}
-use Rattle.log.specs.declared.Entry.{Entry}
+use Rattle.entries.specs.Entries.{entryAt}
+use Rattle.entries.specs.declared.Entry.{Entry}
 use Rattle.asking.specs.Asking.{asked}
 use Rattle.playback.specs.Replay.{sameAnswer, differs}
 use borrow.Author.Needs.{needs}

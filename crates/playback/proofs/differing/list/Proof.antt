@@ -6,7 +6,7 @@ use Prim.Native.Nat.{ℕ, _+_, _≤_, _<_}
 use native.Mathlib.Omega.{arith}
 use borrow.Author.Tests.{lt-ltb, le-ltb}
 use lib.ListN.{length}
-use Rattle.cigar.specs.declared.write.Written.the-variants as answer
+use Rattle.spelling.specs.declared.Written.the-variants as answer
 use Rattle.holding.specs.Holding.{lent}
 use Rattle.card.specs.Putting.{Put}
 use Rattle.card.specs.laws.Putting.{then-put, put-length, put-as, put-front}

@@ -5,7 +5,7 @@ use native.Mathlib.Omega.{arith}
 use lib.ListN.{set}
 use Rattle.card.specs.Putting.{Put}
 use Rattle.card.specs.laws.Putting.{byte-put, then-put, put-length}
-use Rattle.cigar.specs.Write.{decimal}
+use Rattle.spelling.specs.Write.{decimal}
 use Rattle.playback.specs.Lines.{lineOf}
 use Rattle.playback.specs.laws.Lines.{line-length}
 use borrow.Author.Needs.{needs}

@@ -5,8 +5,8 @@ use lib.ListN.{length-replicate}
 use borrow.Author.Tests.{lt-ltb, le-ltb}
 use Rattle.vectors.proofs.Zeros.{zeros-end}
 use Rattle.sequences.specs.Slices.{Slice}
-use Rattle.vectors.specs.Sizes.{mostWords}
-use Rattle.vectors.specs.Bam.{readBamAgrees}
+use Rattle.comparing.specs.Sizes.{mostWords}
+use Rattle.comparing.specs.Bam.{readBamAgrees}
 use borrow.Author.Needs.{needs}
 use Rattle.vectors.proofs.bam.read_bam.Statement.{statement}
 use Rattle.vectors.proofs.bam.read_bam.Tie as tie

@@ -4,9 +4,9 @@ use mathlib.Core.Path.{ap, ap₂, _∙_}
 use mathlib.Core.Bool.{_&&_}
 use mathlib.Core.List.{List}
 use lib.IntN.{ℤ}
-use Rattle.vectors.specs.Rows.{expected}
-use Rattle.vectors.specs.Words.{lengthWords}
-use Rattle.vectors.specs.Bam.{holdsCounts, holdsLetters, elementsAgree}
+use Rattle.rows.specs.Rows.{expected}
+use Rattle.comparing.specs.Words.{lengthWords}
+use Rattle.comparing.specs.Bam.{holdsCounts, holdsLetters, elementsAgree}
 use borrow.Author.Needs.{needs}
 use Rattle.vectors.proofs.bam.reads.Statement.{statement}
 use Rattle.vectors.proofs.bam.reads.Tie as tie

@@ -4,8 +4,8 @@ use lib.ListN.{length-replicate}
 use borrow.Author.Tests.{lt-ltb, le-ltb}
 use Rattle.vectors.proofs.Zeros.{zeros-end}
 use Rattle.sequences.specs.Slices.{Slice}
-use Rattle.vectors.specs.Sizes.{mostWords}
-use Rattle.vectors.specs.Bam.{writeBamAgrees}
+use Rattle.comparing.specs.Sizes.{mostWords}
+use Rattle.comparing.specs.Bam.{writeBamAgrees}
 use borrow.Author.Needs.{needs}
 use Rattle.vectors.proofs.bam.write_bam.Statement.{statement}
 use Rattle.vectors.proofs.bam.write_bam.Tie as tie

@@ -3,9 +3,9 @@ use Prim.Native.Nat.{ℕ}
 use mathlib.Core.Path.{ap, ap₂, _∙_}
 use mathlib.Core.Bool.{_&&_}
 use mathlib.Core.List.{List}
-use Rattle.vectors.specs.Rows.{expected}
-use Rattle.vectors.specs.Words.{lengthWords}
-use Rattle.vectors.specs.Bam.{holdsWords, wordsAgree}
+use Rattle.rows.specs.Rows.{expected}
+use Rattle.comparing.specs.Words.{lengthWords}
+use Rattle.comparing.specs.Bam.{holdsWords, wordsAgree}
 use borrow.Author.Needs.{needs}
 use Rattle.vectors.proofs.bam.writes.Statement.{statement}
 use Rattle.vectors.proofs.bam.writes.Tie as tie

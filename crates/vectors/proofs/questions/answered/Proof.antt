@@ -2,7 +2,7 @@
 use mathlib.Core.Path.{ap, _∙_}
 use borrow.Author.Tests.{lt-ltb, le-ltb}
 use Rattle.vectors.specs.Questions.{questionWords}
-use Rattle.vectors.specs.Words.{answerWords, saidWords}
+use Rattle.comparing.specs.Words.{answerWords, saidWords}
 use borrow.Author.Needs.{needs}
 use Rattle.vectors.proofs.questions.answered.Statement.{statement}
 use Rattle.vectors.proofs.questions.answered.Tie as tie

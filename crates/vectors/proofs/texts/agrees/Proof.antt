@@ -1,7 +1,7 @@
 -- The tests on the way to each call are those of the definition.
 use mathlib.Core.Path.{sym, _∙_}
 use borrow.Author.Tests.{ne-eqb}
-use Rattle.vectors.specs.Texts.{textRowAgrees}
+use Rattle.comparing.specs.Texts.{textRowAgrees}
 use borrow.Author.Needs.{needs}
 use Rattle.vectors.proofs.texts.agrees.Statement.{statement}
 use Rattle.vectors.proofs.texts.agrees.Tie as tie

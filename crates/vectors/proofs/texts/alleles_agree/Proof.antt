@@ -1,7 +1,7 @@
 -- The alleles are the two parts of the row's bytes.
 use mathlib.Core.Path.{ap, _∙_}
 use Rattle.sequences.specs.Slices.{Slice}
-use Rattle.vectors.specs.Rows.{expected}
+use Rattle.rows.specs.Rows.{expected}
 use borrow.Author.Needs.{needs}
 use Rattle.vectors.proofs.texts.alleles_agree.Statement.{statement}
 use Rattle.vectors.proofs.texts.alleles_agree.Tie as tie

@@ -1,7 +1,7 @@
 -- The tests on the way to each call are those of the definition.
 use mathlib.Core.Path.{ap, _∙_}
 use borrow.Author.Tests.{eq-eqb, ne-eqb}
-use Rattle.vectors.specs.Texts.{partWords, commonWords, allelesWords}
+use Rattle.comparing.specs.Texts.{partWords, commonWords, allelesWords}
 use borrow.Author.Needs.{needs}
 use Rattle.vectors.proofs.texts.of_alleles.Statement.{statement}
 use Rattle.vectors.proofs.texts.of_alleles.Tie as tie

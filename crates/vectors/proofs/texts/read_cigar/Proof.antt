@@ -5,9 +5,9 @@ use lib.Dec.{eqb}
 use borrow.Author.Tests.{lt-ltb, le-ltb}
 use Rattle.sequences.specs.Slices.{Slice}
 use Rattle.layout.specs.declared.lay.Length.{Length}
-use Rattle.vectors.specs.Rows.{expected}
-use Rattle.vectors.specs.Words.{lengthWords}
-use Rattle.vectors.specs.Texts.{laidOut, readAgrees}
+use Rattle.rows.specs.Rows.{expected}
+use Rattle.comparing.specs.Words.{lengthWords}
+use Rattle.comparing.specs.Texts.{laidOut, readAgrees}
 use borrow.Author.Needs.{needs}
 use Rattle.vectors.proofs.texts.read_cigar.Statement.{statement}
 use Rattle.vectors.proofs.texts.read_cigar.Tie as tie

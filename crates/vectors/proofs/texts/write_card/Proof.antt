@@ -4,8 +4,8 @@ use Prim.Native.Nat.{_-_}
 use lib.ListN.{length-replicate}
 use borrow.Author.Tests.{lt-ltb, le-ltb}
 use Rattle.vectors.proofs.Zeros.{zeros-end}
-use Rattle.vectors.specs.Sizes.{mostRoom}
-use Rattle.vectors.specs.Texts.{writeCardAgrees}
+use Rattle.comparing.specs.Sizes.{mostRoom}
+use Rattle.comparing.specs.Texts.{writeCardAgrees}
 use borrow.Author.Needs.{needs}
 use Rattle.vectors.proofs.texts.write_card.Statement.{statement}
 use Rattle.vectors.proofs.texts.write_card.Tie as tie

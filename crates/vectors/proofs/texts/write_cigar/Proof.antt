@@ -4,8 +4,8 @@ use lib.ListN.{length-replicate}
 use borrow.Author.Tests.{lt-ltb, le-ltb}
 use Rattle.vectors.proofs.Zeros.{zeros-end}
 use Rattle.sequences.specs.Slices.{Slice}
-use Rattle.vectors.specs.Sizes.{mostRoom}
-use Rattle.vectors.specs.Texts.{writeAgrees}
+use Rattle.comparing.specs.Sizes.{mostRoom}
+use Rattle.comparing.specs.Texts.{writeAgrees}
 use borrow.Author.Needs.{needs}
 use Rattle.vectors.proofs.texts.write_cigar.Statement.{statement}
 use Rattle.vectors.proofs.texts.write_cigar.Tie as tie

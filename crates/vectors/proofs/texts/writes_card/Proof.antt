@@ -8,15 +8,15 @@ use Rattle.whole.specs.laws.Whole.{told}
 use borrow.Author.Tests.{eq-eqb, ne-eqb}
 use lib.ListN.{length}
 use Rattle.sequences.specs.Slices.{Slice}
-use Rattle.cigar.specs.Write.{writtenAnswer, bufferAfter}
+use Rattle.spelling.specs.Write.{writtenAnswer, bufferAfter}
 use Rattle.card.specs.Layout.{recordsAt}
 use Rattle.card.specs.Writing.{cardWriting}
 use Rattle.layout.specs.declared.lay.Length.{Length}
-use Rattle.entry.specs.Boundary.{writtenLaid}
-use Rattle.vectors.specs.Rows.{behind, expected}
-use Rattle.vectors.specs.Words.{lengthWords}
-use Rattle.vectors.specs.Changes.{recordedNumbers}
-use Rattle.vectors.specs.Texts.{holdsText, cardAgrees}
+use Rattle.results.specs.Results.{writtenLaid}
+use Rattle.rows.specs.Rows.{behind, expected}
+use Rattle.comparing.specs.Words.{lengthWords}
+use Rattle.comparing.specs.Changes.{recordedNumbers}
+use Rattle.comparing.specs.Texts.{holdsText, cardAgrees}
 use borrow.Author.Needs.{needs}
 use Rattle.vectors.proofs.texts.writes_card.Statement.{statement}
 use Rattle.vectors.proofs.texts.writes_card.Tie as tie

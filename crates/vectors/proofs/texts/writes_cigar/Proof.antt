@@ -3,9 +3,9 @@ use Prim.Native.Nat.{ℕ}
 use mathlib.Core.Path.{ap, ap₂, _∙_}
 use mathlib.Core.Bool.{_&&_}
 use mathlib.Core.List.{List}
-use Rattle.vectors.specs.Rows.{expected}
-use Rattle.vectors.specs.Words.{lengthWords}
-use Rattle.vectors.specs.Texts.{holdsText, textAgrees}
+use Rattle.rows.specs.Rows.{expected}
+use Rattle.comparing.specs.Words.{lengthWords}
+use Rattle.comparing.specs.Texts.{holdsText, textAgrees}
 use borrow.Author.Needs.{needs}
 use Rattle.vectors.proofs.texts.writes_cigar.Statement.{statement}
 use Rattle.vectors.proofs.texts.writes_cigar.Tie as tie

@@ -1,7 +1,7 @@
 -- The tests on the way to each call are those of the definitions.
 use mathlib.Core.Path.{refl, sym, _∙_}
 use borrow.Author.Tests.{ne-eqb}
-use Rattle.vectors.specs.Changes.{changeWords, headAfter, tablesThen, exonsThen}
+use Rattle.comparing.specs.Changes.{changeWords, headAfter, tablesThen, exonsThen}
 use borrow.Author.Needs.{needs}
 use Rattle.vectors.proofs.transcripts.answered.Statement.{statement}
 use Rattle.vectors.proofs.transcripts.answered.Tie as tie

@@ -52,10 +52,10 @@ use denote.Triple.Walked.{says, needs, Stays, stay-slice, stay-none, stay-none-r
 use Rattle.refusals.specs.Outcome.{answered}
 use Rattle.segments.specs.Tables.{tables as tables-of}
 use Rattle.transcript.specs.Transcript.{Transcript}
-use Rattle.places.specs.Aligned.{alignedBy, Aligns, InSegment}
-use Rattle.places.specs.declared.Alignment.{Alignment}
-use Rattle.places.proofs.Alignment as Al
-use Rattle.places.proofs.Alignment.Laws as Al′
+use Rattle.spots.specs.Aligned.{alignedBy, Aligns, InSegment}
+use Rattle.spots.specs.declared.Alignment.{Alignment}
+use Rattle.spots.proofs.Alignment as Al
+use Rattle.spots.proofs.Alignment.Laws as Al′
 use Rattle.worklist.specs.laws.Shared.{Starts, Letters, Exons, placed, Owned, owned-twice}
 use Rattle.worklist.specs.declared.Slot.{Slot}
 use Rattle.worklist.specs.declared.Steps.{Steps}

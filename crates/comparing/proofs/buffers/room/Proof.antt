@@ -1,0 +1,16 @@
+-- The room has its length by the law of repeats; computing the list would cost by its length.
+use Prim.Native.Nat.{ℕ}
+use mathlib.Core.Path.{refl, sym}
+use lib.ListN.{length-replicate}
+use Rattle.comparing.specs.Sizes.{mostRoom}
+use Rattle.comparing.proofs.buffers.room.Statement.{statement}
+use Rattle.comparing.proofs.buffers.room.Tie as tie
+
+returns : tie.Need-returns
+returns c = (refl, sym (length-replicate {A = ℕ} mostRoom 0))
+
+pub room-spec : {M : Type 1} → statement M
+room-spec =
+    tie.close
+    (tie.spec
+    returns)

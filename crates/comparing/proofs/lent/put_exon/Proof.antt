@@ -1,0 +1,19 @@
+-- Where there is no such place, to set it changes nothing.
+use mathlib.Core.Path.{sym}
+use lib.Seq.{set-out}
+use borrow.Author.Needs.{needs}
+use Rattle.comparing.proofs.lent.put_exon.Statement.{statement}
+use Rattle.comparing.proofs.lent.put_exon.Tie as tie
+
+returns : tie.Need-returns
+returns c = sym (set-out _ _ _ (c .if1 .taken))
+
+pub put-exon-spec : {M : Type 1} → statement M
+put-exon-spec =
+    tie.close
+    (tie.spec
+    returns
+    (λ c. search needs)
+    (λ c. search needs)
+    (λ c. search needs)
+    (λ c. search needs))

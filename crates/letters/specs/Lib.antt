@@ -1,0 +1,3 @@
+-- What the contracts of `letters` cite.
+--     Letters    the common letters
+pub mod Letters

@@ -1,0 +1,3 @@
+-- The table of refusals, proved; specs/ says what it states.
+--     Refusals   which refusals there are
+pub mod Refusals

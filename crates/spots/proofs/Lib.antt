@@ -1,0 +1,3 @@
+-- What the proofs of several functions use.
+--     Sizes    how large places, their turns and g. numbers can be
+pub mod Sizes
