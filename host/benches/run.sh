@@ -8,6 +8,8 @@ cargo build --profile bench --quiet --package benches --package trials
 sed -n 's/^model name[[:space:]]*: //p' /proc/cpuinfo | head -n 1
 echo
 target/release/ratios --rounds "${1:-60}"
+printf '\nIn a shuffled order:\n\n'
+target/release/ratios --rounds "${1:-60}" --shuffled
 echo
 target/release/stack
 echo

@@ -14,7 +14,7 @@ use Rattle.coding.specs.laws.Once.{one-to-n, offset-stays}
 use Rattle.coding.specs.laws.Same.{same-says}
 use Rattle.lone.specs.Lone.{Lone, sure, unsure, other, loneN}
 use Rattle.spots.specs.declared.Alignment.{Alignment}
-use Rattle.telling.specs.Telling.{loneAt, loneC}
+use Rattle.surely.specs.Surely.{loneAt, loneC}
 
 -- there is something to tell
 abbrev pub Some : Lone → Type 0

@@ -5,18 +5,15 @@ use mathlib.Core.Bool.{Bool, true}
 use mathlib.Core.Path.{_≡_, refl, sym, ap, _∙_}
 use lib.IntN.{ℤ}
 use lib.ListN.{getD}
-use Rattle.refusals.specs.Outcome.{Outcome, answered, refused, andThen, through}
-use Rattle.refusals.specs.Numbers.{notCoding}
+use Rattle.refusals.specs.Outcome.{Outcome, answered, andThen}
 use Rattle.holding.specs.Holding.{Lent, checked}
 use Rattle.segments.specs.Places.{Spot}
 use Rattle.segments.specs.Paper.{Small}
 use Rattle.segments.specs.declared.Spot as spot
-use Rattle.transcript.specs.Transcript.{Transcript, noCds, cds}
+use Rattle.transcript.specs.Transcript.{Transcript}
 use Rattle.positions.specs.Positions.{Interval, GAsked, CAsked, GPosition, NPosition, asksN}
-use Rattle.positions.specs.Answers.{certain, Answer, once, ends, after, chain}
-use Rattle.positions.specs.laws.Ends.{ends-after}
-use Rattle.coding.specs.Coding.{cOfInterval, oneToC, nToC}
-use Rattle.coding.specs.laws.Once.{one-to-c}
+use Rattle.positions.specs.Answers.{Answer, chain}
+use Rattle.coding.specs.Coding.{nToC}
 use Rattle.spots.specs.Mapping.{gToN, nToG}
 use Rattle.spots.specs.Aligned.{alignedBy, Aligns}
 use Rattle.lone.specs.Lone.{Lone, sure, unsure, loneG, loneN, nOnce, gOnce, nBeside, gBeside, RoomyLone}
@@ -31,20 +28,8 @@ use Rattle.mapper.specs.laws.Lying.{lying-g-to-n, lying-g-to-c, lying-c-to-g}
 use Rattle.chaining.specs.laws.Plain.{plain-first}
 use Rattle.knowing.specs.declared.Coding.{Coding}
 use Rattle.knowing.specs.declared.Known.the-variants as known
-use Rattle.telling.specs.Telling.{loneC}
+use Rattle.surely.specs.Surely.{loneC}
 use Rattle.telling.proofs.Names.{Some, named}
-
--- an n. position that is both ends, numbered once in c.
-pub c-once : (strict : Bool) (len from to : ℕ) (exon : ℕ) (n : NPosition)
-    → chain asksN (once exon n) (nToC strict len (cds from to)) ≡ ends (certain (record { from = exon; to = exon })) (oneToC strict len from to (asksN n)) (oneToC strict len from to (asksN n))
-c-once strict len from to exon n =
-    let end = oneToC strict len from to (asksN n) in
-    ap (through (after (certain (record { from = exon; to = exon })))) (one-to-c strict len from to (asksN n)) ∙ ends-after true (record { from = exon; to = exon }) end end
-
--- 13 after the first step, where there is no CDS
-pub c-missing : (strict : Bool) (len exon : ℕ) (n : NPosition) → chain asksN (once exon n) (nToC strict len noCds) ≡ refused notCoding
-unfolding nToC cOfInterval
-c-missing strict len exon n = refl
 
 -- a spot that is told, though it is not sure, leaves room
 pub roomy : {count : ℕ} {z : code.Lone} (s : spot.Spot) → z ≡ code.the-variants.Unsure s → RoomyLone count z → Small 37 s × (s .number < count)

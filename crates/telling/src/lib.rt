@@ -4,22 +4,20 @@ ghost use mathlib.Core.Path.{_≡_};
 ghost use lib.ListN.{getD};
 ghost use Prim.Native.Nat.{_≤_, _<_};
 ghost use Rattle.refusals.specs.Numbers.{mostSegments};
-ghost use Rattle.whole.specs.Whole.{eqZ, Within};
+ghost use Rattle.whole.specs.Whole.{Within};
 ghost use Rattle.segments.specs.Tables.{tables};
-ghost use Rattle.segments.specs.Paper.{Small, spotSaid};
 ghost use Rattle.holding.specs.Holding.{lent, checked};
 ghost use Rattle.positions.specs.Positions.{asksN};
-ghost use Rattle.positions.specs.Answers.{certain, ends, chain};
-ghost use Rattle.positions.specs.Paper.{paperCQuestion, paperNEnd, paperC};
+ghost use Rattle.positions.specs.Answers.{chain};
+ghost use Rattle.positions.specs.Paper.{paperC};
 ghost use Rattle.coding.specs.Coding.{nToC};
 ghost use Rattle.spots.specs.Mapping.{gToN};
 ghost use Rattle.spots.specs.Aligned.{alignedBy, Aligns};
-ghost use Rattle.lone.specs.Lone.{nBeside, paperLone, RoomyLone};
+ghost use Rattle.lone.specs.Lone.{nBeside};
 ghost use Rattle.mapper.specs.Asking.{askGToN, askGToC, askCToG};
 ghost use Rattle.knowing.specs.Knowing.{paperCoding};
 ghost use Rattle.taking.specs.Taking.{gAsked, cAsked};
 ghost use Rattle.layout.specs.Layout.{gLaid, nLaid, cLaid, laid};
-ghost use Rattle.telling.specs.Telling.{sureN, sureC, sureG, loneC};
 use chaining::Given;
 use knowing::Coding;
 use knowing::Known;
@@ -28,56 +26,13 @@ use layout::lay::Answer;
 use lone::Lone;
 use numbering::Place;
 use positions::CAnswer;
-use positions::CQuestion;
-use positions::fitting::CEnd;
-use positions::fitting::GEnd;
-use positions::fitting::NEnd;
 use refusals::MISSING_END;
 use refusals::MOST_SEGMENTS;
 use refusals::MOST_STARTS;
 use refusals::NO_GENOME;
-use refusals::NOT_CODING;
 use refusals::NOT_TOGETHER;
-use segments::Spot;
 use spots::Alignment;
 use transcript::Head;
-
-// Whether an interval is one base.
-fn is_base(from: i32, to: i32) -> bool
-    ensures { λ r. ⌜ r ≡ eqZ from to ⌝ }
-{
-    from == to
-}
-
-// An n. position, or why there is none, as the answer of a base with this exon.
-fn laid_n(exon: u16, end: NEnd) -> Answer
-    ensures { λ r. ⌜ r ≡ laid nLaid (ends (certain (record { from = exon; to = exon })) (paperNEnd end) (paperNEnd end)) ⌝ }
-{
-    match end {
-        NEnd::At(n) => lay::lay_one_n(exon, n),
-        NEnd::Refused(k) => lay::refusal_of(k),
-    }
-}
-
-// The n. answer of a sure base, by its spot. The strands part here, so that nothing is turned on strand 1.
-fn sure_n(
-    at: Alignment,
-    transcript: &[u32; MOST_STARTS],
-    exons: &[u16; MOST_SEGMENTS],
-    spot: Spot,
-) -> Answer
-    requires { ⌜ (at .count ≤ mostSegments) × Small 37 spot × (spot .number < at .count) ⌝ }
-    ensures { λ r. ⌜ r ≡ sureN at (now (transcript .entry)) (now (exons .entry)) (spotSaid spot) ⌝ }
-{
-    let count = at.count;
-    let exon = spots::found_exon(at, exons, spot);
-    let len = spots::last(transcript, count);
-    if at.forward {
-        return laid_n(exon, spots::n_of_spot(true, len, spot));
-    }
-    laid_n(exon, spots::n_of_spot(false, len, spot))
-}
-
 // g. to n.: 23, 18, 19, 14, 17.
 pub fn g_to_n(
     head: Head,
@@ -95,10 +50,10 @@ pub fn g_to_n(
     match knowing::known_of(head, genome, transcript, letters, exons) {
         Known::Aligned(at, _) => match chaining::both_ends(taking::g_asked(start, end, missing)) {
             Given::Ends(from, to) => {
-                if is_base(from, to) {
+                if surely::is_base(from, to) {
                     let lone = lone::lone_g(at, genome, transcript, letters, from, strict);
                     if let Lone::Sure(spot) = lone {
-                        return sure_n(at, transcript, exons, spot);
+                        return surely::sure_n(at, transcript, exons, spot);
                     }
                     if let Lone::Unsure(spot) = lone {
                         return lay::lay_n(lone::beside_n(
@@ -125,33 +80,6 @@ pub fn g_to_n(
         },
         Known::OfLength(_, _) => lay::refusal_of(NO_GENOME),
         Known::Broken => lay::refusal_of(NOT_TOGETHER),
-    }
-}
-
-// The c. answer of a sure base, by its spot.
-fn sure_c(
-    at: Alignment,
-    transcript: &[u32; MOST_STARTS],
-    exons: &[u16; MOST_SEGMENTS],
-    cds: Coding,
-    spot: Spot,
-    strict: bool,
-) -> Answer
-    requires { ⌜ (at .count ≤ mostSegments) × Small 37 spot × (spot .number < at .count) ⌝ }
-    ensures { λ r. ⌜ r ≡ sureC strict at (now (transcript .entry)) (now (exons .entry)) (paperCoding cds) (spotSaid spot) ⌝ }
-{
-    let count = at.count;
-    let exon = spots::found_exon(at, exons, spot);
-    let len = spots::last(transcript, count);
-    match spots::n_of_spot(at.forward, len, spot) {
-        NEnd::At(n) => match cds {
-            Coding::Cds(s, e) => match coding::one_to_c(strict, len, s, e, n) {
-                CEnd::At(c) => lay::lay_one_c(exon, c),
-                CEnd::Refused(k) => lay::refusal_of(k),
-            },
-            Coding::Missing => lay::refusal_of(NOT_CODING),
-        },
-        NEnd::Refused(k) => lay::refusal_of(k),
     }
 }
 
@@ -212,10 +140,10 @@ pub fn g_to_c(
     match knowing::known_of(head, genome, transcript, letters, exons) {
         Known::Aligned(at, cds) => match chaining::both_ends(taking::g_asked(start, end, missing)) {
             Given::Ends(from, to) => {
-                if is_base(from, to) {
+                if surely::is_base(from, to) {
                     let lone = lone::lone_g(at, genome, transcript, letters, from, strict);
                     if let Lone::Sure(spot) = lone {
-                        return sure_c(at, transcript, exons, cds, spot, strict);
+                        return surely::sure_c(at, transcript, exons, cds, spot, strict);
                     }
                     if let Lone::Unsure(spot) = lone {
                         return lay::lay_c(beside_c(
@@ -248,44 +176,6 @@ pub fn g_to_c(
     }
 }
 
-// A lone base by its c. position, where the transcript has a CDS and both ends are that position.
-fn lone_c(
-    at: Alignment,
-    genome: &[u32; MOST_STARTS],
-    transcript: &[u32; MOST_STARTS],
-    letters: &[u8; MOST_SEGMENTS],
-    cds: Coding,
-    c: CQuestion,
-    strict: bool,
-) -> Lone
-    requires { ⌜ Aligns at (tables (now genome) (now transcript) (now letters)) ⌝ }
-    ensures said { λ r. ⌜ paperLone r ≡ loneC strict at (tables (now (genome .entry)) (now (transcript .entry)) (now (letters .entry))) (paperCoding cds) (paperCQuestion c) ⌝ }
-    ensures roomy { λ r. ⌜ RoomyLone (at .count) r ⌝ }
-{
-    if let Coding::Cds(s, e) = cds {
-        if coding::is_same(c.from, c.to) {
-            let count = at.count;
-            let len = spots::last(transcript, count);
-            if let NEnd::At(n) = coding::n_position(strict, len, s, e, c.from) {
-                return lone::lone_n(at, genome, transcript, letters, n.base, strict);
-            }
-        }
-    }
-    Lone::Other
-}
-
-// The g. answer of a sure base, by its spot, with its number's own offset.
-fn sure_g(at: Alignment, exons: &[u16; MOST_SEGMENTS], spot: Spot, offset: i32) -> Answer
-    requires { ⌜ (at .count ≤ mostSegments) × Small 37 spot × (spot .number < at .count) ⌝ }
-    ensures { λ r. ⌜ r ≡ sureG at (now (exons .entry)) (spotSaid spot) offset ⌝ }
-{
-    let exon = spots::chosen_exon(at, exons, spot);
-    match spots::g_of_place(at.forward, at.first, spot.place, offset) {
-        GEnd::At(g) => lay::lay_one_g(exon, g),
-        GEnd::Refused(k) => lay::refusal_of(k),
-    }
-}
-
 // c. to g.: c. to n. wholly, then n. to g.
 pub fn c_to_g(
     head: Head,
@@ -306,9 +196,9 @@ pub fn c_to_g(
     let asked = taking::c_asked(start, start_offset, start_star, end, end_offset, end_star);
     match knowing::known_of(head, genome, transcript, letters, exons) {
         Known::Aligned(at, cds) => {
-            let lone = lone_c(at, genome, transcript, letters, cds, asked, strict);
+            let lone = surely::lone_c(at, genome, transcript, letters, cds, asked, strict);
             if let Lone::Sure(spot) = lone {
-                return sure_g(at, exons, spot, start_offset);
+                return surely::sure_g(at, exons, spot, start_offset);
             }
             if let Lone::Unsure(spot) = lone {
                 return lay::lay_g(lone::beside_g(

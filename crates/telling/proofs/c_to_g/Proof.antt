@@ -13,7 +13,7 @@ use Rattle.knowing.specs.Knowing.{knownOf, paperCoding}
 use Rattle.knowing.specs.declared.Known.the-variants as known
 use Rattle.knowing.specs.laws.Known.{known-lies, natural-bounds, ask-length, ask-broken}
 use Rattle.mapper.specs.laws.Lying.{lying-c-to-g}
-use Rattle.telling.specs.Telling.{loneC}
+use Rattle.surely.specs.Surely.{loneC}
 use Rattle.telling.proofs.Ways.{one-name, name-beside, roomy}
 use borrow.Author.Needs.{needs}
 use Rattle.telling.proofs.c_to_g.Statement.{statement}

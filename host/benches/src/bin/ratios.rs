@@ -24,6 +24,20 @@ struct Options {
     /// How many rounds each side has
     #[arg(long, default_value_t = 40)]
     rounds: usize,
+    /// Time the questions alone, asked in an order that no processor can learn
+    #[arg(long)]
+    shuffled: bool,
+}
+
+/// Shuffles, in the same way at each call.
+fn shuffle<T>(items: &mut [T]) {
+    let mut bits = 0x9e37_79b9_7f4a_7c15_u64;
+    for last in (1..items.len()).rev() {
+        bits ^= bits << 13;
+        bits ^= bits >> 7;
+        bits ^= bits << 17;
+        items.swap(last, (bits % (last as u64 + 1)) as usize);
+    }
 }
 
 /// The best time of some rounds in which the contestants take turns, in nanoseconds for one of `times` calls.
@@ -39,12 +53,19 @@ fn best<const N: usize>(rounds: usize, times: usize, contestants: [&dyn Fn(); N]
     best.map(|time| time.as_nanos() as f64 / times as f64)
 }
 
-fn questions(rounds: usize, letters: Letters) {
+fn questions(rounds: usize, letters: Letters, shuffled: bool) {
     println!("| segments | strand | question | crate, ns | port, ns | port / crate | of it check 23, ns | finding and the rest, ns |");
     println!("|---|---|---|---|---|---|---|---|");
     for segments in SIZES {
         for strand in [1, -1] {
-            let Bench { asking, mapper, c_to_g, crate_g, crate_c, .. } = Bench::new(letters, segments, strand);
+            let Bench { mut asking, mapper, mut c_to_g, mut crate_g, mut crate_c, .. } =
+                Bench::new(letters, segments, strand);
+            if shuffled {
+                shuffle(&mut asking.g);
+                shuffle(&mut c_to_g);
+                shuffle(&mut crate_g);
+                shuffle(&mut crate_c);
+            }
             let of = black_box(&asking.lent).reading();
             let check = || {
                 for _ in 0..POSITIONS {
@@ -237,9 +258,12 @@ fn main() -> ExitCode {
         eprintln!("ratios: the crate has overflow checks; build with --profile bench");
         return ExitCode::FAILURE;
     }
-    questions(options.rounds, Letters::Matches);
+    questions(options.rounds, Letters::Matches, options.shuffled);
     println!("\nWith an insertion or a deletion in each exon:\n");
-    questions(options.rounds, Letters::Mixed);
+    questions(options.rounds, Letters::Mixed, options.shuffled);
+    if options.shuffled {
+        return ExitCode::SUCCESS;
+    }
     println!("\n30,000 sorted positions:\n");
     worklists(options.rounds, Letters::Matches);
     println!("\nWith an insertion or a deletion in each exon:\n");

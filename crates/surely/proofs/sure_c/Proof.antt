@@ -1,4 +1,4 @@
--- `telling::sure_c` meets its contract: the spot's n. position, or 17, is numbered once in c., or refused, and stands at both ends with the one exon's number. Assumes nothing.
+-- `surely::sure_c` meets its contract: the spot's n. position, or 17, is numbered once in c., or refused, and stands at both ends with the one exon's number. Assumes nothing.
 use mathlib.Core.Path.{_≡_, sym, ap, _∙_}
 use Rattle.segments.specs.Paper.{spotSaid}
 use Rattle.segments.specs.laws.Sizes.{wider}
@@ -8,11 +8,11 @@ use Rattle.positions.specs.Paper.{paperNPosition, paperCEnd}
 use Rattle.coding.specs.Coding.{nToC}
 use Rattle.layout.specs.Layout.{cLaid, laid}
 use Rattle.knowing.specs.Knowing.{paperCoding}
-use Rattle.telling.specs.Telling.{sureC}
-use Rattle.telling.proofs.Ways.{c-once, c-missing}
+use Rattle.surely.specs.Surely.{sureC}
+use Rattle.surely.proofs.Once.{c-once, c-missing}
 use borrow.Author.Needs.{needs}
-use Rattle.telling.proofs.sure_c.Statement.{statement}
-use Rattle.telling.proofs.sure_c.Tie as tie
+use Rattle.surely.proofs.sure_c.Statement.{statement}
+use Rattle.surely.proofs.sure_c.Tie as tie
 
 -- the n. position is there
 placed : (p : tie.After-n) →

@@ -1,10 +1,10 @@
--- `telling::lone_c` meets its contract: where there is a CDS and both ends are one position, `n_position` gives its n. position, and `lone_n` what that is by itself. Assumes nothing.
+-- `surely::lone_c` meets its contract: where there is a CDS and both ends are one position, `n_position` gives its n. position, and `lone_n` what that is by itself. Assumes nothing.
 use mathlib.Core.Path.{sym, _∙_}
 use mir.Syntax.{w32}
 use Rattle.whole.specs.laws.Whole.{told}
 use borrow.Author.Needs.{needs}
-use Rattle.telling.proofs.lone_c.Statement.{statement}
-use Rattle.telling.proofs.lone_c.Tie as tie
+use Rattle.surely.proofs.lone_c.Statement.{statement}
+use Rattle.surely.proofs.lone_c.Tie as tie
 
 returns : tie.Need-returns
 returns c =

@@ -1,8 +1,8 @@
--- `telling::sure_g` meets its contract: the spot's place as a g. position, or 17, stands at both ends with the one exon's number. Assumes nothing.
+-- `surely::sure_g` meets its contract: the spot's place as a g. position, or 17, stands at both ends with the one exon's number. Assumes nothing.
 use Rattle.whole.specs.laws.Whole.{read}
 use borrow.Author.Needs.{needs}
-use Rattle.telling.proofs.sure_g.Statement.{statement}
-use Rattle.telling.proofs.sure_g.Tie as tie
+use Rattle.surely.proofs.sure_g.Statement.{statement}
+use Rattle.surely.proofs.sure_g.Tie as tie
 
 returns : tie.Need-returns
 returns c =

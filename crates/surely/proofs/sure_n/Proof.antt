@@ -1,8 +1,8 @@
--- `telling::sure_n` meets its contract: the spot's n. position, or 17, stands at both ends with the one exon's number, whichever the strand. Assumes nothing.
+-- `surely::sure_n` meets its contract: the spot's n. position, or 17, stands at both ends with the one exon's number, whichever the strand. Assumes nothing.
 use Rattle.segments.specs.laws.Sizes.{wider}
 use borrow.Author.Needs.{needs}
-use Rattle.telling.proofs.sure_n.Statement.{statement}
-use Rattle.telling.proofs.sure_n.Tie as tie
+use Rattle.surely.proofs.sure_n.Statement.{statement}
+use Rattle.surely.proofs.sure_n.Tie as tie
 
 returns : tie.Need-returns
 returns c =

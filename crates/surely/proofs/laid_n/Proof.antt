@@ -1,7 +1,7 @@
--- `telling::laid_n` meets its contract: an arm knows which end it was handed, and its callee says what it laid. Assumes nothing.
+-- `surely::laid_n` meets its contract: an arm knows which end it was handed, and its callee says what it laid. Assumes nothing.
 use borrow.Author.Needs.{needs}
-use Rattle.telling.proofs.laid_n.Statement.{statement}
-use Rattle.telling.proofs.laid_n.Tie as tie
+use Rattle.surely.proofs.laid_n.Statement.{statement}
+use Rattle.surely.proofs.laid_n.Tie as tie
 
 returns : tie.Need-returns
 returns c = simp (c .before .before .end .given .1, c .lay-one-n .ensures)

@@ -1,0 +1,3 @@
+-- What the proofs of several functions use.
+--     Once    what one n. position is in c.
+pub mod Once
