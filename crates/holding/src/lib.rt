@@ -6,7 +6,7 @@ ghost use lib.IntN.{pos, natAbs};
 ghost use lib.Signed.{leZ};
 ghost use Rattle.refusals.specs.Numbers.{mostSegments};
 ghost use Rattle.segments.specs.Tables.{tables};
-ghost use Rattle.holding.specs.Holding.{segmentsIn, recordsIn, isForward, headHolds, cdsHolds, totalsHold, lent, holds};
+ghost use Rattle.holding.specs.Holding.{segmentsIn, recordsIn, isForward, headHolds, cdsHolds, totalsHold};
 ghost use Rattle.holding.specs.Parts.{basesOf, tablesHold};
 use refusals::MOST_BASES;
 use refusals::MOST_RECORDS;
@@ -27,7 +27,7 @@ pub fn natural(x: i32) -> u32
 }
 
 // Whether neither CDS bound is given, or both are and 0 <= start <= end <= length.
-fn cds_holds(head: Head, length: u32) -> bool
+pub fn cds_holds(head: Head, length: u32) -> bool
     ensures { λ r. ⌜ r ≡ cdsHolds head length ⌝ }
 {
     let bits = head.bits;
@@ -98,13 +98,13 @@ fn totals_hold(first: u32, genome: u32, transcript: u32) -> bool
 }
 
 // How many bases a transcript has, which is known only where the head's own tests pass.
-enum Bases {
+pub enum Bases {
     Known(u32),
     Unknown,
 }
 
 // Of records it has as many as the transcript's table says, of a length as many as that.
-fn bases_of(head: Head, transcript: &[u32; MOST_STARTS]) -> Bases
+pub fn bases_of(head: Head, transcript: &[u32; MOST_STARTS]) -> Bases
     ensures { λ r. ⌜ r ≡ basesOf head (now (transcript .entry)) ⌝ }
 {
     let kind = head.kind;
@@ -130,7 +130,7 @@ fn bases_of(head: Head, transcript: &[u32; MOST_STARTS]) -> Bases
 
 // Whether the tables of a right head hold. The segments are looked at before the totals: an entry that is at hand before that is woven into it at a cost. Counts stand
 // before the tables, as the compiler then hands the host's own pointers on without moving them.
-fn tables_hold(
+pub fn tables_hold(
     count: usize,
     records: u16,
     genome: &[u32; MOST_STARTS],
@@ -149,39 +149,4 @@ fn tables_hold(
         }
     }
     false
-}
-
-// Whether a transcript of either kind holds together. Both kinds are judged here, so that a question has one call of one function. What the head says, also of the CDS, is looked at first:
-// the tables are one last call.
-pub fn check(
-    head: Head,
-    genome: &[u32; MOST_STARTS],
-    transcript: &[u32; MOST_STARTS],
-    letters: &[u8; MOST_SEGMENTS],
-    exons: &[u16; MOST_SEGMENTS],
-) -> bool
-    ensures { λ r. ⌜ r ≡ holds (lent head (now (genome .entry)) (now (transcript .entry)) (now (letters .entry)) (now (exons .entry))) ⌝ }
-{
-    match bases_of(head, transcript) {
-        Bases::Known(bases) => {
-            if cds_holds(head, bases) {
-                let kind = head.kind;
-                if kind == OF_RECORDS {
-                    return tables_hold(
-                        segment_count(head),
-                        record_count(head),
-                        genome,
-                        transcript,
-                        letters,
-                        exons,
-                        is_forward(head),
-                        first_start(head),
-                    );
-                }
-                return true;
-            }
-            false
-        }
-        Bases::Unknown => false,
-    }
 }

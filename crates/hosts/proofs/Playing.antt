@@ -17,9 +17,9 @@ use Rattle.holding.specs.Holding.{Lent, holds}
 use Rattle.taking.specs.declared.question.Question.{Question}
 use Rattle.log.specs.Logs.{readLog}
 use Rattle.entries.specs.declared.Entry.{Entry}
-use Rattle.asking.specs.Asking.{asked, recorded}
+use Rattle.asking.specs.Asking.{recorded}
 use Rattle.asking.specs.laws.Making.{made-is}
-use Rattle.playback.specs.Replay.{differs, differing, replayText, roomed, replaying}
+use Rattle.playback.specs.Replay.{differs, differing, replayText, roomed}
 use Rattle.playback.specs.laws.Replay.{AllRecorded, no-entry, one-more, differs-not, differs-says, listed-where, indices-rise, nothing-written, replay-broken, replay-answered, replay-refused}
 use Rattle.hosts.specs.Playing.{zeroLine, Own-log-0, Lists, Lists-differing}
 

@@ -1,8 +1,13 @@
 // What a host lends, known once: how it lies on the genome, its length alone, or that it does not hold together (23).
 ghost use mathlib.Core.Path.{_≡_};
 ghost use mathlib.Core.Bool.{true};
-ghost use Rattle.holding.specs.Holding.{headHolds, lent};
-ghost use Rattle.knowing.specs.Knowing.{NaturalBounds, alignmentOf, codingIn, knownOf};
+ghost use Prim.Native.Nat.{_≤_};
+ghost use Rattle.refusals.specs.Numbers.{mostSegments};
+ghost use Rattle.segments.specs.Tables.{tables};
+ghost use Rattle.holding.specs.Holding.{headHolds, lent, holds};
+ghost use Rattle.holding.specs.Parts.{tablesHold};
+ghost use Rattle.knowing.specs.Knowing.{NaturalBounds, alignmentOf, codingIn, toldOf, knownOf};
+use holding::Bases;
 use refusals::MOST_SEGMENTS;
 use refusals::MOST_STARTS;
 use spots::Alignment;
@@ -55,6 +60,49 @@ pub fn coding_of(head: Head) -> Coding
     }
 }
 
+// What the head tells of what is lent, before the tables are looked at: how a transcript lies if they hold, its length alone, or that it does not hold together whatever they are.
+pub fn told_of(head: Head, transcript: &[u32; MOST_STARTS]) -> Known
+    ensures { λ r. ⌜ r ≡ toldOf head (now (transcript .entry)) ⌝ }
+{
+    match holding::bases_of(head, transcript) {
+        Bases::Known(bases) => {
+            if holding::cds_holds(head, bases) {
+                let cds = coding_of(head);
+                let kind = head.kind;
+                if kind == OF_RECORDS {
+                    return Known::Aligned(alignment(head), cds);
+                }
+                return Known::OfLength(holding::natural(head.length), cds);
+            }
+            Known::Broken
+        }
+        Bases::Unknown => Known::Broken,
+    }
+}
+
+// Whether the tables of a transcript that lies so hold, which is all that is left to ask once the head has told.
+pub fn tables_hold(
+    at: Alignment,
+    genome: &[u32; MOST_STARTS],
+    transcript: &[u32; MOST_STARTS],
+    letters: &[u8; MOST_SEGMENTS],
+    exons: &[u16; MOST_SEGMENTS],
+) -> bool
+    requires { ⌜ (1 ≤ at .count) × (at .count ≤ mostSegments) ⌝ }
+    ensures { λ r. ⌜ r ≡ tablesHold (at .forward) (at .records) (at .first) (tables (now (genome .entry)) (now (transcript .entry)) (now (letters .entry))) (now (exons .entry)) (at .count) ⌝ }
+{
+    holding::tables_hold(
+        at.count,
+        at.records,
+        genome,
+        transcript,
+        letters,
+        exons,
+        at.forward,
+        at.first,
+    )
+}
+
 // What is lent, known once.
 pub fn known_of(
     head: Head,
@@ -65,13 +113,31 @@ pub fn known_of(
 ) -> Known
     ensures { λ r. ⌜ r ≡ knownOf (lent head (now (genome .entry)) (now (transcript .entry)) (now (letters .entry)) (now (exons .entry))) ⌝ }
 {
-    if holding::check(head, genome, transcript, letters, exons) {
-        let cds = coding_of(head);
-        let kind = head.kind;
-        if kind == OF_RECORDS {
-            return Known::Aligned(alignment(head), cds);
+    match told_of(head, transcript) {
+        Known::Aligned(at, cds) => {
+            if tables_hold(at, genome, transcript, letters, exons) {
+                return Known::Aligned(at, cds);
+            }
+            Known::Broken
         }
-        return Known::OfLength(holding::natural(head.length), cds);
+        Known::OfLength(length, cds) => Known::OfLength(length, cds),
+        Known::Broken => Known::Broken,
     }
-    Known::Broken
+}
+
+// Whether it holds together.
+pub fn is_held(
+    head: Head,
+    genome: &[u32; MOST_STARTS],
+    transcript: &[u32; MOST_STARTS],
+    letters: &[u8; MOST_SEGMENTS],
+    exons: &[u16; MOST_SEGMENTS],
+) -> bool
+    ensures { λ r. ⌜ r ≡ holds (lent head (now (genome .entry)) (now (transcript .entry)) (now (letters .entry)) (now (exons .entry))) ⌝ }
+{
+    match known_of(head, genome, transcript, letters, exons) {
+        Known::Aligned(_, _) => true,
+        Known::OfLength(_, _) => true,
+        Known::Broken => false,
+    }
 }

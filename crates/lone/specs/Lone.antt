@@ -1,45 +1,19 @@
--- A base by itself, start and end of its interval alike: where it lies inside, both its ends are answered by its spot. Assumes nothing.
-use Prim.Native.Nat.{ℕ, _<_}
-use mathlib.Core.Bool.{Bool}
+-- A base by itself, start and end of its interval alike: where it lies inside, both its ends are answered by its spot. And what is known of one that is sought before its tables were looked at. Assumes nothing.
+use Prim.Native.Nat.{ℕ}
+use mathlib.Core.Bool.{true}
 use mathlib.Core.List.{List}
+use mathlib.Core.Path.{_≡_}
 use lib.IntN.{ℤ}
 use lib.ListN.{getD}
-use Rattle.whole.specs.Whole.{if_then_else_}
-use Rattle.numbering.specs.Numbers.{placeOfN}
-use Rattle.segments.specs.Tables.{Tables}
+use Rattle.whole.specs.Whole.{Within}
 use Rattle.segments.specs.Places.{Spot, unsurely, stopOf}
-use Rattle.segments.specs.Places.End.{start}
-use Rattle.segments.specs.Paper.{Small, spotSaid, toTranscript, toGenome}
 use Rattle.segments.specs.Exons.{exonFound, exonChosen}
 use Rattle.positions.specs.Positions.{GPosition, NPosition}
 use Rattle.positions.specs.Answers.{Answer, certain, ends}
-use Rattle.spots.specs.Mapping.{inside, turned, placeOfG}
-use Rattle.spots.specs.Aligned.{numberBy, nEndAt, nJoined, gEndAt, gJoined}
+use Rattle.spots.specs.Mapping.{inside}
+use Rattle.spots.specs.Aligned.{numberBy, Numbers, nEndAt, nJoined, gEndAt, gJoined}
 use Rattle.spots.specs.declared.Alignment.{Alignment}
-use Rattle.lone.specs.declared.Lone as code
-
--- its spot, which is sure or not, or the word that there is none
-pub data Lone : Type 0 where
-  sure : Spot → Lone
-  unsure : Spot → Lone
-  other : Lone
-
--- of a place by its spot, where it lies inside
-abbrev pub loneIf : Bool → Spot → Lone
-loneIf within s = if within then (if s .sure then sure s else unsure s) else other
-
--- of a g. number
-unfoldable pub loneG : Bool → Alignment → Tables → ℤ → Lone
-loneG strict a x g =
-    let p = placeOfG (a .first) g in
-    loneIf (inside strict (getD (x .genome) (a .count) 0) p) (toTranscript x (a .count) p start (a .forward))
-
--- of an n. number, whose place is turned
-unfoldable pub loneN : Bool → Alignment → Tables → ℤ → Lone
-loneN strict a x n =
-    let len = getD (x .transcript) (a .count) 0 in
-    let p = turned (a .forward) len (placeOfN n) in
-    loneIf (inside strict len p) (toGenome x (a .count) p start)
+use Rattle.lone.specs.declared.Sought as code
 
 -- ---- what a sure one is answered with: its one spot's position at both ends, with one exon, certain, or 17
 
@@ -71,15 +45,15 @@ gBeside a exons p number o =
     let exon = exonChosen (a .forward) (numberBy a exons) s in
     gJoined (a .forward) (a .first) (record { from = exon; to = exon }) s (stopOf s) o o
 
--- ---- as the code has it
+-- ---- a base that is sought before its tables were looked at, as the code has it
 
-abbrev pub paperLone : code.Lone → Lone
-paperLone (code.the-variants.Sure s) = sure (spotSaid s)
-paperLone (code.the-variants.Unsure s) = unsure (spotSaid s)
-paperLone code.the-variants.Other = other
+-- the place p lies inside, and this is the number of its segment if the starts rise
+pub record Seen (starts : List ℕ) (n : ℕ) (p : ℤ) (number : ℕ) : Type 0 where
+  pub small : Within 36 p
+  pub within : inside true (getD starts n 0) p ≡ true
+  pub numbers : Numbers starts n p number
 
--- a spot that is told leaves room for a few sums, and its segment is one of so many
-abbrev pub RoomyLone : ℕ → code.Lone → Type 0
-RoomyLone count (code.the-variants.Sure s) = Small 37 s × (s .number < count)
-RoomyLone count (code.the-variants.Unsure s) = Small 37 s × (s .number < count)
-RoomyLone count code.the-variants.Other = Unit
+-- it is this place, where it was seen
+abbrev pub SoughtAt : List ℕ → ℕ → ℤ → code.Sought → Type 0
+SoughtAt starts n p (code.the-variants.Inside q number) = (q .0 ≡ p) × Seen starts n (q .0) number
+SoughtAt starts n p code.the-variants.Other = Unit

@@ -12,7 +12,7 @@ ghost use Rattle.positions.specs.Answers.{gFits, fitting};
 ghost use Rattle.positions.specs.Paper.{paperG, paperN};
 ghost use Rattle.spots.specs.Mapping.{gToN, gOfEnds};
 ghost use Rattle.spots.specs.Aligned.{alignedBy, numberBy, Aligns, InSegment, nJoined, gJoined};
-ghost use Rattle.lone.specs.Lone.{loneG, loneN, nBeside, gBeside, paperLone, RoomyLone};
+ghost use Rattle.lone.specs.Lone.{nBeside, gBeside, SoughtAt};
 use numbering::Place;
 use positions::Exons;
 use positions::GAnswer;
@@ -26,62 +26,24 @@ use segments::Spot;
 use segments::exons;
 use spots::Alignment;
 
-// A base by itself that lies inside, by its spot, which is sure or not. What it is answered with follows from that, so that a host's question about one base needs no more; any other goes the long way.
-pub enum Lone {
-    Sure(Spot),
-    Unsure(Spot),
+// A base by itself, sought before its tables were looked at: its place, which lies inside, and the number of the segment that it lies in if they hold. What it is answered with follows from that; any other question goes the long way.
+pub enum Sought {
+    Inside(Place, usize),
     Other,
 }
 
-// A lone base by its g. number.
-pub fn lone_g(
-    at: Alignment,
-    genome: &[u32; MOST_STARTS],
-    transcript: &[u32; MOST_STARTS],
-    letters: &[u8; MOST_SEGMENTS],
-    g: i32,
-    strict: bool,
-) -> Lone
-    requires { ⌜ Aligns at (tables (now genome) (now transcript) (now letters)) ⌝ }
-    ensures said { λ r. ⌜ paperLone r ≡ loneG strict at (tables (now (genome .entry)) (now (transcript .entry)) (now (letters .entry))) g ⌝ }
-    ensures roomy { λ r. ⌜ RoomyLone (at .count) r ⌝ }
+// A place of the first count segments of a table of starts, sought.
+pub fn seek(starts: &[u32; MOST_STARTS], count: usize, p: Place) -> Sought
+    requires { ⌜ (1 ≤ count) × (count ≤ mostSegments) × Within 36 (p .0) ⌝ }
+    ensures { λ r. ⌜ SoughtAt (now (starts .entry)) count (p .0) r ⌝ }
 {
-    let count = at.count;
-    let p = spots::place_of_g(at.first, g);
-    if spots::is_inside(strict, spots::last(genome, count), p) {
-        let spot = spots::spot_of_g(at, genome, transcript, letters, p, End::Start);
-        if spot.sure {
-            return Lone::Sure(spot);
-        }
-        return Lone::Unsure(spot);
+    let len = spots::last(starts, count);
+    if spots::is_inside(true, len, p) {
+        let z = p.0;
+        let number = finding::find_natural(starts, count, finding::natural(z, len));
+        return Sought::Inside(p, number);
     }
-    Lone::Other
-}
-
-// A lone base by its n. number.
-pub fn lone_n(
-    at: Alignment,
-    genome: &[u32; MOST_STARTS],
-    transcript: &[u32; MOST_STARTS],
-    letters: &[u8; MOST_SEGMENTS],
-    base: i32,
-    strict: bool,
-) -> Lone
-    requires { ⌜ Aligns at (tables (now genome) (now transcript) (now letters)) ⌝ }
-    ensures said { λ r. ⌜ paperLone r ≡ loneN strict at (tables (now (genome .entry)) (now (transcript .entry)) (now (letters .entry))) base ⌝ }
-    ensures roomy { λ r. ⌜ RoomyLone (at .count) r ⌝ }
-{
-    let count = at.count;
-    let len = spots::last(transcript, count);
-    let place = spots::place_of_n(at.forward, len, base);
-    if spots::is_inside(strict, len, place) {
-        let spot = spots::spot_of_n(at, genome, transcript, letters, place, End::Start);
-        if spot.sure {
-            return Lone::Sure(spot);
-        }
-        return Lone::Unsure(spot);
-    }
-    Lone::Other
+    Sought::Other
 }
 
 // The n. interval of one place, by its spot as an interval's start, whose exon has this number, as the end's has: a sure one is numbered once.

@@ -28,7 +28,7 @@ pub fn replay<'a>(
     ensures { λ r. ⌜ r ≡ writtenAnswer (replaying (lent head (now (genome .entry)) (now (transcript .entry)) (now (letters .entry)) (now (exons .entry))) (now (log .entry)) (length (now (buffer .entry)))) ⌝ }
     ensures { λ _. ⌜ now (buffer .exit) ≡ bufferAfter (now (buffer .entry)) (replaying (lent head (now (genome .entry)) (now (transcript .entry)) (now (letters .entry)) (now (exons .entry))) (now (log .entry)) (length (now (buffer .entry)))) ⌝ }
 {
-    if holding::check(head, genome, transcript, letters, exons) {
+    if knowing::is_held(head, genome, transcript, letters, exons) {
         match log::read_log(log) {
             ReadLog::Entries(count) => {
                 differing::list(head, genome, transcript, letters, exons, log, count, buffer)

@@ -12,7 +12,7 @@ use Rattle.spelling.specs.Write.{writtenAnswer}
 use Rattle.spelling.specs.declared.Written.the-variants as written
 use Rattle.segments.specs.Tables.{Tables, tables}
 use Rattle.transcript.specs.declared.Head.{Head}
-use Rattle.holding.specs.Holding.{Lent, lent}
+use Rattle.holding.specs.Holding.{lent}
 use Rattle.judging.specs.Judging.{Made}
 use Rattle.building.specs.Afterwards.{headOf, tablesAfter, exonsAfter}
 use Rattle.building.specs.laws.Standing.{beside, Makes}

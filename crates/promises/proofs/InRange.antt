@@ -17,10 +17,10 @@ pub record InRange (t : Transcript) : Type 0 where
   pub cds-inside : CdsInside (t .coding) (transcriptLength t)
 
 -- the CDS of a head
-head-inside : (h : Head) (len : ℕ) → CdsRight h len → len ≤ mostBases → CdsInside (headCds h) len
-head-inside h len right small =
+head-inside : (h : Head) (len : ℕ) → CdsRight h len → CdsInside (headCds h) len
+head-inside h len right =
     by-test (bothGiven h)
-    (λ given. let b = cds-bounds h len right given small in rw given (b .ordered, b .within))
+    (λ given. let b = cds-bounds h len right given in rw given (b .ordered, b .within))
     (λ given. rw given tt)
 
 -- of either kind
@@ -36,11 +36,11 @@ held-source x held =
     rw (source-of-records x r) (record {
       transcript-small = rw (transcript-length x w) (w .transcript-within);
       genome-small = rw (genome-length x w) (w .genome-within);
-      cds-inside = rw (transcript-length x w) (head-inside (x .head) _ (w .cds) (w .transcript-within));
+      cds-inside = rw (transcript-length x w) (head-inside (x .head) _ (w .cds));
     }))
     (λ r.
     let l = length-right x held r in
-    rw (source-of-length x r) (l .length .below, head-inside (x .head) _ (l .cds) (l .length .below)))
+    rw (source-of-length x r) (l .length .below, head-inside (x .head) _ (l .cds)))
 
 pub held-in-range : (x : Lent) (t : Transcript) → holds x ≡ true → sourceOf x ≡ aligned t → InRange t
 held-in-range x t held stands = subst SourceInRange stands (held-source x held)

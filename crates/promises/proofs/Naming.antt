@@ -1,5 +1,5 @@
 -- A base that both ends of an interval carry to one place and offset, and whose place comes back to the exon base that the offset counts from, has a name and comes back from it. Assumes nothing.
-use Prim.Native.Nat.{ℕ, _+_, _-_, _≤_, _<_}
+use Prim.Native.Nat.{ℕ, _+_, _≤_, _<_}
 use native.Mathlib.Omega.{arith}
 use mathlib.Core.Bool.{Bool, true, false}
 use mathlib.Core.Path.{_≡_, ap}

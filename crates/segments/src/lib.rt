@@ -15,9 +15,6 @@ use refusals::MOST_STARTS;
 
 pub mod exons;
 
-// Not more segments than these are few.
-const FEW: usize = 256;
-
 // An interval's end.
 pub enum End {
     Start,
@@ -185,11 +182,7 @@ pub fn genome_to_transcript(
     ensures small { λ r. ⌜ Small 37 r ⌝ }
 {
     let z = p.0;
-    let number = if count <= FEW {
-        finding::find_few(genome, count, z)
-    } else {
-        finding::find_many(genome, count, z)
-    };
+    let number = finding::find(genome, count, z);
     map_at(genome, transcript, letters, number, z, end, forward)
 }
 
@@ -209,11 +202,7 @@ pub fn transcript_to_genome(
     ensures small { λ r. ⌜ Small 37 r ⌝ }
 {
     let z = p.0;
-    let number = if count <= FEW {
-        finding::find_few(transcript, count, z)
-    } else {
-        finding::find_many(transcript, count, z)
-    };
+    let number = finding::find(transcript, count, z);
     map_at(transcript, genome, letters, number, z, end, true)
 }
 

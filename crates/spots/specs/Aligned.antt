@@ -9,7 +9,7 @@ use Rattle.refusals.specs.Numbers.{mostSegments}
 use Rattle.refusals.specs.Outcome.{Outcome}
 use Rattle.numbering.specs.Numbers.{nOfPlace}
 use Rattle.segments.specs.Places.{Spot}
-use Rattle.finding.specs.Finding.{indexOf}
+use Rattle.finding.specs.Finding.{Rising, indexOf}
 use Rattle.segments.specs.Tables.{Tables, segmentsHold, read}
 use Rattle.segments.specs.Exons.{lastNumber, numberAt, readNumbers}
 use Rattle.transcript.specs.Transcript.{Transcript}
@@ -32,6 +32,11 @@ pub record Aligns (a : Alignment) (x : Tables) : Type 0 where
   pub count-from : 1 ≤ a .count
   pub count-to : a .count ≤ mostSegments
   pub segments : segmentsHold x (a .count) ≡ true
+
+-- this is the number of one of n segments, and of the one that holds the place p if the starts rise, which is not known before a table was looked at
+pub record Numbers (starts : List ℕ) (n : ℕ) (p : ℤ) (number : ℕ) : Type 0 where
+  pub on : number < n
+  pub here : Rising starts n → number ≡ indexOf starts n p
 
 -- this is the number of a segment, and of the one that holds the place of g, where that place lies within strict bounds
 pub record InSegment (a : Alignment) (genome : List ℕ) (number : ℕ) (g : ℤ) : Type 0 where

@@ -7,11 +7,12 @@ ghost use Rattle.refusals.specs.Numbers.{mostSegments};
 ghost use Rattle.whole.specs.Whole.{Within};
 ghost use Rattle.numbering.specs.Numbers.{placeOfN};
 ghost use Rattle.segments.specs.Tables.{tables};
+ghost use Rattle.segments.specs.Places.End.{start};
 ghost use Rattle.segments.specs.Paper.{Small, endSaid, spotSaid, toTranscript, toGenome};
 ghost use Rattle.segments.specs.Exons.{lastNumber, exonFound, exonChosen};
 ghost use Rattle.positions.specs.Paper.{paperGEnd, paperNEnd, paperExons, paperG, paperN};
 ghost use Rattle.spots.specs.Mapping.{inside, turned, signed, placeOfG};
-ghost use Rattle.spots.specs.Aligned.{numberBy, Aligns, nEndAt, nJoined, gEndAt, gJoined};
+ghost use Rattle.spots.specs.Aligned.{numberBy, Aligns, Numbers, nEndAt, nJoined, gEndAt, gJoined};
 use numbering::Place;
 use positions::Exons;
 use positions::GAnswer;
@@ -158,6 +159,48 @@ pub fn spot_of_n(
     ensures small { λ r. ⌜ Small 37 r × (r .number < at .count) ⌝ }
 {
     segments::transcript_to_genome(genome, transcript, letters, at.count, p, end)
+}
+
+// The spot of a place of the genome that begins an interval, by the number of its segment, which is at hand.
+pub fn spot_at_g(
+    at: Alignment,
+    genome: &[u32; MOST_STARTS],
+    transcript: &[u32; MOST_STARTS],
+    letters: &[u8; MOST_SEGMENTS],
+    p: Place,
+    number: usize,
+) -> Spot
+    requires { ⌜ Aligns at (tables (now genome) (now transcript) (now letters)) × Within 36 (p .0) × Numbers (now genome) (at .count) (p .0) number ⌝ }
+    ensures said { λ r. ⌜ spotSaid r ≡ toTranscript (tables (now (genome .entry)) (now (transcript .entry)) (now (letters .entry))) (at .count) (p .0) start (at .forward) ⌝ }
+    ensures small { λ r. ⌜ Small 37 r × (r .number < at .count) ⌝ }
+{
+    let z = p.0;
+    segments::map_at(
+        genome,
+        transcript,
+        letters,
+        number,
+        z,
+        End::Start,
+        at.forward,
+    )
+}
+
+// The same of a place of the transcript.
+pub fn spot_at_n(
+    at: Alignment,
+    genome: &[u32; MOST_STARTS],
+    transcript: &[u32; MOST_STARTS],
+    letters: &[u8; MOST_SEGMENTS],
+    p: Place,
+    number: usize,
+) -> Spot
+    requires { ⌜ Aligns at (tables (now genome) (now transcript) (now letters)) × Within 36 (p .0) × Numbers (now transcript) (at .count) (p .0) number ⌝ }
+    ensures said { λ r. ⌜ spotSaid r ≡ toGenome (tables (now (genome .entry)) (now (transcript .entry)) (now (letters .entry))) (at .count) (p .0) start ⌝ }
+    ensures small { λ r. ⌜ Small 37 r × (r .number < at .count) ⌝ }
+{
+    let z = p.0;
+    segments::map_at(transcript, genome, letters, number, z, End::Start, true)
 }
 
 // What stands behind the last segment's exon number.

@@ -2,17 +2,18 @@
 use Prim.Native.Nat.{ℕ}
 use mathlib.Core.Bool.{Bool}
 use mathlib.Core.List.{List}
+use mathlib.Core.Path.{_≡_}
 use lib.IntN.{ℤ}
 use lib.ListN.{getD}
-use Rattle.whole.specs.Whole.{if_then_else_}
-use Rattle.refusals.specs.Outcome.{Outcome, answered, refused}
-use Rattle.segments.specs.Tables.{Tables}
+use Rattle.numbering.specs.Numbers.{placeOfN}
 use Rattle.segments.specs.Places.{Spot}
-use Rattle.transcript.specs.Transcript.{Cds, noCds, cds}
+use Rattle.transcript.specs.Transcript.{Cds}
 use Rattle.positions.specs.Positions.{Interval, CAsked, NPosition, asksN}
-use Rattle.positions.specs.Answers.{chain}
-use Rattle.coding.specs.Coding.{sameC, nPosition, nToC}
-use Rattle.lone.specs.Lone.{Lone, other, loneN, nOnce, gOnce}
+use Rattle.positions.specs.Answers.{chain, plainly}
+use Rattle.coding.specs.Coding.{nToC, cToN}
+use Rattle.spots.specs.Mapping.{turned}
+use Rattle.lone.specs.Lone.{nOnce, gOnce, Seen}
+use Rattle.lone.specs.declared.Sought as code
 use Rattle.spots.specs.declared.Alignment.{Alignment}
 use Rattle.layout.specs.Layout.{gLaid, nLaid, cLaid, laid}
 use Rattle.layout.specs.declared.lay.Answer.{Answer}
@@ -27,12 +28,16 @@ sureC strict a transcript exons coding s = laid cLaid (chain asksN (nOnce a tran
 abbrev pub sureG : Alignment → List ℕ → Spot → ℤ → Answer
 sureG a exons s o = laid gLaid (gOnce a exons s o)
 
--- what an n. position is by itself, where there is one
-abbrev pub loneAt : Bool → Alignment → Tables → Outcome NPosition → Lone
-loneAt strict a x (answered n) = loneN strict a x (n .base)
-loneAt strict a x (refused k) = other
+-- ---- a base that is sought by its name, which is both ends of a c. interval
 
--- what a c. interval's position is, where the transcript has a CDS and both ends are that position
-abbrev pub loneC : Bool → Alignment → Tables → Cds → Interval CAsked → Lone
-loneC strict a x noCds q = other
-loneC strict a x (cds from to) q = if sameC (q .from) (q .to) then loneAt strict a x (nPosition strict (getD (x .transcript) (a .count) 0) from to (q .from)) else other
+-- the interval's n. position, which is both its ends too and has the name's own offset, and its place p in a transcript with that table of starts
+pub record Named (strict : Bool) (a : Alignment) (starts : List ℕ) (coding : Cds) (q : Interval CAsked) (p : ℤ) : Type 0 where
+  pub at : NPosition
+  pub both : cToN strict (getD starts (a .count) 0) coding q ≡ plainly (record { from = at; to = at })
+  pub own : at .offset ≡ q .from .offset
+  pub place : p ≡ turned (a .forward) (getD starts (a .count) 0) (placeOfN (at .base))
+
+-- it is that place, where it was seen
+abbrev pub SoughtName : Bool → Alignment → List ℕ → Cds → Interval CAsked → code.Sought → Type 0
+SoughtName strict a starts coding q (code.the-variants.Inside p number) = Named strict a starts coding q (p .0) × Seen starts (a .count) (p .0) number
+SoughtName strict a starts coding q code.the-variants.Other = Unit

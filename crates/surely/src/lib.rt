@@ -1,21 +1,18 @@
-// The short way of a question about one base: whether an interval is one, its spot by its name, and what a host is told of a sure base by its spot, laid out.
+// The short way of a question about one base: whether an interval is one, where it is sought by its name, and what a host is told of a sure base by its spot, laid out.
 ghost use mathlib.Core.Path.{_≡_};
 ghost use Prim.Native.Nat.{_≤_, _<_};
 ghost use Rattle.refusals.specs.Numbers.{mostSegments};
 ghost use Rattle.whole.specs.Whole.{eqZ};
-ghost use Rattle.segments.specs.Tables.{tables};
 ghost use Rattle.segments.specs.Paper.{Small, spotSaid};
 ghost use Rattle.positions.specs.Answers.{certain, ends};
 ghost use Rattle.positions.specs.Paper.{paperCQuestion, paperNEnd};
-ghost use Rattle.spots.specs.Aligned.{Aligns};
-ghost use Rattle.lone.specs.Lone.{paperLone, RoomyLone};
 ghost use Rattle.knowing.specs.Knowing.{paperCoding};
 ghost use Rattle.layout.specs.Layout.{nLaid, laid};
-ghost use Rattle.surely.specs.Surely.{sureN, sureC, sureG, loneC};
+ghost use Rattle.surely.specs.Surely.{sureN, sureC, sureG, SoughtName};
 use knowing::Coding;
 use layout::lay;
 use layout::lay::Answer;
-use lone::Lone;
+use lone::Sought;
 use positions::CQuestion;
 use positions::fitting::CEnd;
 use positions::fitting::GEnd;
@@ -89,30 +86,31 @@ pub fn sure_c(
     }
 }
 
-// A lone base by its c. position, where the transcript has a CDS and both ends are that position.
-pub fn lone_c(
+// The base of a c. interval whose ends are one position, where the transcript has a CDS, sought in the transcript's table.
+pub fn seek_name(
     at: Alignment,
-    genome: &[u32; MOST_STARTS],
     transcript: &[u32; MOST_STARTS],
-    letters: &[u8; MOST_SEGMENTS],
     cds: Coding,
     c: CQuestion,
     strict: bool,
-) -> Lone
-    requires { ⌜ Aligns at (tables (now genome) (now transcript) (now letters)) ⌝ }
-    ensures said { λ r. ⌜ paperLone r ≡ loneC strict at (tables (now (genome .entry)) (now (transcript .entry)) (now (letters .entry))) (paperCoding cds) (paperCQuestion c) ⌝ }
-    ensures roomy { λ r. ⌜ RoomyLone (at .count) r ⌝ }
+) -> Sought
+    requires { ⌜ (1 ≤ at .count) × (at .count ≤ mostSegments) ⌝ }
+    ensures { λ r. ⌜ SoughtName strict at (now (transcript .entry)) (paperCoding cds) (paperCQuestion c) r ⌝ }
 {
     if let Coding::Cds(s, e) = cds {
         if coding::is_same(c.from, c.to) {
             let count = at.count;
             let len = spots::last(transcript, count);
             if let NEnd::At(n) = coding::n_position(strict, len, s, e, c.from) {
-                return lone::lone_n(at, genome, transcript, letters, n.base, strict);
+                return lone::seek(
+                    transcript,
+                    count,
+                    spots::place_of_n(at.forward, len, n.base),
+                );
             }
         }
     }
-    Lone::Other
+    Sought::Other
 }
 
 // The g. answer of a sure base, by its spot, with its number's own offset.

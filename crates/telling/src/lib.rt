@@ -18,12 +18,15 @@ ghost use Rattle.mapper.specs.Asking.{askGToN, askGToC, askCToG};
 ghost use Rattle.knowing.specs.Knowing.{paperCoding};
 ghost use Rattle.taking.specs.Taking.{gAsked, cAsked};
 ghost use Rattle.layout.specs.Layout.{gLaid, nLaid, cLaid, laid};
+ghost use Rattle.refusals.specs.Outcome.{andThen};
+ghost use Rattle.chaining.specs.Given.{paperGiven};
+ghost use Rattle.telling.specs.Seeking.{SoughtBase};
 use chaining::Given;
 use knowing::Coding;
 use knowing::Known;
 use layout::lay;
 use layout::lay::Answer;
-use lone::Lone;
+use lone::Sought;
 use numbering::Place;
 use positions::CAnswer;
 use refusals::MISSING_END;
@@ -33,6 +36,50 @@ use refusals::NO_GENOME;
 use refusals::NOT_TOGETHER;
 use spots::Alignment;
 use transcript::Head;
+// The base that a g. interval is, sought in the genome's table. A base is sought before the tables are looked at: halving waits for one entry after the other, and the processor looks at the tables meanwhile.
+fn seek_base(at: Alignment, genome: &[u32; MOST_STARTS], ends: Given) -> Sought
+    requires { ⌜ (1 ≤ at .count) × (at .count ≤ mostSegments) ⌝ }
+    ensures { λ r. ⌜ SoughtBase at (now (genome .entry)) (paperGiven ends) r ⌝ }
+{
+    match ends {
+        Given::Ends(from, to) => {
+            if surely::is_base(from, to) {
+                return lone::seek(genome, at.count, spots::place_of_g(at.first, from));
+            }
+            Sought::Other
+        }
+        Given::Missing => Sought::Other,
+    }
+}
+
+// The n. answer of any g. interval: 19, 14, 17.
+fn interval_n(
+    at: Alignment,
+    genome: &[u32; MOST_STARTS],
+    transcript: &[u32; MOST_STARTS],
+    letters: &[u8; MOST_SEGMENTS],
+    exons: &[u16; MOST_SEGMENTS],
+    ends: Given,
+    strict: bool,
+) -> Answer
+    requires { ⌜ Aligns at (tables (now genome) (now transcript) (now letters)) ⌝ }
+    ensures { λ r. ⌜ r ≡ laid nLaid (andThen (paperGiven ends) (gToN strict (alignedBy at (tables (now (genome .entry)) (now (transcript .entry)) (now (letters .entry))) (now (exons .entry))))) ⌝ }
+{
+    match ends {
+        Given::Ends(from, to) => lay::lay_n(places::to_n(
+            at,
+            genome,
+            transcript,
+            letters,
+            exons,
+            from,
+            to,
+            strict,
+        )),
+        Given::Missing => lay::refusal_of(MISSING_END),
+    }
+}
+
 // g. to n.: 23, 18, 19, 14, 17.
 pub fn g_to_n(
     head: Head,
@@ -47,37 +94,28 @@ pub fn g_to_n(
 ) -> Answer
     ensures { λ r. ⌜ r ≡ laid nLaid (checked (lent head (now (genome .entry)) (now (transcript .entry)) (now (letters .entry)) (now (exons .entry))) (askGToN strict (gAsked start end missing))) ⌝ }
 {
-    match knowing::known_of(head, genome, transcript, letters, exons) {
-        Known::Aligned(at, _) => match chaining::both_ends(taking::g_asked(start, end, missing)) {
-            Given::Ends(from, to) => {
-                if surely::is_base(from, to) {
-                    let lone = lone::lone_g(at, genome, transcript, letters, from, strict);
-                    if let Lone::Sure(spot) = lone {
+    match knowing::told_of(head, transcript) {
+        Known::Aligned(at, _) => {
+            let ends = chaining::both_ends(taking::g_asked(start, end, missing));
+            let sought = seek_base(at, genome, ends);
+            if knowing::tables_hold(at, genome, transcript, letters, exons) {
+                if let Sought::Inside(p, number) = sought {
+                    let spot = spots::spot_at_g(at, genome, transcript, letters, p, number);
+                    if spot.sure {
                         return surely::sure_n(at, transcript, exons, spot);
                     }
-                    if let Lone::Unsure(spot) = lone {
-                        return lay::lay_n(lone::beside_n(
-                            knowing::alignment(head),
-                            transcript,
-                            exons,
-                            spot.place,
-                            spot.number,
-                        ));
-                    }
+                    return lay::lay_n(lone::beside_n(
+                        at,
+                        transcript,
+                        exons,
+                        spot.place,
+                        spot.number,
+                    ));
                 }
-                lay::lay_n(places::to_n(
-                    knowing::alignment(head),
-                    genome,
-                    transcript,
-                    letters,
-                    exons,
-                    from,
-                    to,
-                    strict,
-                ))
+                return interval_n(at, genome, transcript, letters, exons, ends, strict);
             }
-            Given::Missing => lay::refusal_of(MISSING_END),
-        },
+            lay::refusal_of(NOT_TOGETHER)
+        }
         Known::OfLength(_, _) => lay::refusal_of(NO_GENOME),
         Known::Broken => lay::refusal_of(NOT_TOGETHER),
     }
@@ -102,7 +140,7 @@ fn beside_c(
     chaining::then_n_to_c(n, len, cds, strict)
 }
 
-// The c. interval of any g. interval.
+// The c. answer of any g. interval: g. to n. wholly, then n. to c.
 fn interval_c(
     at: Alignment,
     genome: &[u32; MOST_STARTS],
@@ -110,17 +148,21 @@ fn interval_c(
     letters: &[u8; MOST_SEGMENTS],
     exons: &[u16; MOST_SEGMENTS],
     cds: Coding,
-    from: i32,
-    to: i32,
+    ends: Given,
     strict: bool,
-) -> CAnswer
+) -> Answer
     requires { ⌜ Aligns at (tables (now genome) (now transcript) (now letters)) ⌝ }
-    ensures { λ r. ⌜ paperC r ≡ chain asksN (gToN strict (alignedBy at (tables (now (genome .entry)) (now (transcript .entry)) (now (letters .entry))) (now (exons .entry))) (record { from = from; to = to })) (nToC strict (getD (now (transcript .entry)) (at .count) 0) (paperCoding cds)) ⌝ }
+    ensures { λ r. ⌜ r ≡ laid cLaid (chain asksN (andThen (paperGiven ends) (gToN strict (alignedBy at (tables (now (genome .entry)) (now (transcript .entry)) (now (letters .entry))) (now (exons .entry))))) (nToC strict (getD (now (transcript .entry)) (at .count) 0) (paperCoding cds))) ⌝ }
 {
-    let count = at.count;
-    let len = spots::last(transcript, count);
-    let n = places::to_n(at, genome, transcript, letters, exons, from, to, strict);
-    chaining::then_n_to_c(n, len, cds, strict)
+    match ends {
+        Given::Ends(from, to) => {
+            let count = at.count;
+            let len = spots::last(transcript, count);
+            let n = places::to_n(at, genome, transcript, letters, exons, from, to, strict);
+            lay::lay_c(chaining::then_n_to_c(n, len, cds, strict))
+        }
+        Given::Missing => lay::refusal_of(MISSING_END),
+    }
 }
 
 // g. to c.: g. to n. wholly, then n. to c.
@@ -137,40 +179,30 @@ pub fn g_to_c(
 ) -> Answer
     ensures { λ r. ⌜ r ≡ laid cLaid (checked (lent head (now (genome .entry)) (now (transcript .entry)) (now (letters .entry)) (now (exons .entry))) (askGToC strict (gAsked start end missing))) ⌝ }
 {
-    match knowing::known_of(head, genome, transcript, letters, exons) {
-        Known::Aligned(at, cds) => match chaining::both_ends(taking::g_asked(start, end, missing)) {
-            Given::Ends(from, to) => {
-                if surely::is_base(from, to) {
-                    let lone = lone::lone_g(at, genome, transcript, letters, from, strict);
-                    if let Lone::Sure(spot) = lone {
+    match knowing::told_of(head, transcript) {
+        Known::Aligned(at, cds) => {
+            let ends = chaining::both_ends(taking::g_asked(start, end, missing));
+            let sought = seek_base(at, genome, ends);
+            if knowing::tables_hold(at, genome, transcript, letters, exons) {
+                if let Sought::Inside(p, number) = sought {
+                    let spot = spots::spot_at_g(at, genome, transcript, letters, p, number);
+                    if spot.sure {
                         return surely::sure_c(at, transcript, exons, cds, spot, strict);
                     }
-                    if let Lone::Unsure(spot) = lone {
-                        return lay::lay_c(beside_c(
-                            knowing::alignment(head),
-                            transcript,
-                            exons,
-                            knowing::coding_of(head),
-                            spot.place,
-                            spot.number,
-                            strict,
-                        ));
-                    }
+                    return lay::lay_c(beside_c(
+                        at,
+                        transcript,
+                        exons,
+                        cds,
+                        spot.place,
+                        spot.number,
+                        strict,
+                    ));
                 }
-                lay::lay_c(interval_c(
-                    knowing::alignment(head),
-                    genome,
-                    transcript,
-                    letters,
-                    exons,
-                    knowing::coding_of(head),
-                    from,
-                    to,
-                    strict,
-                ))
+                return interval_c(at, genome, transcript, letters, exons, cds, ends, strict);
             }
-            Given::Missing => lay::refusal_of(MISSING_END),
-        },
+            lay::refusal_of(NOT_TOGETHER)
+        }
         Known::OfLength(_, _) => lay::refusal_of(NO_GENOME),
         Known::Broken => lay::refusal_of(NOT_TOGETHER),
     }
@@ -194,31 +226,40 @@ pub fn c_to_g(
     ensures { λ r. ⌜ r ≡ laid gLaid (checked (lent head (now (genome .entry)) (now (transcript .entry)) (now (letters .entry)) (now (exons .entry))) (askCToG strict (cAsked start «start_offset» «start_star» end «end_offset» «end_star»))) ⌝ }
 {
     let asked = taking::c_asked(start, start_offset, start_star, end, end_offset, end_star);
-    match knowing::known_of(head, genome, transcript, letters, exons) {
+    match knowing::told_of(head, transcript) {
         Known::Aligned(at, cds) => {
-            let lone = surely::lone_c(at, genome, transcript, letters, cds, asked, strict);
-            if let Lone::Sure(spot) = lone {
-                return surely::sure_g(at, exons, spot, start_offset);
-            }
-            if let Lone::Unsure(spot) = lone {
-                return lay::lay_g(lone::beside_g(
-                    knowing::alignment(head),
+            let sought = surely::seek_name(at, transcript, cds, asked, strict);
+            if knowing::tables_hold(at, genome, transcript, letters, exons) {
+                if let Sought::Inside(p, number) = sought {
+                    let spot = spots::spot_at_n(at, genome, transcript, letters, p, number);
+                    if spot.sure {
+                        return surely::sure_g(at, exons, spot, start_offset);
+                    }
+                    return lay::lay_g(lone::beside_g(
+                        at,
+                        exons,
+                        spot.place,
+                        spot.number,
+                        start_offset,
+                    ));
+                }
+                let count = at.count;
+                let len = spots::last(transcript, count);
+                let n = chaining::c_to_n(len, cds, asked, strict);
+                return lay::lay_g(chaining::then_n_to_g(
+                    n,
+                    at,
+                    genome,
+                    transcript,
+                    letters,
                     exons,
-                    spot.place,
-                    spot.number,
-                    start_offset,
+                    strict,
                 ));
             }
-            let again = knowing::alignment(head);
-            let count = again.count;
-            let len = spots::last(transcript, count);
-            let c = taking::c_asked(start, start_offset, start_star, end, end_offset, end_star);
-            let n = chaining::c_to_n(len, knowing::coding_of(head), c, strict);
-            lay::lay_g(chaining::then_n_to_g(n, again, genome, transcript, letters, exons, strict))
+            lay::refusal_of(NOT_TOGETHER)
         }
         Known::OfLength(length, cds) => {
-            let c = taking::c_asked(start, start_offset, start_star, end, end_offset, end_star);
-            lay::lay_g(chaining::then_no_genome(chaining::c_to_n(length, cds, c, strict)))
+            lay::lay_g(chaining::then_no_genome(chaining::c_to_n(length, cds, asked, strict)))
         }
         Known::Broken => lay::refusal_of(NOT_TOGETHER),
     }

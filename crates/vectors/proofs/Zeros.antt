@@ -3,7 +3,7 @@ use Prim.Native.Nat.{ℕ, _+_, _-_, _≤_}
 use native.Mathlib.Omega.{arith}
 use mathlib.Core.Path.{_≡_, sym, ap, _∙_}
 use mathlib.Core.List.{List}
-use lib.ListN.{length, take, drop, replicate, length-replicate, replicate-append-replicate}
+use lib.ListN.{take, drop, replicate, length-replicate, replicate-append-replicate}
 use lib.Seq.{take-all, drop-at}
 
 pub zeros-end : {A : Type 0} (z : A) (n lent : ℕ) (s : List A) → lent ≤ n → s ≡ replicate n z → take (n - (n - lent)) (drop (n - lent) s) ≡ replicate lent z

@@ -1,7 +1,7 @@
 -- `fields::bits` meets its contract: a number below 0 is `negsuc k`, where the code's `-1 - z` is k, and both sides take k off the largest word; any other number is its own bits. Assumes nothing.
 use mathlib.Core.Path.{_≡_, sym, ap, _∙_}
 use mathlib.Core.Bool.{true, false}
-use Prim.Native.Nat.{_-_, _<_}
+use Prim.Native.Nat.{_<_}
 use native.Mathlib.Omega.{arith}
 use lib.IntN.{ℤ, pos, negsuc, _-ℤ_, natAbs}
 use lib.Signed.{mag, ltZ}

@@ -2,7 +2,6 @@
 use native.Mathlib.Omega.{arith}
 use lib.IntN.{pos}
 use Rattle.whole.specs.laws.Machine.{bits-32}
-use borrow.Author.Needs.{needs}
 use Rattle.holding.proofs.is_forward.Statement.{statement}
 use Rattle.holding.proofs.is_forward.Tie as tie
 

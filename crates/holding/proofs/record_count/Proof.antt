@@ -1,6 +1,5 @@
 -- `holding::record_count` meets its contract: the record count of a right head is at least 1 and at most `mostRecords` (`head-means`), so that `natural` can be asked and its result fits 16 bits. Assumes nothing.
 use native.Mathlib.Omega.{arith}
-use borrow.Author.Needs.{needs}
 use mir.Syntax.{w32}
 use mir.Val.{SFits}
 use Rattle.whole.specs.laws.Whole.{read}

@@ -260,10 +260,9 @@ module _ (x : Lent) where
 
 -- ---- what a question goes by
 
--- both CDS bounds are given: they are the CDS, and lie in 0 to the length, which is small
-module _ (h : Head) (len : ℕ) (right : CdsRight h len) (both-given : bothGiven h ≡ true) (small : len ≤ mostBases) where
-  pub cds-bounds : CdsBounds h len
-  cds-bounds = ⊎-elim (λ none. absurd (omega order)) (λ b. b) right
+-- both CDS bounds are given: they are the CDS, and lie in 0 to the length
+pub cds-bounds : (h : Head) (len : ℕ) → CdsRight h len → bothGiven h ≡ true → CdsBounds h len
+cds-bounds h len right both-given = ⊎-elim (λ none. absurd (omega order)) (λ b. b) right
 
 module _ (x : Lent) (w : Together x) where
   pub held-head : headHolds (x .head) ≡ true

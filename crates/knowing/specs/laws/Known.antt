@@ -3,7 +3,7 @@ use Prim.Native.Nat.{ℕ}
 use native.Mathlib.Omega.{arith}
 use mathlib.Core.List.{List}
 use mathlib.Core.Path.{_≡_, refl, sym, ap, _∙_}
-use mathlib.Core.Bool.{Bool, true, false}
+use mathlib.Core.Bool.{true, false}
 use lib.IntN.{natAbs}
 use lib.ListN.{getD}
 use Rattle.refusals.specs.Numbers.{notTogether}
@@ -14,8 +14,8 @@ use Rattle.segments.specs.Exons.{readNumbers}
 use Rattle.transcript.specs.Transcript.{Transcript, Source, Cds, genomeLength, transcriptLength}
 use Rattle.transcript.specs.Transcript.Source.{aligned, lengthOnly}
 use Rattle.transcript.specs.declared.Head.{Head}
-use Rattle.holding.specs.Holding.{ofRecords, bothGiven, headHolds, Lent, holds, headCds, sourceOf, checked}
-use Rattle.holding.specs.laws.Held.{natural-says, together, length-right, CdsBounds, cds-bounds, source-of-records, source-of-length, some, few, held-head, held-segments, genome-length, transcript-length, checked-held, checked-broken}
+use Rattle.holding.specs.Holding.{ofRecords, bothGiven, headHolds, cdsHolds, Lent, holds, headCds, sourceOf, checked}
+use Rattle.holding.specs.laws.Held.{natural-says, together, CdsBounds, cds-means, cds-bounds, source-of-records, source-of-length, some, few, held-head, held-segments, genome-length, transcript-length, checked-held, checked-broken}
 use Rattle.spots.specs.Aligned.{Aligns}
 use Rattle.spots.specs.declared.Alignment.{Alignment}
 use Rattle.knowing.specs.Knowing.{alignmentOf, NaturalBounds, codingIn, knownOf, paperCoding}
@@ -26,15 +26,11 @@ use Rattle.knowing.specs.declared.Known.the-variants as known
 coding-is : (h : Head) → paperCoding (codingIn h) ≡ headCds h
 coding-is h = by-test (bothGiven h) (λ b. rw b) (λ b. rw b)
 
--- bounds that are given are not negative, where a transcript of either kind holds together
-bounds-of : (h : Head) (len : ℕ) → (bothGiven h ≡ true → CdsBounds h len) → NaturalBounds h
-bounds-of h len f = record { start = λ b. natural-says (h .start) (f b .start-natural); end = λ b. natural-says (h .end) (f b .end-natural) }
-
-pub natural-bounds : (x : Lent) → holds x ≡ true → NaturalBounds (x .head)
-natural-bounds x e =
-    by-test (ofRecords (x .head))
-    (λ r. let w = together x e r in bounds-of (x .head) _ (λ b. cds-bounds (x .head) _ (w .cds) b (w .transcript-within)))
-    (λ r. let w = length-right x e r in bounds-of (x .head) _ (λ b. cds-bounds (x .head) _ (w .cds) b (w .length .below)))
+-- bounds that are given are not negative, where the CDS holds
+pub natural-where : (h : Head) (len : ℕ) → cdsHolds h len ≡ true → NaturalBounds h
+natural-where h len e =
+    let right : bothGiven h ≡ true → CdsBounds h len = cds-bounds h len (cds-means h len e) in
+    record { start = λ b. natural-says (h .start) (right b .start-natural); end = λ b. natural-says (h .end) (right b .end-natural) }
 
 -- the transcript that lies so and has this CDS
 abbrev pub lying : Alignment → Coding → Tables → List ℕ → Transcript
@@ -95,7 +91,7 @@ module _ (x : Lent) where
       rw (← long, ← cds) (record { held = e; source = source-of-length x r ∙ ap (lengthOnly (natAbs (x .head .length))) (sym (coding-is (x .head))) }))))
       (λ e. rw e (λ k. let z : _≡_ {A = ℕ} 0 1 = cc in absurd (omega arith)))
 
-  known-breaks : knownOf x ≡ known.Broken → holds x ≡ false
+  pub known-breaks : knownOf x ≡ known.Broken → holds x ≡ false
   known-breaks =
       by-test (holds x)
       (λ e.

@@ -18,7 +18,6 @@ use Rattle.transcript.specs.Heads.{strandOf}
 use Rattle.building.specs.Afterwards.{tablesAfter}
 use Rattle.judging.specs.laws.Accepted.{Sane}
 use Rattle.transcript.specs.declared.Head.{Head}
-use Rattle.card.specs.Putting.{Put}
 use Rattle.card.specs.laws.Putting.{put-length, put-as, put-front}
 use Rattle.card.specs.laws.Taken.{card-sane}
 use Rattle.card.specs.Writing.{judgeCard}

@@ -27,7 +27,7 @@ module _ (c : tie.After-read-log) where
   log = start .args .log .now
 
   held : holds (lentAt start) ≡ true
-  held = sym (c .before .before .check .ensures) ∙ c .before .if1 .taken
+  held = sym (c .before .before .is-held .ensures) ∙ c .before .if1 .taken
 
 -- the log is read
 module _ (c : tie.After-count) where
@@ -60,7 +60,7 @@ returns-2 c =
 returns-3 : tie.Need-returns-3
 returns-3 c =
     let s = c .before .before .before .before in
-    rw (replay-broken (lentAt s) (s .args .log .now) (length (s .args .buffer .now)) (sym (c .before .check .ensures) ∙ c .if1 .left)) (refl, refl)
+    rw (replay-broken (lentAt s) (s .args .log .now) (length (s .args .buffer .now)) (sym (c .before .is-held .ensures) ∙ c .if1 .left)) (refl, refl)
 
 pub replay-spec : {M : Type 1} → statement M
 replay-spec =

@@ -5,7 +5,7 @@
 --     all-lines-next, all-lines-rise, all-lines-none, all-lines-few   the lines of all indices below a number: one index more, none, those of a log
 --     line-short       a line of a log's index or total
 -- Assumes nothing.
-use mathlib.Core.Path.{_≡_, refl, ap, _∙_}
+use mathlib.Core.Path.{_≡_, refl, ap}
 use mathlib.Core.List.{List, [], _∷_, _++_, append-assoc, append-nil}
 use Prim.Native.Nat.{ℕ, _+_, _/_, _≤_, _<_}
 use native.Mathlib.Decide.{decLt}

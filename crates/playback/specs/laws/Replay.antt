@@ -8,13 +8,12 @@
 --     text-length, replay-short, replayed-short   no text is longer than the most
 --     replay-roomy                so a buffer of that length is never too short
 -- Assumes nothing.
-use Prim.Native.Nat.{ℕ, zero, suc, _+_, _*_, _-_, _/_, _≤_, _<_}
+use Prim.Native.Nat.{ℕ, zero, suc, _+_, _≤_, _<_}
 use native.Mathlib.Nat.{add-zero, zero-add}
 use native.Mathlib.Omega.{arith}
 use mathlib.Core.Path.{_≡_, refl, sym, ap, ap₂, _∙_}
-use mathlib.Core.Bool.{Bool, true, false, not, _&&_, false≢true}
+use mathlib.Core.Bool.{true, false, false≢true}
 use mathlib.Core.List.{List, [], _∷_, _++_, append-assoc}
-use lib.Dec.{eqb, ltb}
 use lib.IntN.{ℤ, pos, negsuc}
 use lib.ListN.{length, getD, length-append}
 use borrow.Author.Tests.{eqb-true, eq-eqb, ne-eqb, le-ltb}
@@ -33,7 +32,7 @@ use Rattle.log.specs.Logs.{readLog}
 use Rattle.log.specs.laws.LogTrips.{from-length, read-means}
 use Rattle.entries.specs.declared.Entry.{Entry}
 use Rattle.asking.specs.Asking.{asked, recorded}
-use Rattle.playback.specs.Lines.{lineOf, linesOf, indexIf, mostEntries, allLines, mostReplay}
+use Rattle.playback.specs.Lines.{lineOf, linesOf, mostEntries, allLines, mostReplay}
 use Rattle.playback.specs.Replay.{samePosition, sameAnswer, differs, indicesFrom, differing, replayText, replayed, roomed, replaying}
 use Rattle.playback.specs.laws.Lines.{all-lines-next, all-lines-rise, all-lines-none, all-lines-few, line-short}
 

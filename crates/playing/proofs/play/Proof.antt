@@ -5,13 +5,12 @@ use mathlib.Core.List.{List}
 use Prim.Native.Nat.{ℕ}
 use native.Mathlib.Omega.{arith}
 use lib.ListN.{length}
-use Rattle.refusals.specs.Outcome.{Outcome, refused}
+use Rattle.refusals.specs.Outcome.{Outcome}
 use Rattle.cigar.specs.Lent.{atFront}
 use Rattle.spelling.specs.Write.{writtenAnswer, bufferAfter}
 use Rattle.segments.specs.Tables.{tables}
 use Rattle.transcript.specs.declared.Head.{Head}
 use Rattle.holding.specs.Holding.{Lent, lent}
-use Rattle.judging.specs.Judging.{Made}
 use Rattle.building.specs.laws.Standing.{Makes, makes, refuses}
 use Rattle.card.specs.Putting.{Put}
 use Rattle.card.specs.Writing.{judgeCard}

@@ -11,9 +11,8 @@ use Rattle.cigar.specs.Lent.{atFront}
 use Rattle.segments.specs.Tables.{tables}
 use Rattle.judging.specs.Judging.{Made}
 use Rattle.building.specs.Afterwards.{tablesAfter, exonsAfter}
-use Rattle.card.specs.Writing.{judgeCard}
 use Rattle.card.specs.laws.Putting.{put-as, put-front}
-use Rattle.playing.specs.Played.{played, playedText, cardTo, inputMade, inputPlayed}
+use Rattle.playing.specs.Played.{played, playedText, cardTo, inputPlayed}
 use Rattle.playing.specs.laws.Played.{input-made, input-played, no-input-made, no-input-played}
 use Rattle.playing.proofs.CardEnds.{Ends, ends, cut}
 use borrow.Author.Needs.{needs}

@@ -1,6 +1,5 @@
 -- Where the row has a block, all its words lie in it.
 use mathlib.Core.Path.{_∙_}
-use mir.Syntax.{w32}
 use Rattle.whole.specs.laws.Whole.{read}
 use borrow.Author.Tests.{lt-ltb, le-ltb}
 use Rattle.rows.specs.Rows.{wordAt}

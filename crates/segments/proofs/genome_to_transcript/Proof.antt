@@ -1,7 +1,5 @@
--- The tables hold together, so that they rise; the place is mapped by the segment with the number that was found for it, by either finder, and what the tables map it to is what their elements do. Assumes nothing.
-use Prim.Native.Nat.{_<_}
+-- The tables hold together, so that they rise; the place is mapped by the segment with the number that was found for it, and what the tables map it to is what their elements do. Assumes nothing.
 use native.Mathlib.Omega.{arith}
-use mathlib.Core.Logic.{⊎-elim}
 use mathlib.Core.Path.{_≡_, sym, _∙_}
 use borrow.Author.Needs.{needs}
 use Rattle.whole.specs.laws.Whole.{read}
@@ -18,28 +16,20 @@ use Rattle.segments.proofs.genome_to_transcript.Tie as tie
 held : (c : tie.Start) → let a = c .args in Holds (tables (a .genome .now) (a .transcript .now) (a .letters .now)) (a .count)
 held c = holds-means _ _ (c .pre .1 .0)
 
-find-few-requires : tie.Need-find-few-requires
-find-few-requires c κs = (search needs, held (c .before .before) .genome-rises)
-
-find-many-requires : tie.Need-find-many-requires
-find-many-requires c κs = (search needs, held (c .before .before) .genome-rises)
-
-found : (c : tie.Joined1) → let a = c .before .before .args in (c .if1 .number < a .count) × (c .if1 .number ≡ indexOf (a .genome .now) (a .count) (a .p .0))
-found c =
-    let p = read (fits-36 (c .before .before .pre .1 .1)) in
-    ⊎-elim (λ w. rw (w .2) (simp p at (w .1 .ensures))) (λ w. rw (w .2) (simp p at (w .1 .ensures))) (c .if1 .came)
+found : (c : tie.After-find) → let a = c .before .before .args in c .find .result ≡ indexOf (a .genome .now) (a .count) (a .p .0)
+found c = simp (read (fits-36 (c .before .before .pre .1 .1))) at (c .find .ensures .1 (held (c .before .before) .genome-rises))
 
 map-at-requires : tie.Need-map-at-requires
 map-at-requires c κs =
     let w = c .before .before .pre .1 .1 in
-    (omega (arith, found c .0), simp (read (fits-36 w)) w)
+    (omega (arith, c .find .ensures .0), simp (read (fits-36 w)) w)
 
 by-tables : (c : tie.After-map-at) → let a = c .before .before .before .args in spotSaid (c .map-at .result) ≡ mapByTables (a .genome .now) (a .transcript .now) (a .letters .now) (a .count) (a .p .0) (endSaid (a .end)) (a .forward)
 unfolding mapByTables
-by-tables c = let p = read (fits-36 (c .before .before .before .pre .1 .1)) in rw (sym (found (c .before) .1)) (simp p at (c .map-at .ensures .0))
+by-tables c = let p = read (fits-36 (c .before .before .before .pre .1 .1)) in rw (sym (found (c .before))) (simp p at (c .map-at .ensures .0))
 
 returns : tie.Need-returns
 returns c = (by-tables c ∙ by-genome _ _ (held (c .before .before .before)) (omega arith) _ _ _, c .map-at .ensures .1)
 
 pub genome-to-transcript-spec : {M : Type 1} → statement M
-genome-to-transcript-spec = tie.close (tie.spec find-few-requires find-many-requires map-at-requires returns)
+genome-to-transcript-spec = tie.close (tie.spec (λ c κs. search needs) map-at-requires returns)

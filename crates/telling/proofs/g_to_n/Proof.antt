@@ -1,147 +1,125 @@
--- `telling::g_to_n` meets its contract: what is lent is known once. A sure base is answered by its spot, one that is not by where it lies, any other interval as g. to n. says, and a missing end is 19. Assumes nothing.
+-- `telling::g_to_n` meets its contract: the head tells how the transcript lies, and the tables that it does. A base that was sought is answered by its spot, one that is not sure by where it lies, any other interval as g. to n. says, and tables that do not hold are 23. Assumes nothing.
 use mathlib.Core.Path.{_≡_, sym, ap, _∙_}
-use lib.IntN.{ℤ}
-use mir.Syntax.{w32}
-use mir.Val.{toZ, ofZ}
-use Rattle.whole.specs.laws.Whole.{read, told, eq-means}
-use Rattle.refusals.specs.Outcome.{answered}
+use Rattle.whole.specs.laws.Whole.{read}
 use Rattle.holding.specs.Holding.{lent}
 use Rattle.layout.specs.Layout.{nLaid, laid}
 use Rattle.taking.specs.Taking.{gAsked}
 use Rattle.chaining.specs.Given.{given, paperGiven}
 use Rattle.mapper.specs.Asking.{askGToN}
-use Rattle.knowing.specs.Knowing.{knownOf}
+use Rattle.knowing.specs.Knowing.{toldOf, knownOf}
 use Rattle.knowing.specs.declared.Known.the-variants as known
 use Rattle.knowing.specs.laws.Known.{known-lies, ask-length, ask-broken}
-use Rattle.segments.specs.Tables.{tables}
-use Rattle.segments.specs.Paper.{spotSaid}
-use Rattle.lone.specs.Lone.{unsure, loneG, paperLone}
-use Rattle.telling.proofs.Ways.{n-by-ends, one-base, base-beside, roomy}
+use Rattle.knowing.specs.laws.Told.{told-lying, told-lies, told-apart, told-length, told-broken}
+use Rattle.lone.specs.Lone.{Seen}
+use Rattle.telling.specs.Seeking.{Based}
+use Rattle.telling.proofs.Ways.{n-by-ends, one-base, base-beside}
 use borrow.Author.Needs.{needs}
 use Rattle.telling.proofs.g_to_n.Statement.{statement}
 use Rattle.telling.proofs.g_to_n.Tie as tie
 
--- the ends that the question gives
-ends-are : (c : tie.After-both-ends) →
-    let a = c .before .before .before .before .before .before .args in
-    paperGiven (c .both-ends .result) ≡ given (gAsked (a .start) (a .end) (a .missing))
-ends-are c =
-    let s = c .before .before .before .before .before .before in
-    c .both-ends .ensures ∙ ap given (simp (read (s .fits .start), read (s .fits .end)) at (c .before .g-asked .ensures))
+-- what the head tells
+told-is : (p : tie.After-at) → let a = p .before .before .before .args in toldOf (a .head) (a .transcript .now) ≡ known.Aligned (p .at .given .0 .0) (p .at .given .0 .1 .0)
+told-is p = sym (p .before .before .told-of .ensures) ∙ p .at .given .1
 
-both-are : (c : tie.After-known-told2) →
-    let p = c .before in
-    let a = p .before .before .before .before .before .before .before .before .args in
-    answered (record { from = p .from .given .0 .0; to = p .from .given .0 .1 .0 }) ≡ given (gAsked (a .start) (a .end) (a .missing))
-both-are c = rw (c .before .from .given .1) at (ends-are (c .before .before .before))
+-- the ends that the question gives
+ends-are : (b : tie.After-both-ends) →
+    let a = b .before .before .before .before .before .before .args in
+    paperGiven (b .both-ends .result) ≡ given (gAsked (a .start) (a .end) (a .missing))
+ends-are b =
+    let s = b .before .before .before .before .before .before in
+    b .both-ends .ensures ∙ ap given (simp (read (s .fits .start), read (s .fits .end)) at (b .before .g-asked .ensures))
+
+-- from tables that hold back to how the transcript lies, and to the ends
+abbrev at-from : tie.Then1 → tie.After-at
+at-from t = t .before .before .before .before .before .before
+
+abbrev ends-from : tie.Then1 → tie.After-both-ends
+ends-from t = t .before .before .before
 
 -- what is lent, and how it lies
-known-is : (p : tie.After-at) →
+known-is : (t : tie.Then1) →
+    let p = at-from t in
     let a = p .before .before .before .args in
     knownOf (lent (a .head) (a .genome .now) (a .transcript .now) (a .letters .now) (a .exons .now)) ≡ known.Aligned (p .at .given .0 .0) (p .at .given .0 .1 .0)
-known-is p = sym (p .before .before .known-of .ensures) ∙ p .at .given .1
+known-is t = told-lies _ (told-is (at-from t)) (sym (t .before .tables-hold .ensures) ∙ t .if1 .taken)
 
-abbrev at-from : tie.After-known-told2 → tie.After-at
-at-from c = c .before .before .before .before .before .before
+-- the base that was sought, and where it was seen
+base-is : (m : tie.After-sought) →
+    let t = m .before .before in
+    Based (at-from t .at .given .0 .0) (paperGiven (ends-from t .both-ends .result)) (m .sought .given .0 .0 .0)
+    × Seen (at-from t .before .before .before .args .genome .now) (at-from t .at .given .0 .0 .count) (m .sought .given .0 .0 .0) (m .sought .given .0 .1 .0)
+base-is m = rw (m .sought .given .1) at (m .before .before .before .before .seek-base .ensures)
 
-lone-g-requires : tie.Need-lone-g-requires
-lone-g-requires c κs = known-lies _ _ _ (known-is (at-from (c .before .before))) .sound
+seek-base-requires : tie.Need-seek-base-requires
+seek-base-requires c κs = let l = told-lying _ _ _ _ (told-is (c .before .before .before)) in (l .some, l .few)
+
+tables-hold-requires : tie.Need-tables-hold-requires
+tables-hold-requires c κs = let l = told-lying _ _ _ _ (told-is (c .before .before .before .before)) in (l .some, l .few)
+
+spot-at-g-requires : tie.Need-spot-at-g-requires
+spot-at-g-requires c κs =
+    let m = c .before in
+    let (b, seen) = base-is m in
+    (known-lies _ _ _ (known-is (m .before .before)) .sound, seen .small, seen .numbers)
+
+-- from a base's spot back to where it was sought
+abbrev sought-from : tie.After-spot-at-g → tie.After-sought
+sought-from x = x .before .before
 
 sure-n-requires : tie.Need-sure-n-requires
 sure-n-requires c κs =
-    let l = c .before .before .before in
-    let (small, on) = rw (c .before .lone .given .1) at (l .lone-g .ensures .1) in
-    (known-lies _ _ _ (known-is (at-from (l .before .before .before))) .sound .count-to, small, on)
-
--- the ends as they were read, which fit 32 bits
-from-is : (c : tie.After-known-told2) → _≡_ {A = ℤ} (toZ w32 (ofZ w32 (c .before .from .given .0 .0))) (c .before .from .given .0 .0)
-from-is c = told w32 (c .before .from .given .0 .0) (c .known-told2 .given .0 .1)
-
-to-is : (c : tie.After-known-told2) → _≡_ {A = ℤ} (toZ w32 (ofZ w32 (c .before .from .given .0 .1 .0))) (c .before .from .given .0 .1 .0)
-to-is c = told w32 (c .before .from .given .0 .1 .0) (c .known-told2 .given .1 .0 .1)
-
--- where the interval is one base, both are one number
-one-is : (c : tie.Then1) → let p = c .before .before .before in p .from .given .0 .0 ≡ p .from .given .0 .1 .0
-one-is c =
-    let e = c .before .before in
-    eq-means _ _ (sym (simp (from-is e, to-is e) at (c .before .is-base .ensures)) ∙ c .if1 .taken)
+    let x = c .before in
+    let (small, on) = x .spot-at-g .ensures .1 in
+    (known-lies _ _ _ (known-is (sought-from x .before .before)) .sound .count-to, small, on)
 
 returns : tie.Need-returns
 returns c =
-    let m = c .before .before in
-    let l = m .before .before in
-    let e = l .before .before .before in
-    let p = at-from e in
-    let one = one-is (l .before) in
-    let spot = rw (m .lone .given .1) at (simp (from-is e) at (l .lone-g .ensures .0)) in
-    c .sure-n .ensures ∙ ap (laid nLaid) (sym (one-base _ _ _ (known-is p) _ _ _ _ (both-are e) one _ spot))
-
--- from the number of a base that is not sure back to where it was looked for
-abbrev looked : tie.After-known-told4 → tie.After-lone-g
-looked c = c .before .before .before .before
-
-abbrev ends-from : tie.After-known-told4 → tie.After-known-told2
-ends-from c = looked c .before .before .before
-
-alignment-requires : tie.Need-alignment-requires
-alignment-requires c κs = known-lies _ _ _ (known-is (at-from (ends-from c))) .head
-
--- what it is answered by
-lone-is : (c : tie.After-known-told4) → let e = ends-from c in let a = at-from e .before .before .before .args in
-    unsure (spotSaid (c .before .lone2 .given .0 .0)) ≡ loneG (a .strict) (at-from e .at .given .0 .0) (tables (a .genome .now) (a .transcript .now) (a .letters .now)) (e .before .from .given .0 .0)
-lone-is c = sym (ap paperLone (c .before .lone2 .given .1)) ∙ simp (from-is (ends-from c)) at (looked c .lone-g .ensures .0)
+    let x = c .before .before in
+    let m = sought-from x in
+    let t = m .before .before in
+    let (b, seen) = base-is m in
+    c .sure-n .ensures ∙ ap (laid nLaid) (sym (one-base _ _ _ (known-is t) _ _ _ (ends-are (ends-from t)) _ b _ (seen .within) (x .spot-at-g .ensures .0) (c .before .if2 .taken)))
 
 beside-n-requires : tie.Need-beside-n-requires
 beside-n-requires c κs =
-    let m = c .before in
-    let lies = known-lies _ _ _ (known-is (at-from (ends-from m))) in
-    let (small, on) = roomy _ (m .before .lone2 .given .1) (looked m .lone-g .ensures .1) in
-    rw (c .alignment .ensures ∙ lies .at) (small .place-small, on, lies .sound .count-to)
+    let x = c .before in
+    let (small, on) = x .spot-at-g .ensures .1 in
+    (small .place-small, on, known-lies _ _ _ (known-is (sought-from x .before .before)) .sound .count-to)
 
 returns-2 : tie.Need-returns-2
 returns-2 c =
-    let t = c .before in
-    let m = t .before in
-    let k = m .before in
-    let e = ends-from k in
-    let is = known-is (at-from e) in
+    let e = c .before .before in
+    let x = e .before in
+    let m = sought-from x in
+    let t = m .before .before in
+    let (b, seen) = base-is m in
     c .lay-n .ensures
-    ∙ ap (laid nLaid) (simp (m .alignment .ensures ∙ known-lies _ _ _ is .at) at (t .beside-n .ensures) ∙ sym (base-beside _ _ _ is _ _ _ _ (both-are e) (one-is (looked k .before)) _ (lone-is k)))
+    ∙ ap (laid nLaid) (c .before .beside-n .ensures ∙ sym (base-beside _ _ _ (known-is t) _ _ _ (ends-are (ends-from t)) _ b _ (seen .within) (x .spot-at-g .ensures .0) (e .if2 .left)))
 
-alignment-requires-2 : tie.Need-alignment-requires-2
-alignment-requires-2 c κs = known-lies _ _ _ (known-is (at-from (c .before .before))) .head
-
-to-n-requires : tie.Need-to-n-requires
-to-n-requires c κs =
-    let lies = known-lies _ _ _ (known-is (at-from (c .before .before .before))) in
-    rw (c .alignment2 .ensures ∙ lies .at) (lies .sound)
+interval-n-requires : tie.Need-interval-n-requires
+interval-n-requires c κs = known-lies _ _ _ (known-is (c .before .before)) .sound
 
 returns-3 : tie.Need-returns-3
 returns-3 c =
-    let t = c .before in
-    let e = t .before .before .before .before in
-    let p = at-from e in
-    let at = t .before .alignment2 .ensures ∙ known-lies _ _ _ (known-is p) .at in
-    c .lay-n2 .ensures
-    ∙ ap (laid nLaid) (simp (at, from-is e, to-is e) at (t .to-n .ensures) ∙ sym (n-by-ends _ _ _ (known-is p) _ _ _ (both-are e)))
+    let t = c .before .before .before in
+    c .interval-n .ensures ∙ ap (laid nLaid) (sym (n-by-ends _ _ _ (known-is t) _ _ _ (ends-are (ends-from t))))
 
 returns-4 : tie.Need-returns-4
 returns-4 c =
-    let m = c .before in
-    let b = m .before .before in
-    let p = b .before .before .before in
-    c .refusal-of .ensures ∙ ap (laid nLaid) (sym (n-by-ends _ _ _ (known-is p) _ _ _ (rw (m .enum-told .given .1) at (ends-are b))))
+    let e = c .before in
+    let p = e .before .before .before .before .before .before in
+    c .refusal-of .ensures ∙ ap (laid nLaid) (sym (ask-broken _ _ (told-apart _ (told-is p) (sym (e .before .tables-hold .ensures) ∙ e .if1 .left))))
 
 returns-5 : tie.Need-returns-5
 unfolding askGToN
 returns-5 c =
     let m = c .before in
-    c .refusal-of2 .ensures ∙ ap (laid nLaid) (sym (ask-length _ _ (sym (m .before .before .known-of .ensures) ∙ m .enum-told2 .given .1)))
+    c .refusal-of2 .ensures ∙ ap (laid nLaid) (sym (ask-length _ _ (told-length _ (sym (m .before .before .told-of .ensures) ∙ m .enum-told2 .given .1))))
 
 returns-6 : tie.Need-returns-6
 returns-6 c =
     let m = c .before in
-    c .refusal-of3 .ensures ∙ ap (laid nLaid) (sym (ask-broken _ _ (sym (m .before .before .known-of .ensures) ∙ m .enum-told3 .given .1)))
+    c .refusal-of3 .ensures ∙ ap (laid nLaid) (sym (ask-broken _ _ (told-broken _ (sym (m .before .before .told-of .ensures) ∙ m .enum-told3 .given .1))))
 
 pub g-to-n-spec : {M : Type 1} → statement M
 g-to-n-spec =
@@ -151,27 +129,23 @@ g-to-n-spec =
     (λ c. search needs)
     (λ c κs. search needs)
     (λ c κs. search needs)
+    seek-base-requires
+    tables-hold-requires
     (λ c. search needs)
-    (λ c κs. search needs)
-    lone-g-requires
-    (λ c. search needs)
+    spot-at-g-requires
     sure-n-requires
     returns
-    (λ c. search needs)
-    alignment-requires
     beside-n-requires
     (λ c κs. search needs)
     returns-2
-    alignment-requires-2
-    to-n-requires
-    (λ c κs. search needs)
     (λ c. search needs)
-    (λ c κs. search needs)
-    (λ c. search needs)
-    (λ c κs. search needs)
-    (λ c. search needs)
-    (λ c κs. search needs)
+    interval-n-requires
     returns-3
+    (λ c κs. search needs)
+    (λ c. search needs)
+    (λ c κs. search needs)
+    (λ c. search needs)
+    (λ c κs. search needs)
     returns-4
     returns-5
     returns-6)

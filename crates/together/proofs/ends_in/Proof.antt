@@ -1,7 +1,6 @@
 -- After each turn the bits are what `allBelow` says of the ends passed. Assumes nothing.
 use Prim.Native.Nat.{ℕ, _≤_, _-_}
-use mathlib.Core.Bool.{Bool, _&&_}
-use mathlib.Core.Path.{_≡_, ap, _∙_}
+use mathlib.Core.Path.{_≡_, _∙_}
 use borrow.Author.Needs.{needs}
 use Rattle.segments.specs.Tables.{allBelow}
 use Rattle.segments.specs.laws.Gathering.{all-done}

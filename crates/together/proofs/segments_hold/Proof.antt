@@ -1,6 +1,6 @@
 -- What the passes show decides where the last entries are low (`decided`). Assumes nothing.
 use mathlib.Core.Bool.{Bool, true, false, _&&_, _||_}
-use mathlib.Core.Path.{_≡_, refl, sym, ap, ap₂, _∙_}
+use mathlib.Core.Path.{_≡_, ap, ap₂, _∙_}
 use borrow.Author.Needs.{needs}
 use Rattle.segments.specs.Tables.{tables, allBelow, knownAt}
 use Rattle.stepping.specs.Steps.{sameAt, withinAt}

@@ -1,6 +1,6 @@
 -- A number of 32 bits is itself in 64.
 use mir.Syntax.{w32}
-use mir.Val.{Fits, SFits}
+use mir.Val.{Fits}
 use Rattle.whole.specs.laws.Machine.{entry}
 use borrow.Author.Needs.{needs}
 use Rattle.comparing.proofs.answers.of_said.Statement.{statement}

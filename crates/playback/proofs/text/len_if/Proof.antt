@@ -1,6 +1,5 @@
 -- `playback::text::len_if` meets its contract: one line, or none.
 -- Assumes nothing.
-use native.Mathlib.Omega.{arith}
 use Rattle.playback.specs.laws.Lines.{one-line, no-line}
 use borrow.Author.Needs.{needs}
 use Rattle.playback.proofs.text.len_if.Statement.{statement}

@@ -1,7 +1,6 @@
 -- `playback::text::put_if` meets its contract: one line is put, or none.
 -- Assumes nothing.
 use mathlib.Core.Path.{sym}
-use native.Mathlib.Omega.{arith}
 use Rattle.card.specs.laws.Putting.{none-put, put-as, put-length}
 use Rattle.playback.specs.laws.Lines.{one-line, no-line}
 use Rattle.playback.proofs.text.put_if.Statement.{statement}

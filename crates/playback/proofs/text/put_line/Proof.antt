@@ -8,7 +8,6 @@ use Rattle.card.specs.laws.Putting.{byte-put, then-put, put-length}
 use Rattle.spelling.specs.Write.{decimal}
 use Rattle.playback.specs.Lines.{lineOf}
 use Rattle.playback.specs.laws.Lines.{line-length}
-use borrow.Author.Needs.{needs}
 use Rattle.playback.proofs.text.put_line.Statement.{statement}
 use Rattle.playback.proofs.text.put_line.Tie as tie
 

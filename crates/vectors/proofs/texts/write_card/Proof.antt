@@ -1,6 +1,4 @@
 -- The buffer is the end of a larger one.
-use mathlib.Core.Path.{_≡_, _∙_}
-use Prim.Native.Nat.{_-_}
 use lib.ListN.{length-replicate}
 use borrow.Author.Tests.{lt-ltb, le-ltb}
 use Rattle.vectors.proofs.Zeros.{zeros-end}
