@@ -136,7 +136,7 @@ def pieces(path, text):
 
 
 def imported(text, crates):
-    """What the file imports from elsewhere, and the modules of this repository that it imports under another name."""
+    """What the file imports from elsewhere, and the modules of this repository, Rattle's own aside, that it imports under another name."""
     foreign, aliases = set(), set()
     for m in USE.finditer(text):
         head = m[1].split(".")
@@ -146,7 +146,8 @@ def imported(text, crates):
             if not own and words[0].strip():
                 foreign.update(w.strip() for w in words)
         alias = re.match(r"[^\n]*? as (\S+?);?$", text[m.start() : text.find("\n", m.start())])
-        if own and not m[2] and alias:
+        made = {"Tie", "Goals", "Given", "Statement", "contracts", "declared", "TheLaws"} & set(head)
+        if own and not made and not m[2] and alias:
             aliases.add(alias[1])
     return foreign, aliases
 

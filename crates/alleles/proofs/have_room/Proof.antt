@@ -3,15 +3,15 @@ use borrow.Author.Tests.{lt-ltb, le-ltb}
 use Rattle.alleles.proofs.have_room.Statement.{statement}
 use Rattle.alleles.proofs.have_room.Tie as tie
 
-returns : tie.NeedReturns
+returns : tie.Need-returns
 returns c = let a = c.before.args in rw (lt-ltb a.reference-room a.reference c.if1.true)
 
-returns_2 : tie.NeedReturns2
+returns_2 : tie.Need-returns-2
 returns_2 c =
     let a = c.before.before.args in
     rw (le-ltb a.reference-room a.reference c.before.if1.false, lt-ltb a.alternative-room a.alternative c.if2.true)
 
-returns_3 : tie.NeedReturns3
+returns_3 : tie.Need-returns-3
 returns_3 c =
     let a = c.before.before.args in
     rw (le-ltb a.reference-room a.reference c.before.if1.false, le-ltb a.alternative-room a.alternative c.if2.false)

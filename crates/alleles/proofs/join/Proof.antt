@@ -24,11 +24,11 @@ use Rattle.alleles.proofs.join.Statement.{statement}
 use Rattle.alleles.proofs.join.Tie as tie
 
 -- what was found before the test
-module _ (c : tie.AfterFirstRefusal) where
-  abbrev lefts : tie.AfterLeft2
+module _ (c : tie.After-first-refusal) where
+  abbrev lefts : tie.After-left2
   lefts = c.before.before.before.before
 
-  abbrev cutting : tie.AfterTrim
+  abbrev cutting : tie.After-trim
   cutting = lefts.before.before
 
   abbrev start : tie.Start
@@ -88,14 +88,14 @@ module _ (c : tie.AfterFirstRefusal) where
 
 -- where the tests passed
 module _ (c : tie.Then1) where
-  abbrev f : tie.AfterFirstRefusal
+  abbrev f : tie.After-first-refusal
   f = c.before
 
   went : (both_bases (s f) ≡ true) × (have_room (room f) (cuts f) ≡ true) × Answered (plain f)
       × (joined (x f) (strict f) (q f) (s f) (room f) ≡ through (beside (cuts f)) (plain f))
   went = order.goes (x f) (strict f) (q f) (s f) (room f) (sym (found f) ∙ c.if1.true)
 
-put_on_strand_requires : tie.NeedPutOnStrandRequires
+put_on_strand_requires : tie.Need-put-on-strand-requires
 put_on_strand_requires c κs =
     let t = c.before in
     let g = f t in (
@@ -103,7 +103,7 @@ put_on_strand_requires c κs =
       rw (reference_long g) (rooms_say (room g) (cuts g) (went t).1).0,
     )
 
-put_on_strand_requires_2 : tie.NeedPutOnStrandRequires2
+put_on_strand_requires_2 : tie.Need-put-on-strand-requires-2
 put_on_strand_requires_2 c κs =
     let t = c.before.before.before.before.before in
     let g = f t in (
@@ -111,7 +111,7 @@ put_on_strand_requires_2 c κs =
       rw (alternative_long g) (rooms_say (room g) (cuts g) (went t).1).1,
     )
 
-returns : tie.NeedReturns
+returns : tie.Need-returns
 returns c =
     let p₂ = c.before.before.before in
     let p = p₂.before.before.before.before in
@@ -133,7 +133,7 @@ returns c =
       ),
     )
 
-returns_2 : tie.NeedReturns2
+returns_2 : tie.Need-returns-2
 returns_2 c =
     let e = c.before in
     let g = e.before in

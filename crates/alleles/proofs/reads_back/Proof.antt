@@ -16,13 +16,13 @@ is_records c =
     let kind : SFits w32 c.before.before.args.head.kind = record { sfits = c.before.struct_told.given.0.1 } in
     same_32 {b = pos 0} kind (record { sfits = omega arith }) c.if1.true
 
-returns : tie.NeedReturns
+returns : tie.Need-returns
 returns c = let f = c.before in rw (is_records f.before, sym f.is-forward.ensures ∙ c.if2.true)
 
-returns_2 : tie.NeedReturns2
+returns_2 : tie.Need-returns-2
 returns_2 c = let f = c.before in rw (is_records f.before, sym f.is-forward.ensures ∙ c.if2.false)
 
-returns_3 : tie.NeedReturns3
+returns_3 : tie.Need-returns-3
 returns_3 c = rw (other_32 c.before.before.args.head.kind (pos 0) c.if1.false)
 
 pub reads_back_spec : {M : Type 1} → statement M

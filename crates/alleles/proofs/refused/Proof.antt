@@ -3,7 +3,7 @@ use borrow.Author.Rules.{rules}
 use Rattle.alleles.proofs.refused.Statement.{statement}
 use Rattle.alleles.proofs.refused.Tie as tie
 
-returns : tie.NeedReturns
+returns : tie.Need-returns
 returns c = rw c.lay-c.ensures
 
 pub refused_spec : {M : Type 1} → statement M

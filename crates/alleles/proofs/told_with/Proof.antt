@@ -3,7 +3,7 @@ use borrow.Author.Rules.{rules}
 use Rattle.alleles.proofs.told_with.Statement.{statement}
 use Rattle.alleles.proofs.told_with.Tie as tie
 
-returns : tie.NeedReturns
+returns : tie.Need-returns
 returns c = rw c.lay-c.ensures
 
 pub told_with_spec : {M : Type 1} → statement M

@@ -5,7 +5,7 @@ use Rattle.asking.specs.Asking.{named}
 use Rattle.asking.proofs.answer_of.Statement.{statement}
 use Rattle.asking.proofs.answer_of.Tie as tie
 
-returns : tie.NeedReturns
+returns : tie.Need-returns
 unfolding named
 returns c =
     let w = c.before.before in
@@ -19,7 +19,7 @@ returns c =
       w.if1.true,
     )
 
-returns_2 : tie.NeedReturns2
+returns_2 : tie.Need-returns-2
 unfolding named
 returns_2 c =
     let w = c.before.before in
@@ -34,7 +34,7 @@ returns_2 c =
       w.if2.true,
     )
 
-returns_3 : tie.NeedReturns3
+returns_3 : tie.Need-returns-3
 unfolding named
 returns_3 c =
     let w = c.before.before in
@@ -50,7 +50,7 @@ returns_3 c =
       w.if3.true,
     )
 
-returns_4 : tie.NeedReturns4
+returns_4 : tie.Need-returns-4
 unfolding named
 returns_4 c =
     let w = c.before.before in
@@ -67,7 +67,7 @@ returns_4 c =
       w.if4.true,
     )
 
-returns_5 : tie.NeedReturns5
+returns_5 : tie.Need-returns-5
 unfolding named
 returns_5 c =
     let w = c.before.before in
@@ -85,7 +85,7 @@ returns_5 c =
       w.if5.true,
     )
 
-returns_6 : tie.NeedReturns6
+returns_6 : tie.Need-returns-6
 unfolding named
 returns_6 c =
     let w = c.before.before in

@@ -5,11 +5,11 @@ use Rattle.asking.specs.Asking.{asked}
 use Rattle.asking.proofs.ask.Statement.{statement}
 use Rattle.asking.proofs.ask.Tie as tie
 
-returns : tie.NeedReturns
+returns : tie.Need-returns
 unfolding asked
 returns c = rw (sym c.before.before.is-holdable.ensures ∙ c.before.if1.true) c.answer-of.ensures
 
-returns_2 : tie.NeedReturns2
+returns_2 : tie.Need-returns-2
 unfolding asked
 returns_2 c = rw (sym c.before.before.is-holdable.ensures ∙ c.before.if1.false) c.refusal-of.ensures
 

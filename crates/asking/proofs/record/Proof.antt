@@ -5,7 +5,7 @@ use Rattle.asking.specs.Asking.{asked, recording, recorded_laid}
 use Rattle.asking.proofs.record.Statement.{statement}
 use Rattle.asking.proofs.record.Tie as tie
 
-returns : tie.NeedReturns
+returns : tie.Need-returns
 unfolding asked recording
 returns c =
     let put = c.before.before.before in
@@ -13,7 +13,7 @@ returns c =
     rw (sym told.before.before.is-holdable.ensures ∙ told.before.if1.true, ← told.answer-of.ensures)
     (c.lay-recorded.ensures ∙ ap (recorded_laid told.answer-of.result) put.append.ensures.0, put.append.ensures.1)
 
-returns_2 : tie.NeedReturns2
+returns_2 : tie.Need-returns-2
 unfolding asked recording
 returns_2 c = rw (sym c.before.before.before.is-holdable.ensures ∙ c.before.before.if1.false) (c.lay-recorded2.ensures, refl)
 

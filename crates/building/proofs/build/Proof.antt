@@ -3,7 +3,7 @@ use borrow.Author.Rules.{rules}
 use Rattle.building.proofs.build.Statement.{statement}
 use Rattle.building.proofs.build.Tie as tie
 
-returns : tie.NeedReturns
+returns : tie.Need-returns
 returns c = c.build-into.ensures
 
 pub build_spec : {M : Type 1} → statement M

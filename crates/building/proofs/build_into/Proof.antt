@@ -23,7 +23,7 @@ one : SFits w32 (pos 1)
 one = omega arith
 
 -- where the judgment is no refusal
-module _ (c : tie.AfterKnownTold) where
+module _ (c : tie.After-known-told) where
   abbrev begin : tie.Start
   begin = c.before.before.before.before.before.before.before.before.before
 
@@ -39,19 +39,19 @@ module _ (c : tie.AfterKnownTold) where
   pass : Told (judge n bytes) to
   pass = told_made (judge n bytes) (sym c.before.to.given.1 ∙ c.before.before.before.judge.ensures.0)
 
-write_tables_requires : tie.NeedWriteTablesRequires
+write_tables_requires : tie.Need-write-tables-requires
 write_tables_requires c κs =
     let k = c.before.before.before.before.before in
     let p = pass k in
     ((begin k).requires.0, ((begin k).requires.1, ((is_ready (n k) (bytes k) (to k) p, few_records (n k) (bytes k) (to k) p, is_small (n k) (bytes k) (to k) p), told_all (n k) (bytes k) (to k) p)))
 
-head_of_requires : tie.NeedHeadOfRequires
+head_of_requires : tie.Need-head-of-requires
 head_of_requires c κs =
     let k = c.before.before.before.before.before.before.before.before.before.before.before.before.before.before in
     let p = pass k in
     ((is_ready (n k) (bytes k) (to k) p).stands.numbers, (is_small (n k) (bytes k) (to k) p).few, known (n k) (bytes k) (to k) p, few_records (n k) (bytes k) (to k) p)
 
-returns : tie.NeedReturns
+returns : tie.Need-returns
 returns c =
     let at_strand = c.before.before.before.before.before.before.before.before.before.before.before.before.before.before in
     let k = at_strand.before in
@@ -66,7 +66,7 @@ returns c =
       ),
     )
 
-returns_2 : tie.NeedReturns2
+returns_2 : tie.Need-returns-2
 returns_2 c =
     let a = c.before.before.before.before.before.before.before.before.before.args in
     let told = sym c.before.k.given.1 ∙ c.before.before.before.judge.ensures.0 in

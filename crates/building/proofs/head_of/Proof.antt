@@ -7,7 +7,7 @@ use borrow.Author.Rules.{rules}
 use Rattle.building.proofs.head_of.Statement.{statement}
 use Rattle.building.proofs.head_of.Tie as tie
 
-returns : tie.NeedReturns
+returns : tie.Need-returns
 returns c =
     let at_first = c.before.before.before.before.before in
     let s = at_first.before.before.before in

@@ -6,27 +6,27 @@ use Rattle.canonical.specs.Canonical.{refusals_of}
 use Rattle.canonical.proofs.can_refuse.Statement.{statement}
 use Rattle.canonical.proofs.can_refuse.Tie as tie
 
-returns : tie.NeedReturns
+returns : tie.Need-returns
 unfolding refusals_of
 returns c = rw (eq-eqb _ _ c.before.before.if1.true) c.is-listed.ensures
 
-returns_2 : tie.NeedReturns2
+returns_2 : tie.Need-returns-2
 unfolding refusals_of
 returns_2 c = rw (ne_eqb _ _ c.before.before.before.if1.false, eq-eqb _ _ c.before.before.if2.true) c.is-listed2.ensures
 
-returns_3 : tie.NeedReturns3
+returns_3 : tie.Need-returns-3
 unfolding refusals_of
 returns_3 c = rw (ne_eqb _ _ c.before.before.before.before.if1.false, ne_eqb _ _ c.before.before.before.if2.false, eq-eqb _ _ c.before.before.if3.true) c.is-listed3.ensures
 
-returns_4 : tie.NeedReturns4
+returns_4 : tie.Need-returns-4
 unfolding refusals_of
 returns_4 c = rw (ne_eqb _ _ c.before.before.before.before.before.if1.false, ne_eqb _ _ c.before.before.before.before.if2.false, ne_eqb _ _ c.before.before.before.if3.false, eq-eqb _ _ c.before.before.if4.true) c.is-listed4.ensures
 
-returns_5 : tie.NeedReturns5
+returns_5 : tie.Need-returns-5
 unfolding refusals_of
 returns_5 c = rw (ne_eqb _ _ c.before.before.before.before.before.before.if1.false, ne_eqb _ _ c.before.before.before.before.before.if2.false, ne_eqb _ _ c.before.before.before.before.if3.false, ne_eqb _ _ c.before.before.before.if4.false, eq-eqb _ _ c.before.before.if5.true) c.is-listed5.ensures
 
-returns_6 : tie.NeedReturns6
+returns_6 : tie.Need-returns-6
 unfolding refusals_of
 returns_6 c = rw (ne_eqb _ _ c.before.before.before.before.before.before.if1.false, ne_eqb _ _ c.before.before.before.before.before.if2.false, ne_eqb _ _ c.before.before.before.before.if3.false, ne_eqb _ _ c.before.before.before.if4.false, ne_eqb _ _ c.before.before.if5.false) c.is-listed6.ensures
 

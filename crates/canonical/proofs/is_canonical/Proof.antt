@@ -4,7 +4,7 @@ use Rattle.canonical.specs.Canonical.{canonical}
 use Rattle.canonical.proofs.is_canonical.Statement.{statement}
 use Rattle.canonical.proofs.is_canonical.Tie as tie
 
-returns : tie.NeedReturns
+returns : tie.Need-returns
 unfolding canonical
 returns c = rw (c.before.is-holdable.ensures, c.is-sayable.ensures)
 

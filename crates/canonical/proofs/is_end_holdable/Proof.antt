@@ -6,7 +6,7 @@ use Rattle.canonical.specs.Canonical.{is_zero, end_holdable}
 use Rattle.canonical.proofs.is_end_holdable.Statement.{statement}
 use Rattle.canonical.proofs.is_end_holdable.Tie as tie
 
-returns : tie.NeedReturns
+returns : tie.Need-returns
 unfolding end_holdable
 returns c =
     let offset = c.before.before.before in

@@ -7,7 +7,7 @@ use Rattle.canonical.specs.Canonical.{is_zero, end_sayable}
 use Rattle.canonical.proofs.is_end_sayable.Statement.{statement}
 use Rattle.canonical.proofs.is_end_sayable.Tie as tie
 
-returns : tie.NeedReturns
+returns : tie.Need-returns
 unfolding end_sayable
 returns c =
     let offset = c.before.before in

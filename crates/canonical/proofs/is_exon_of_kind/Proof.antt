@@ -5,11 +5,11 @@ use Rattle.canonical.specs.Canonical.{exon_of_kind}
 use Rattle.canonical.proofs.is_exon_of_kind.Statement.{statement}
 use Rattle.canonical.proofs.is_exon_of_kind.Tie as tie
 
-returns : tie.NeedReturns
+returns : tie.Need-returns
 unfolding exon_of_kind
 returns c = rw (sym c.before.is_plain.ensures ∙ c.if1.true)
 
-returns_2 : tie.NeedReturns2
+returns_2 : tie.Need-returns-2
 unfolding exon_of_kind
 returns_2 c = rw (sym c.before.is_plain.ensures ∙ c.if1.false)
 

@@ -6,7 +6,7 @@ use Rattle.canonical.specs.Canonical.{holdable}
 use Rattle.canonical.proofs.is_holdable.Statement.{statement}
 use Rattle.canonical.proofs.is_holdable.Tie as tie
 
-returns : tie.NeedReturns
+returns : tie.Need-returns
 unfolding holdable
 returns c =
     let q = c.before.before.before.before.before.before.before.before.args.q in

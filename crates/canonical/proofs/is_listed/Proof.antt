@@ -13,13 +13,13 @@ use Rattle.refusals.specs.Refusing.{one_of}
 use Rattle.canonical.proofs.is_listed.Statement.{statement}
 use Rattle.canonical.proofs.is_listed.Tie as tie
 
-abbrev invariant_loop : tie.invariant_loop
+abbrev invariant_loop : tie.invariant-loop
 invariant_loop n list i₀ i = (i ≤ length list) × (one_of n list ≡ one_of n (drop i list))
 
-abbrev decreases_loop : tie.decreases_loop
+abbrev decreases_loop : tie.decreases-loop
 decreases_loop n list i₀ i = length list - i
 
-loop_holds : tie.NeedLoopInit invariant_loop decreases_loop
+loop_holds : tie.Need-loop-init invariant_loop decreases_loop
 loop_holds c = (omega arith, refl)
 
 -- the list from a place on
@@ -32,19 +32,19 @@ further n l i h e = rw (add-one i, drop-cons l i 0 h, ne_eqb n (get_or l i 0) e)
 nowhere : (n : ℕ) (l : List ℕ) (i : ℕ) → length l ≤ i → one_of n (drop i l) ≡ false
 nowhere n l i h = rw (drop_of_length-le l {i = i} h)
 
-returns : tie.NeedReturns invariant_loop decreases_loop
+returns : tie.Need-returns invariant_loop decreases_loop
 returns c =
     let l = c.before.before.before.loop in
     let a = c.before.before.before.before.before.args in
     sym (l.invariant.1 ∙ here a.n a.list.now l.i c.before.before.loop-test.true (c.if1.true ∙ c.before.u8-at.ensures.0))
 
-loop_again : tie.NeedLoopPreserved invariant_loop decreases_loop
+loop_again : tie.Need-loop-preserved invariant_loop decreases_loop
 loop_again c =
     let l = c.before.before.before.loop in
     let a = c.before.before.before.before.before.args in
     (omega arith, l.invariant.1 ∙ further a.n a.list.now l.i c.before.before.loop-test.true (λ e. c.if1.false (e ∙ sym c.before.u8-at.ensures.0)))
 
-returns_2 : tie.NeedReturns2 invariant_loop decreases_loop
+returns_2 : tie.Need-returns-2 invariant_loop decreases_loop
 returns_2 c =
     let l = c.before.loop in
     let a = c.before.before.before.args in

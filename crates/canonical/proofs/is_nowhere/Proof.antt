@@ -7,7 +7,7 @@ use Rattle.canonical.specs.Canonical.{is_zero, is_nowhere}
 use Rattle.canonical.proofs.is_nowhere.Statement.{statement}
 use Rattle.canonical.proofs.is_nowhere.Tie as tie
 
-returns : tie.NeedReturns
+returns : tie.Need-returns
 unfolding is_nowhere
 returns c =
     let offset = c.before.before in

@@ -5,13 +5,13 @@ use Rattle.canonical.specs.Canonical.{sayable}
 use Rattle.canonical.proofs.is_sayable.Statement.{statement}
 use Rattle.canonical.proofs.is_sayable.Tie as tie
 
-returns : tie.NeedReturns
+returns : tie.Need-returns
 unfolding sayable
 returns c =
     let refused = c.before.before in
     rw (eq-eqb _ _ refused.before.if1.true, refused.can-refuse.ensures, c.before.is-nowhere.ensures, c.is-nowhere2.ensures)
 
-returns_2 : tie.NeedReturns2
+returns_2 : tie.Need-returns-2
 unfolding sayable
 returns_2 c =
     let tag = c.before.before.before in

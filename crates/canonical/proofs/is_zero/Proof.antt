@@ -5,7 +5,7 @@ use Rattle.whole.specs.laws.Machine.{bits_32}
 use Rattle.canonical.proofs.is_zero.Statement.{statement}
 use Rattle.canonical.proofs.is_zero.Tie as tie
 
-returns : tie.NeedReturns
+returns : tie.Need-returns
 returns c = bits_32 {b = pos 0} c.ranges.z (record { sfits = omega arith })
 
 pub is_zero_spec : {M : Type 1} → statement M

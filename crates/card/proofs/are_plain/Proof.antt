@@ -13,16 +13,16 @@ use borrow.Author.Rules.{rules}
 use Rattle.card.proofs.are_plain.Statement.{statement}
 use Rattle.card.proofs.are_plain.Tie as tie
 
-cast_is_same : tie.NeedOverflowCastIsSame
+cast_is_same : tie.Need-overflow-cast-is-same
 cast_is_same c = search whole
 
-cast_is_same_2 : tie.NeedOverflowCastIsSame2
+cast_is_same_2 : tie.Need-overflow-cast-is-same-2
 cast_is_same_2 c = search whole
 
-cast_is_same_3 : tie.NeedOverflowCastIsSame3
+cast_is_same_3 : tie.Need-overflow-cast-is-same-3
 cast_is_same_3 c = search whole
 
-cast_is_same_4 : tie.NeedOverflowCastIsSame4
+cast_is_same_4 : tie.Need-overflow-cast-is-same-4
 cast_is_same_4 c = search whole
 
 -- a test of two numbers that were widened
@@ -30,7 +30,7 @@ narrow_test : {t : Bool} {n m z : ℤ} → SFits w32 n → SFits w32 z → t ≡
     → eq_z m z ≡ t
 narrow_test f g e q = sym (e ∙ ap₂ eq_z (widened f ∙ q) (widened g))
 
-module _ (c : tie.AfterIsSame) where
+module _ (c : tie.After-is-same) where
   abbrev start_entry : tie.Start
   start_entry = c.before.before.before.before.before
 
@@ -39,7 +39,7 @@ module _ (c : tie.AfterIsSame) where
       narrow_test (record { sfits = c.before.before.before.number-of.type-inv }) start_entry.fits.start c.is_same.ensures
       (c.before.before.before.number-of.ensures ∙ ap number_of (c.before.before.before.before.start_of_lem.ensures ∙ ap (start_of start_entry.args.cds) (read start_entry.fits.start)))
 
-module _ (c : tie.AfterIsSame2) where
+module _ (c : tie.After-is-same2) where
   abbrev end_entry : tie.Start
   end_entry = c.before.before.before.before.before.before.before
 
@@ -48,11 +48,11 @@ module _ (c : tie.AfterIsSame2) where
       narrow_test (record { sfits = c.before.before.before.number-of2.type-inv }) end_entry.fits.end c.is-same2.ensures
       (c.before.before.before.number-of2.ensures ∙ ap number_of (c.before.before.before.before.end_of_lem.ensures ∙ ap (end_of end_entry.args.cds) (read end_entry.fits.end)))
 
-returns : tie.NeedReturns
+returns : tie.Need-returns
 unfolding are_plain
 returns c = rw (start_same c.before.before, c.before.if1.true, end_same c)
 
-returns_2 : tie.NeedReturns2
+returns_2 : tie.Need-returns-2
 unfolding are_plain
 returns_2 c = rw (start_same c.before, c.if1.false)
 

@@ -20,7 +20,7 @@ use Rattle.card.proofs.build_card.Statement.{statement}
 use Rattle.card.proofs.build_card.Tie as tie
 
 -- the numbers that were read
-module _ (c : tie.AfterKnownTold) where
+module _ (c : tie.After-known-told) where
   abbrev bytes : List ℕ
   bytes = c.before.before.before.before.before.args.card.now
 
@@ -39,13 +39,13 @@ module _ (c : tie.AfterKnownTold) where
       ap (judge numbers) (take_all (length bytes - records_at) (drop records_at bytes) (omega (arith, length-drop records_at bytes)))
       ∙ sym (ap (judge_read bytes) read_is)
 
-sub_build : tie.NeedOverflowSubBuild
+sub_build : tie.Need-overflow-sub-build
 sub_build c = long c
 
-part_build_start : tie.NeedSliceBoundsBuildStart
+part_build_start : tie.Need-slice-bounds-build-start
 part_build_start c = long c
 
-returns : tie.NeedReturns
+returns : tie.Need-returns
 returns c =
     let k = c.before.before.before.before.before.before in
     let a = k.before.before.before.before.before.args in
@@ -58,7 +58,7 @@ returns c =
       ),
     )
 
-returns_2 : tie.NeedReturns2
+returns_2 : tie.Need-returns-2
 returns_2 c =
     let a = c.before.before.before.before.before.args in
     let k = c.before.k.given in

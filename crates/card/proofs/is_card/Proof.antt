@@ -20,21 +20,21 @@ use borrow.Author.Rules.{rules}
 use Rattle.card.proofs.is_card.Statement.{statement}
 use Rattle.card.proofs.is_card.Tie as tie
 
-returns : tie.NeedReturns
+returns : tie.Need-returns
 unfolding is_card
 returns c = rw (lt-leb _ _ c.if1.true)
 
-returns_2 : tie.NeedReturns2
+returns_2 : tie.Need-returns-2
 unfolding is_card
 returns_2 c = rw (le-leb _ _ c.before.before.if1.false, lt-leb _ _ c.if2.true)
 
-returns_3 : tie.NeedReturns3
+returns_3 : tie.Need-returns-3
 returns_3 c =
     let s = c.before.before.before.before.before.before.before in
     rw (card_is s.args.card.now c.before.before.read-numbers.ensures c.before.before.before.before.before.if1.false c.before.before.before.if2.false, lt-leb _ _ c.if3.true)
 
 -- what is left of the tests once the numbers are read
-module _ (c : tie.AfterArePlain) where
+module _ (c : tie.After-are-plain) where
   abbrev entry : tie.Start
   entry = c.before.before.before.before.before.before.before.before.before.before
 
@@ -54,14 +54,14 @@ module _ (c : tie.AfterArePlain) where
       card_is bytes c.before.before.before.before.before.read-numbers.ensures c.before.before.before.before.before.before.before.before.if1.false c.before.before.before.before.before.before.if2.false
       ∙ rw (le-leb numbers.cds both_bits c.before.before.before.if3.false, plain_is)
 
-returns_4 : tie.NeedReturns4
+returns_4 : tie.Need-returns-4
 returns_4 c =
     let a = c.before.before.before in
     let whole : take (length (bytes a) - records_at) (drop records_at (bytes a)) ≡ drop records_at (bytes a) = take_all (length (bytes a) - records_at) (drop records_at (bytes a)) (omega (arith, length-drop records_at (bytes a))) in
     c.are-records.ensures ∙ ap (λ (l : List ℕ). exactly (numbers a).count l 0) whole
     ∙ sym (tests a ∙ ap (λ (t : Bool). t && exactly (numbers a).count (drop records_at (bytes a)) 0) c.before.before.if4.true)
 
-returns_5 : tie.NeedReturns5
+returns_5 : tie.Need-returns-5
 returns_5 c =
     let a = c.before in
     sym (tests a ∙ ap (λ (t : Bool). t && exactly (numbers a).count (drop records_at (bytes a)) 0) c.if4.false)

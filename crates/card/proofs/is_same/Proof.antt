@@ -4,10 +4,10 @@ use Rattle.whole.specs.laws.Whole.{whole}
 use Rattle.card.proofs.is_same.Statement.{statement}
 use Rattle.card.proofs.is_same.Tie as tie
 
-returns : tie.NeedReturns
+returns : tie.Need-returns
 returns c = search whole
 
-returns_2 : tie.NeedReturns2
+returns_2 : tie.Need-returns-2
 returns_2 c = search whole
 
 pub is_same_spec : {M : Type 1} → statement M

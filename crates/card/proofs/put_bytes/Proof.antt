@@ -12,32 +12,32 @@ use borrow.Author.Rules.{rules}
 use Rattle.card.proofs.put_bytes.Statement.{statement}
 use Rattle.card.proofs.put_bytes.Tie as tie
 
-abbrev invariant_loop : tie.invariant_loop
+abbrev invariant_loop : tie.invariant-loop
 invariant_loop buffer₀ at bytes i₀ buffer i =
     (i ≤ length bytes) × (length buffer ≡ length buffer₀) × (buffer ≡ sets buffer₀ at (take i bytes))
 
-abbrev decreases_loop : tie.decreases_loop
+abbrev decreases_loop : tie.decreases-loop
 decreases_loop buffer₀ at bytes i₀ buffer i = length bytes - i
 
-loop_holds : tie.NeedLoopInit invariant_loop decreases_loop
+loop_holds : tie.Need-loop-init invariant_loop decreases_loop
 loop_holds c = (omega arith, refl, refl)
 
-shared_slice_read_buffer : tie.NeedSharedSliceReadBuffer invariant_loop decreases_loop
+shared_slice_read_buffer : tie.Need-shared-slice-read-buffer invariant_loop decreases_loop
 shared_slice_read_buffer c = search rules
 
-add_buffer : tie.NeedOverflowAddBuffer invariant_loop decreases_loop
+add_buffer : tie.Need-overflow-add-buffer invariant_loop decreases_loop
 add_buffer c = search rules
 
-slice_write_buffer : tie.NeedSliceWriteBuffer invariant_loop decreases_loop
+slice_write_buffer : tie.Need-slice-write-buffer invariant_loop decreases_loop
 slice_write_buffer c = search rules
 
-add_i : tie.NeedOverflowAddI invariant_loop decreases_loop
+add_i : tie.Need-overflow-add-i invariant_loop decreases_loop
 add_i c = search rules
 
-loop_less : tie.NeedLoopSmaller invariant_loop decreases_loop
+loop_less : tie.Need-loop-smaller invariant_loop decreases_loop
 loop_less c = search rules
 
-loop_again : tie.NeedLoopPreserved invariant_loop decreases_loop
+loop_again : tie.Need-loop-preserved invariant_loop decreases_loop
 loop_again c =
     let a = c.before.before.before.args in
     let l = c.before.before.loop in
@@ -50,10 +50,10 @@ loop_again c =
           (ap (λ (b : List ℕ). set b (a.at + l.i) (get_or a.bytes.now l.i 0)) l.invariant.2),
     )
 
-same_length : tie.NeedSameLength invariant_loop decreases_loop
+same_length : tie.Need-same-length invariant_loop decreases_loop
 same_length c = c.before.loop.invariant.1
 
-returns : tie.NeedReturns invariant_loop decreases_loop
+returns : tie.Need-returns invariant_loop decreases_loop
 returns c =
     let a = c.before.before.args in
     let l = c.before.loop in

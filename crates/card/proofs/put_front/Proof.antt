@@ -11,7 +11,7 @@ use borrow.Author.Rules.{rules}
 use Rattle.card.proofs.put_front.Statement.{statement}
 use Rattle.card.proofs.put_front.Tie as tie
 
-module _ (c : tie.AfterSliceKnown3) where
+module _ (c : tie.After-slice-known3) where
   abbrev start : tie.Start
   start = c.before.before.before.before.before.before.before.before.before
 
@@ -21,11 +21,11 @@ module _ (c : tie.AfterSliceKnown3) where
       ap (λ (b : List ℕ). set (set b strand_at start.args.strand) cds_at start.args.cds)
       (c.before.before.put-u16.ensures ∙ ap (λ (b : List ℕ). sets b version_at (bytes16 version)) c.before.before.before.before.before.before.put-mark.ensures)
 
-same_length : tie.NeedSameLength
+same_length : tie.Need-same-length
 same_length c =
     ap length (stored c) ∙ length-sets (start c).args.buffer.now 0 (mark ++ bytes16 version ++ (start c).args.strand ∷ (start c).args.cds ∷ [])
 
-returns : tie.NeedReturns
+returns : tie.Need-returns
 returns c = stored c
 
 pub put_front_spec : {M : Type 1} → statement M

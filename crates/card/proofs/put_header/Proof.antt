@@ -15,24 +15,24 @@ use borrow.Author.Rules.{rules}
 use Rattle.card.proofs.put_header.Statement.{statement}
 use Rattle.card.proofs.put_header.Tie as tie
 
-cast_strand_byte : tie.NeedOverflowCastStrandByte
+cast_strand_byte : tie.Need-overflow-cast-strand-byte
 cast_strand_byte c = search whole
 
-module _ (c : tie.AfterSliceKnown5) where
+module _ (c : tie.After-slice-known5) where
   -- the places after the end, the start, the front and its two bytes were put, and the function's entry
-  abbrev at_end : tie.AfterPutI322
+  abbrev at_end : tie.After-put-i322
   at_end = c.before.before.before.before.before.before
 
-  abbrev at_start : tie.AfterPutI32
+  abbrev at_start : tie.After-put-i32
   at_start = at_end.before.before.before.before.before
 
-  abbrev at_front : tie.AfterPutFront
+  abbrev at_front : tie.After-put-front
   at_front = at_start.before.before.before.before.before
 
-  abbrev at_cds : tie.AfterCdsByte
+  abbrev at_cds : tie.After-cds-byte
   at_cds = at_front.before
 
-  abbrev at_strand : tie.AfterStrandByte
+  abbrev at_strand : tie.After-strand-byte
   at_strand = at_cds.before
 
   abbrev entry : tie.Start
@@ -56,7 +56,7 @@ module _ (c : tie.AfterSliceKnown5) where
       let n = at_end.before.number-of2 in
       at_end.put-i322.ensures ∙ ap (λ (z : ℤ). sets at_start.put-i32.last.0 end_at (bytes32 (bits32 z))) (told w32 n.result n.ok ∙ n.ensures)
 
-returns : tie.NeedReturns
+returns : tie.Need-returns
 unfolding header_text
 returns c =
     c.before.before.put-u16.ensures

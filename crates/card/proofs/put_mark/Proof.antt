@@ -5,10 +5,10 @@ use borrow.Author.Rules.{rules}
 use Rattle.card.proofs.put_mark.Statement.{statement}
 use Rattle.card.proofs.put_mark.Tie as tie
 
-slice_write_buffer_2 : tie.NeedSliceWriteBuffer2
+slice_write_buffer_2 : tie.Need-slice-write-buffer-2
 slice_write_buffer_2 c = simp length-set (omega arith)
 
-slice_write_buffer_3 : tie.NeedSliceWriteBuffer3
+slice_write_buffer_3 : tie.Need-slice-write-buffer-3
 slice_write_buffer_3 c = simp length-set (omega arith)
 
 pub put_mark_spec : {M : Type 1} → statement M

@@ -14,12 +14,12 @@ use borrow.Author.Rules.{rules}
 use Rattle.card.proofs.read_card.Statement.{statement}
 use Rattle.card.proofs.read_card.Tie as tie
 
-returns : tie.NeedReturns
+returns : tie.Need-returns
 unfolding read_card
 returns c = rw (lt-ltb _ _ c.if1.true)
 
 -- what each test has shown
-abbrev bytes : tie.AfterIsMarked → List ℕ
+abbrev bytes : tie.After-is-marked → List ℕ
 bytes c = c.before.before.before.args.card.now
 
 marked : (c : tie.Then2) → is_marked (bytes c.before) ≡ true
@@ -31,32 +31,32 @@ version_right c = sym c.before.u16-at.ensures.0 ∙ c.if3.true
 whole : (c : tie.Then4) → is_card (bytes c.before.before.before.before.before) ≡ true
 whole c = sym c.before.is-card.ensures ∙ c.if4.true
 
-u16_at_requires : tie.NeedU16AtRequires
+u16_at_requires : tie.Need-u16-at-requires
 u16_at_requires c κs = marked_long (bytes c.before) (marked c)
 
-read_numbers_requires : tie.NeedReadNumbersRequires
+read_numbers_requires : tie.Need-read-numbers-requires
 read_numbers_requires c κs = card_long (bytes c.before.before.before.before.before) (whole c)
 
-returns_2 : tie.NeedReturns2
+returns_2 : tie.Need-returns-2
 unfolding read_card
 returns_2 c =
     let t = c.before.before.before.before.before in
     rw (le-ltb _ _ t.before.before.if1.false, marked t, eq-eqb _ _ (version_right c.before.before.before), whole c.before)
     (ap read.Card c.read-numbers.ensures)
 
-returns_3 : tie.NeedReturns3
+returns_3 : tie.Need-returns-3
 unfolding read_card
 returns_3 c =
     let t = c.before.before.before.before in
     rw (le-ltb _ _ t.before.before.if1.false, marked t, eq-eqb _ _ (version_right c.before.before), sym c.before.is-card.ensures ∙ c.if4.false)
 
-returns_4 : tie.NeedReturns4
+returns_4 : tie.Need-returns-4
 unfolding read_card
 returns_4 c =
     let t = c.before.before in
     rw (le-ltb _ _ t.before.before.if1.false, marked t, ne_eqb _ _ (λ e. c.if3.false (c.before.u16-at.ensures.0 ∙ e)))
 
-returns_5 : tie.NeedReturns5
+returns_5 : tie.Need-returns-5
 unfolding read_card
 returns_5 c = rw (le-ltb _ _ c.before.before.if1.false, sym c.before.is-marked.ensures ∙ c.if2.false)
 

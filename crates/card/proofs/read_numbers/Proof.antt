@@ -11,14 +11,14 @@ use Rattle.transcript.specs.declared.Numbers.{Numbers}
 use Rattle.card.proofs.read_numbers.Statement.{statement}
 use Rattle.card.proofs.read_numbers.Tie as tie
 
-cast_cds : tie.NeedOverflowCastCds
+cast_cds : tie.Need-overflow-cast-cds
 cast_cds c = omega (arith, c.shared-slice-known3.given 6)
 
 same_numbers : {s t a b x y : ℤ} {d m n : ℕ} → s ≡ t → a ≡ b → x ≡ y → m ≡ n
     → ◌≡◌ {A = Numbers} (record { strand = s; cds = d; start = a; end = x; count = m }) (record { strand = t; cds = d; start = b; end = y; count = n })
 same_numbers e f g h = rw (e, f, g, h)
 
-returns : tie.NeedReturns
+returns : tie.Need-returns
 unfolding numbers_in
 returns c =
     let strand = c.before.before.before.before.strand-of in

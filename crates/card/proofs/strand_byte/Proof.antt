@@ -4,10 +4,10 @@ use Rattle.whole.specs.laws.Whole.{whole}
 use Rattle.card.proofs.strand_byte.Statement.{statement}
 use Rattle.card.proofs.strand_byte.Tie as tie
 
-returns : tie.NeedReturns
+returns : tie.Need-returns
 returns c = search whole
 
-returns_2 : tie.NeedReturns2
+returns_2 : tie.Need-returns-2
 returns_2 c = search whole
 
 pub strand_byte_spec : {M : Type 1} → statement M

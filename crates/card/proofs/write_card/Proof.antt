@@ -22,15 +22,15 @@ module _ (e : tie.Start) where
   abbrev written_if_taken : Writing
   written_if_taken = fitted most_card (length e.args.buffer.now) (card_text (input_of e.args.numbers e.args.records.now))
 
-abbrev entry : tie.AfterJudge → tie.Start
+abbrev entry : tie.After-judge → tie.Start
 entry c = c.before.before.before
 
-taken : (c : tie.AfterEnumTold) → (m : Made) × (judgment (entry c.before.before) ≡ answered m)
+taken : (c : tie.After-enum-told) → (m : Made) × (judgment (entry c.before.before) ≡ answered m)
 taken c =
     let t = told_made (judgment (entry c.before.before)) (sym c.enum_told.given.1 ∙ c.before.before.judge.ensures.0) in
     (t.made, t.judged)
 
-write_taken_requires : tie.NeedWriteTakenRequires
+write_taken_requires : tie.Need-write-taken-requires
 write_taken_requires c κs =
     let t = taken c.before in
     let a = (entry c.before.before.before).args in
@@ -42,7 +42,7 @@ writing_is : (e : tie.Start) (j : Outcome Made) → judgment e ≡ j
 unfolding card_writing
 writing_is e j h = ap (λ (x : Outcome Made). if_taken x (written_if_taken e)) h
 
-returns : tie.NeedReturns
+returns : tie.Need-returns
 returns c =
     let t = taken c.before.before.before.before in
     let e = entry c.before.before.before.before.before.before in
@@ -50,7 +50,7 @@ returns c =
     let written = c.before.before.write-taken.ensures in
     (written.0 ∙ sym (ap written_answer w), written.1 ∙ sym (ap (buffer_after e.args.buffer.now) w))
 
-returns_2 : tie.NeedReturns2
+returns_2 : tie.Need-returns-2
 returns_2 c =
     let e = entry c.before.before.before in
     let k = c.before.k.given in

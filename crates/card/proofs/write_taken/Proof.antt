@@ -26,7 +26,7 @@ use Rattle.card.proofs.write_taken.Statement.{statement}
 use Rattle.card.proofs.write_taken.Tie as tie
 
 -- the card, and its size
-module _ (c : tie.AfterSharedSliceKnown) where
+module _ (c : tie.After-shared-slice-known) where
   abbrev entry : tie.Start
   entry = c.before
 
@@ -39,13 +39,13 @@ module _ (c : tie.AfterSharedSliceKnown) where
   size_is : length text ≡ records_at + length entry.args.records.now
   size_is = text_length entry.args.numbers entry.args.records.now bytes entry.pre.1
 
-returns : tie.NeedReturns
+returns : tie.Need-returns
 returns c =
     let e = c.before.before in
     let large : most_card < length (text e) = omega (arith, size_is e) in
     rw (lt-ltb _ _ large) (refl, refl)
 
-returns_2 : tie.NeedReturns2
+returns_2 : tie.Need-returns-2
 returns_2 c =
     let e = c.before.before.before in
     let small : length (text e) ≤ most_card = omega (arith, size_is e) in
@@ -56,17 +56,17 @@ same_header : (n : ℕ) {z w : ℤ} {a b x y : Bound} → z ≡ w → a ≡ b �
 same_header n e f g = rw (e, f, g)
 
 -- what is stored in the end
-module _ (c : tie.AfterSliceKnown3) where
-  abbrev at_header : tie.AfterPutHeader
+module _ (c : tie.After-slice-known3) where
+  abbrev at_header : tie.After-put-header
   at_header = c.before.before.before.before.before.before
 
-  abbrev at_end : tie.AfterEndOf
+  abbrev at_end : tie.After-end-of
   at_end = at_header.before.before.before.before
 
-  abbrev at_start : tie.AfterStartOf
+  abbrev at_start : tie.After-start-of
   at_start = at_end.before.before
 
-  abbrev known : tie.AfterSharedSliceKnown
+  abbrev known : tie.After-shared-slice-known
   known = at_start.before.before.before.before.before
 
   abbrev n : Numbers
@@ -92,7 +92,7 @@ module _ (c : tie.AfterSliceKnown3) where
       (ap (sets (entry known).args.buffer.now 0) (text_is n (entry known).args.records.now (bytes known) (entry known).pre.1)
       ∙ sets_append header (entry known).args.records.now (entry known).args.buffer.now 0)
 
-returns_3 : tie.NeedReturns3
+returns_3 : tie.Need-returns-3
 returns_3 c =
     let e = known c in
     let small : length (text e) ≤ most_card = omega (arith, size_is e) in

@@ -5,7 +5,7 @@ use borrow.Author.Rules.{rules}
 use Rattle.chaining.proofs.both_ends.Statement.{statement}
 use Rattle.chaining.proofs.both_ends.Tie as tie
 
-returns : tie.NeedReturns
+returns : tie.Need-returns
 returns c =
     let b = c.before.b.given in
     let a = c.before.before.before.before.a.given in

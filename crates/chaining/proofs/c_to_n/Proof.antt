@@ -4,10 +4,10 @@ use borrow.Author.Rules.{rules}
 use Rattle.chaining.proofs.c_to_n.Statement.{statement}
 use Rattle.chaining.proofs.c_to_n.Tie as tie
 
-returns : tie.NeedReturns
+returns : tie.Need-returns
 returns c = rw c.before.before.cds.given.1 c.to-n.ensures
 
-returns_2 : tie.NeedReturns2
+returns_2 : tie.Need-returns-2
 unfolding map_c_to_n
 returns_2 c = rw c.enum_told.given.1
 

@@ -7,7 +7,7 @@ use borrow.Author.Rules.{rules}
 use Rattle.chaining.proofs.is_in_bounds.Statement.{statement}
 use Rattle.chaining.proofs.is_in_bounds.Tie as tie
 
-returns : tie.NeedReturns
+returns : tie.Need-returns
 returns c =
     let t = c.before in
     let k = t.before in
@@ -16,7 +16,7 @@ returns c =
     let to = told w32 f.0.1.0 k.known-told.given.1.0.1 in
     rw (← k.before.before.before.both_ends.ensures, f.1) (simp (from, to) at (ap answered (sym c.if1.true ∙ t.is-in-bounds.ensures)))
 
-returns_2 : tie.NeedReturns2
+returns_2 : tie.Need-returns-2
 returns_2 c =
     let t = c.before in
     let k = t.before in
@@ -25,7 +25,7 @@ returns_2 c =
     let to = told w32 f.0.1.0 k.known-told.given.1.0.1 in
     rw (← k.before.before.before.both_ends.ensures, f.1) (simp (from, to) at (ap answered (sym c.if1.false ∙ t.is-in-bounds.ensures)))
 
-returns_3 : tie.NeedReturns3
+returns_3 : tie.Need-returns-3
 returns_3 c = rw (← c.before.before.both_ends.ensures, c.enum_told.given.1)
 
 pub is_in_bounds_spec : {M : Type 1} → statement M

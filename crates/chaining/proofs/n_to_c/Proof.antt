@@ -4,10 +4,10 @@ use borrow.Author.Rules.{rules}
 use Rattle.chaining.proofs.n_to_c.Statement.{statement}
 use Rattle.chaining.proofs.n_to_c.Tie as tie
 
-returns : tie.NeedReturns
+returns : tie.Need-returns
 returns c = rw c.before.before.cds.given.1 c.to-c.ensures
 
-returns_2 : tie.NeedReturns2
+returns_2 : tie.Need-returns-2
 unfolding map_n_to_c c_of_interval
 returns_2 c = rw c.enum_told.given.1
 

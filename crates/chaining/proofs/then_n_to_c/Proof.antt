@@ -3,19 +3,19 @@ use borrow.Author.Rules.{rules}
 use Rattle.chaining.proofs.then_n_to_c.Statement.{statement}
 use Rattle.chaining.proofs.then_n_to_c.Tie as tie
 
-returns : tie.NeedReturns
+returns : tie.Need-returns
 returns c =
     let n = c.before in
     let q = n.before in
     rw (q.before.before.n.given.1, ← q.asked-again.ensures, ← n.n_to_c.ensures) c.c-marked.ensures
 
-returns_2 : tie.NeedReturns2
+returns_2 : tie.Need-returns-2
 returns_2 c =
     let n = c.before in
     let q = n.before in
     rw (q.before.before.n2.given.1, ← q.asked-again2.ensures, ← n.n-to-c2.ensures) c.c-marked2.ensures
 
-returns_3 : tie.NeedReturns3
+returns_3 : tie.Need-returns-3
 returns_3 c = rw c.before.n3.given.1
 
 pub then_n_to_c_spec : {M : Type 1} → statement M

@@ -5,12 +5,12 @@ use borrow.Author.Rules.{rules}
 use Rattle.chaining.proofs.then_n_to_g.Statement.{statement}
 use Rattle.chaining.proofs.then_n_to_g.Tie as tie
 
-returns : tie.NeedReturns
+returns : tie.Need-returns
 returns c =
     let q = c.before in
     rw (q.before.before.n.given.1, ← q.asked-again.ensures) (c.to-g.ensures ∙ sym (plain_first _))
 
-returns_2 : tie.NeedReturns2
+returns_2 : tie.Need-returns-2
 returns_2 c = rw c.before.n2.given.1
 
 pub then_n_to_g_spec : {M : Type 1} → statement M

@@ -6,11 +6,11 @@ use Rattle.cigar.specs.laws.Letters.{genome_whole}
 use Rattle.cigar.proofs.along_genome.Statement.{statement}
 use Rattle.cigar.proofs.along_genome.Tie as tie
 
-returns : tie.NeedReturns
+returns : tie.Need-returns
 unfolding kind_of
 returns c = rw c.if1.true (refl, omega arith)
 
-returns_2 : tie.NeedReturns2
+returns_2 : tie.Need-returns-2
 returns_2 c = (genome_whole _ _ c.if1.false, omega arith)
 
 pub along_genome_spec : {M : Type 1} → statement M

@@ -6,15 +6,15 @@ use Rattle.cigar.specs.laws.Letters.{transcript_whole}
 use Rattle.cigar.proofs.along_transcript.Statement.{statement}
 use Rattle.cigar.proofs.along_transcript.Tie as tie
 
-returns : tie.NeedReturns
+returns : tie.Need-returns
 unfolding kind_of
 returns c = rw c.if1.true (refl, omega arith)
 
-returns_2 : tie.NeedReturns2
+returns_2 : tie.Need-returns-2
 unfolding kind_of
 returns_2 c = rw c.if2.true (refl, omega arith)
 
-returns_3 : tie.NeedReturns3
+returns_3 : tie.Need-returns-3
 returns_3 c = (transcript_whole _ _ c.before.if1.false c.if2.false, omega arith)
 
 pub along_transcript_spec : {M : Type 1} → statement M

@@ -22,7 +22,7 @@ use borrow.Author.Rules.{rules}
 use Rattle.cigar.proofs.fill_elements.Statement.{statement}
 use Rattle.cigar.proofs.fill_elements.Tie as tie
 
-abbrev invariant_loop : tie.invariant_loop
+abbrev invariant_loop : tie.invariant-loop
 invariant_loop text counts₀ letters₀ at₀ n₀ counts letters at n =
     (at ≤ length text) × FullLength counts letters × Answered (read_all (most_segments - n) (drop at text))
     × Filled counts letters
@@ -30,11 +30,11 @@ invariant_loop text counts₀ letters₀ at₀ n₀ counts letters at n =
     (sets letters₀ 0 (letters_of (elements_in (read_all most_segments text))))
     n (elements_in (read_all (most_segments - n) (drop at text)))
 
-abbrev decreases_loop : tie.decreases_loop
+abbrev decreases_loop : tie.decreases-loop
 decreases_loop text counts₀ letters₀ at₀ n₀ counts letters at n = length text - at
 
 -- where a step found an element, the step's value and what follows from it
-module _ (c : tie.AfterKnownTold invariant_loop decreases_loop) where
+module _ (c : tie.After-known-told invariant_loop decreases_loop) where
   abbrev list : List ℕ
   list = c.before.before.before.before.before.before.before.args.text.now
 
@@ -53,34 +53,34 @@ module _ (c : tie.AfterKnownTold invariant_loop decreases_loop) where
   taken : Takes (most_segments - c.before.before.before.before.loop.n) list place c.before.count.given.0.0 c.before.count.given.0.1.0 after
   taken = takes _ list place c.before.before.before.before.loop.invariant.2 found
 
-loop_holds : tie.NeedLoopInit invariant_loop decreases_loop
+loop_holds : tie.Need-loop-init invariant_loop decreases_loop
 loop_holds c = (omega arith, c.before.before.requires.0, c.before.before.requires.1, record { counts_is = refl; letters_is = refl })
 
-step_at_requires : tie.NeedStepAtRequires invariant_loop decreases_loop
+step_at_requires : tie.Need-step-at-requires invariant_loop decreases_loop
 step_at_requires c κs = search rules
 
-enum_known_count : tie.NeedEnumKnownCount invariant_loop decreases_loop
+enum_known_count : tie.Need-enum-known-count invariant_loop decreases_loop
 enum_known_count c = search rules
 
-signed_requires : tie.NeedSignedRequires invariant_loop decreases_loop
+signed_requires : tie.Need-signed-requires invariant_loop decreases_loop
 signed_requires c κs = (step_sound (list c) (place c) (found c)).small
 
-mul_number : tie.NeedOverflowMulNumber invariant_loop decreases_loop
+mul_number : tie.Need-overflow-mul-number invariant_loop decreases_loop
 mul_number c = let r = (taken c.before).some_room in omega arith
 
-slice_set_from_number : tie.NeedSliceSetFromNumber invariant_loop decreases_loop
+slice_set_from_number : tie.Need-slice-set-from-number invariant_loop decreases_loop
 slice_set_from_number c = let r = (taken c.before).some_room in omega arith
 
-slice_write_letters : tie.NeedSliceWriteLetters invariant_loop decreases_loop
+slice_write_letters : tie.Need-slice-write-letters invariant_loop decreases_loop
 slice_write_letters c = let r = (taken c.before).some_room in omega arith
 
-add_n : tie.NeedOverflowAddN invariant_loop decreases_loop
+add_n : tie.Need-overflow-add-n invariant_loop decreases_loop
 add_n c = let r = (taken c.before).some_room in omega arith
 
-loop_less : tie.NeedLoopSmaller invariant_loop decreases_loop
+loop_less : tie.Need-loop-smaller invariant_loop decreases_loop
 loop_less c = let m = moved c.before in omega arith
 
-loop_again : tie.NeedLoopPreserved invariant_loop decreases_loop
+loop_again : tie.Need-loop-preserved invariant_loop decreases_loop
 loop_again c =
     let l = c.before.before.before.before.before.loop in
     let t = taken c.before in
@@ -91,30 +91,30 @@ loop_again c =
     rw (kept, fewer)
     ((moved c.before).1, tables_set l.n (pos count) _ l.invariant.1, t.answered, fill_one (subst (Filled _ _ _ _ l.n) t.is l.invariant.3))
 
-enum_told : tie.NeedEnumTold invariant_loop decreases_loop
+enum_told : tie.Need-enum-told invariant_loop decreases_loop
 enum_told c = search rules
 
-same_length : tie.NeedSameLength invariant_loop decreases_loop
+same_length : tie.Need-same-length invariant_loop decreases_loop
 same_length c = c.before.before.before.loop.invariant.1.counts_long ∙ sym c.before.before.before.before.before.before.requires.0.counts_long
 
-same_length_2 : tie.NeedSameLength2 invariant_loop decreases_loop
+same_length_2 : tie.Need-same-length-2 invariant_loop decreases_loop
 same_length_2 c = c.before.before.before.loop.invariant.1.letters_long ∙ sym c.before.before.before.before.before.before.requires.0.letters_long
 
-returns : tie.NeedReturns invariant_loop decreases_loop
+returns : tie.Need-returns invariant_loop decreases_loop
 returns c =
     let l = c.before.before.before.loop in
     absurd (none_refused _ _ l.at l.invariant.2 (sym c.before.before.step-at.ensures ∙ c.enum_told.given.1))
 
-enum_told_2 : tie.NeedEnumTold2 invariant_loop decreases_loop
+enum_told_2 : tie.Need-enum-told-2 invariant_loop decreases_loop
 enum_told_2 c = search rules
 
-same_length_3 : tie.NeedSameLength3 invariant_loop decreases_loop
+same_length_3 : tie.Need-same-length-3 invariant_loop decreases_loop
 same_length_3 c = c.before.before.before.loop.invariant.1.counts_long ∙ sym c.before.before.before.before.before.before.requires.0.counts_long
 
-same_length_4 : tie.NeedSameLength4 invariant_loop decreases_loop
+same_length_4 : tie.Need-same-length-4 invariant_loop decreases_loop
 same_length_4 c = c.before.before.before.loop.invariant.1.letters_long ∙ sym c.before.before.before.before.before.before.requires.0.letters_long
 
-returns_2 : tie.NeedReturns2 invariant_loop decreases_loop
+returns_2 : tie.Need-returns-2 invariant_loop decreases_loop
 returns_2 c =
     let l = c.before.before.before.loop in
     fill_none (subst (Filled _ _ _ _ l.n) (all_taken _ _ l.at l.invariant.2 (sym c.before.before.step-at.ensures ∙ c.enum-told2.given.1)) l.invariant.3)

@@ -6,16 +6,16 @@ use Rattle.cigar.specs.Elements.{is_letter}
 use Rattle.cigar.proofs.is_letter.Statement.{statement}
 use Rattle.cigar.proofs.is_letter.Tie as tie
 
-returns : tie.NeedReturns
+returns : tie.Need-returns
 unfolding is_letter
 returns c =
     ⊎_elim (λ e. rw e) (⊎_elim (λ e. rw e) (⊎_elim (λ e. rw e) (⊎_elim (λ e. rw e) (λ e. rw e)))) c.match.keys1
 
-returns_2 : tie.NeedReturns2
+returns_2 : tie.Need-returns-2
 unfolding is_letter
 returns_2 c = rw c.match.keys2
 
-returns_3 : tie.NeedReturns3
+returns_3 : tie.Need-returns-3
 unfolding is_letter
 returns_3 c =
     let n = c.match.rest.0.1 in

@@ -8,17 +8,17 @@ use borrow.Author.Rules.{rules}
 use Rattle.cigar.proofs.read_cigar.Statement.{statement}
 use Rattle.cigar.proofs.read_cigar.Tie as tie
 
-returns : tie.NeedReturns
+returns : tie.Need-returns
 returns c = rw (read_large c.before.before.args.text.now c.if1.true) (refl, (refl, refl))
 
-fill_elements_requires : tie.NeedFillElementsRequires
+fill_elements_requires : tie.Need-fill-elements-requires
 fill_elements_requires c κs =
     let n = c.before.before.before in (
       record { counts_long = omega arith; letters_long = omega arith },
       counted_answered (read_all most_segments n.before.before.before.before.before.args.text.now) (sym n.before.before.count-elements.ensures ∙ n.n.given.1),
     )
 
-returns_2 : tie.NeedReturns2
+returns_2 : tie.Need-returns-2
 returns_2 c =
     let n = c.before.before.before.before in
     let a = n.before.before.before.before.before.args in
@@ -27,7 +27,7 @@ returns_2 c =
     rw (read_small a.text.now n.before.before.before.if1.false)
     (sym e, filled_after a.text.now r refl (counted_answered r e) (record { counts_long = omega arith; letters_long = omega arith }) c.fill-elements.ensures)
 
-returns_3 : tie.NeedReturns3
+returns_3 : tie.Need-returns-3
 returns_3 c =
     let n = c.before.before.before in
     let a = n.before.before.before.args in

@@ -6,7 +6,7 @@ use borrow.Author.Rules.{rules}
 use Rattle.cigar.proofs.signed.Statement.{statement}
 use Rattle.cigar.proofs.signed.Tie as tie
 
-returns : tie.NeedReturns
+returns : tie.Need-returns
 returns c = to_z_pos w32 c.args.count (omega arith)
 
 pub signed_spec : {M : Type 1} → statement M

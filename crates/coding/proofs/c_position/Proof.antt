@@ -7,10 +7,10 @@ use borrow.Author.Rules.{rules}
 use Rattle.coding.proofs.c_position.Statement.{statement}
 use Rattle.coding.proofs.c_position.Tie as tie
 
-n_to_c_requires : tie.NeedNToCRequires
+n_to_c_requires : tie.Need-n-to-c-requires
 n_to_c_requires c κs = simp (entry c.ranges.s, entry c.ranges.e) (c.requires, (bound_40 c.ranges.s, bound_40 c.ranges.e))
 
-returns : tie.NeedReturns
+returns : tie.Need-returns
 unfolding c_position
 returns c =
     let f = c.before.before.ranges in

@@ -7,14 +7,14 @@ use borrow.Author.Rules.{rules}
 use Rattle.coding.proofs.is_beyond.Statement.{statement}
 use Rattle.coding.proofs.is_beyond.Tie as tie
 
-returns : tie.NeedReturns
+returns : tie.Need-returns
 unfolding beyond
 returns c =
     let t = c.before in
     let n = told w64 t.before.before.args.n.0 t.struct_told.given.0.1 in
     simp (t.before.if1.true, simp n at c.if2.true)
 
-returns_2 : tie.NeedReturns2
+returns_2 : tie.Need-returns-2
 unfolding beyond
 returns_2 c =
     let t = c.before in
@@ -22,7 +22,7 @@ returns_2 c =
     let n = told w64 a.args.n.0 t.struct_told.given.0.1 in
     simp (t.before.if1.true, simp n at c.if2.false, n, entry a.ranges.len)
 
-returns_3 : tie.NeedReturns3
+returns_3 : tie.Need-returns-3
 unfolding beyond
 returns_3 c = search rules
 

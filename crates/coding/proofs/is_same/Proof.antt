@@ -5,7 +5,7 @@ use borrow.Author.Rules.{sfits_of}
 use Rattle.coding.proofs.is_same.Statement.{statement}
 use Rattle.coding.proofs.is_same.Tie as tie
 
-returns : tie.NeedReturns
+returns : tie.Need-returns
 unfolding same_c
 returns c =
     let a_offset = c.before.before in

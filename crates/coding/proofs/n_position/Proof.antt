@@ -12,22 +12,22 @@ use Rattle.coding.proofs.n_position.Statement.{statement}
 use Rattle.coding.proofs.n_position.Tie as tie
 
 -- the test that was made is 16's
-test_is : (c : tie.AfterIsBeyond) →
+test_is : (c : tie.After-is-beyond) →
     let a = c.before.before.args in
     beyond a.strict a.len (n_of_c (pos a.s) (pos a.e) (paper_c_asked a.c).base) ≡ c.is-beyond.result
 test_is c = sym (rw c.before.n-number.ensures at c.is-beyond.ensures)
 
-offset_fits : (c : tie.AfterStructTold) → SFits w32 c.before.before.before.before.before.args.c.offset
+offset_fits : (c : tie.After-struct-told) → SFits w32 c.before.before.before.before.before.args.c.offset
 offset_fits c = sfits_of c.struct_told.given.1.1.0.1
 
-returns : tie.NeedReturns
+returns : tie.Need-returns
 unfolding n_position
 returns c = simp (test_is c.before ∙ c.if1.true)
 
-cast_offset : tie.NeedOverflowCastOffset
+cast_offset : tie.Need-overflow-cast-offset
 cast_offset c = simp (read (offset_fits c)) (fits_wider (offset_fits c))
 
-returns_2 : tie.NeedReturns2
+returns_2 : tie.Need-returns-2
 unfolding n_position
 returns_2 c =
     let e = c.before.before.before in

@@ -7,22 +7,22 @@ use borrow.Author.Rules.{rules}
 use Rattle.coding.proofs.one_to_c.Statement.{statement}
 use Rattle.coding.proofs.one_to_c.Tie as tie
 
-number_is : (c : tie.AfterWholeN) → c.whole-n.result.0 ≡ c.before.before.args.n.base
+number_is : (c : tie.After-whole-n) → c.whole-n.result.0 ≡ c.before.before.args.n.base
 number_is c =
     let t = c.before in
     simp (told w32 t.before.args.n.base t.struct_told.given.0.1) at c.whole-n.ensures.0
 
 -- the test that was made is 15's
-test_is : (c : tie.AfterIsBeyond) →
+test_is : (c : tie.After-is-beyond) →
     let a = c.before.before.before.args in
     beyond a.strict a.len a.n.base ≡ c.is-beyond.result
 test_is c = sym (simp (number_is c.before) at c.is-beyond.ensures)
 
-returns : tie.NeedReturns
+returns : tie.Need-returns
 unfolding one_to_c
 returns c = rw (test_is c.before ∙ c.if1.true)
 
-returns_2 : tie.NeedReturns2
+returns_2 : tie.Need-returns-2
 unfolding one_to_c
 returns_2 c =
     let e = c.before.before in

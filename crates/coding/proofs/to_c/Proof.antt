@@ -11,29 +11,29 @@ use borrow.Author.Rules.{rules}
 use Rattle.coding.proofs.to_c.Statement.{statement}
 use Rattle.coding.proofs.to_c.Tie as tie
 
-from_is : (c : tie.AfterWholeN) → c.whole-n.result.0 ≡ c.before.before.before.before.args.q.from.base
+from_is : (c : tie.After-whole-n) → c.whole-n.result.0 ≡ c.before.before.before.before.args.q.from.base
 from_is c =
     let t = c.before in
     simp (told w32 t.before.before.before.args.q.from.base t.struct_told.given.0.1) at c.whole-n.ensures.0
 
-to_is : (c : tie.AfterWholeN2) → c.whole-n2.result.0 ≡ c.before.before.before.before.before.before.args.q.to.base
+to_is : (c : tie.After-whole-n2) → c.whole-n2.result.0 ≡ c.before.before.before.before.before.before.args.q.to.base
 to_is c =
     let t = c.before in
     simp (told w32 t.before.before.before.before.before.args.q.to.base t.struct-told2.given.0.1) at c.whole-n2.ensures.0
 
 -- the test that was made is 15's
-test_is : (c : tie.AfterIsBeyond2) →
+test_is : (c : tie.After-is-beyond2) →
     let a = c.before.before.before.before.before.before.before.before.args in
     refuses15 a.strict a.len (paper_n_question a.q) ≡ (c.before.is-beyond.result || c.is-beyond2.result)
 test_is c =
     let b = c.before.before in
     simp (c.before.is-beyond.ensures, c.is-beyond2.ensures, from_is b.before.before, to_is b)
 
-returns : tie.NeedReturns
+returns : tie.Need-returns
 unfolding map_n_to_c c_of_interval
 returns c = simp (test_is c.before ∙ c.if1.true)
 
-returns_2 : tie.NeedReturns2
+returns_2 : tie.Need-returns-2
 unfolding map_n_to_c c_of_interval
 returns_2 c =
     let e = c.before.before.before.before.before in

@@ -6,14 +6,14 @@ use borrow.Author.Rules.{rules}
 use Rattle.coding.proofs.to_n.Statement.{statement}
 use Rattle.coding.proofs.to_n.Tie as tie
 
-returns : tie.NeedReturns
+returns : tie.Need-returns
 unfolding map_c_to_n
 returns c =
     let t = c.before.before in
     let one = same_says _ _ (sym t.before.is_same.ensures ∙ t.if1.true) in
     rw (← one) (simp c.before.n-position.ensures at c.n-both.ensures)
 
-returns_2 : tie.NeedReturns2
+returns_2 : tie.Need-returns-2
 unfolding map_c_to_n
 returns_2 c = simp (c.before.before.n-position2.ensures, c.before.n-position3.ensures) at c.n-both2.ensures
 

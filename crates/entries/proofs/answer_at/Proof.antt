@@ -8,7 +8,7 @@ use Rattle.entries.specs.Entries.{answer_at}
 use Rattle.entries.proofs.answer_at.Statement.{statement}
 use Rattle.entries.proofs.answer_at.Tie as tie
 
-returns : tie.NeedReturns
+returns : tie.Need-returns
 unfolding answer_at
 returns c =
     let end_offset = c.before.before in

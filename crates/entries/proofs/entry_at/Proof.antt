@@ -5,7 +5,7 @@ use Rattle.entries.specs.Entries.{entry_at}
 use Rattle.entries.proofs.entry_at.Statement.{statement}
 use Rattle.entries.proofs.entry_at.Tie as tie
 
-returns : tie.NeedReturns
+returns : tie.Need-returns
 unfolding entry_at
 returns c = rw (c.before.question-at.ensures, c.answer_at.ensures)
 

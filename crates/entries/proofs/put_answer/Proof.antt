@@ -10,7 +10,7 @@ use Rattle.entries.proofs.Stores.{then_stored}
 use Rattle.entries.proofs.put_answer.Statement.{statement}
 use Rattle.entries.proofs.put_answer.Tie as tie
 
-returns : tie.NeedReturns
+returns : tie.Need-returns
 unfolding four_bytes four_numbers answer_bytes
 returns c =
     let end_exon = c.before.before in

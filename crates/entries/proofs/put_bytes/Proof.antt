@@ -6,7 +6,7 @@ use Rattle.entries.specs.Entries.{four_bytes}
 use Rattle.entries.proofs.put_bytes.Statement.{statement}
 use Rattle.entries.proofs.put_bytes.Tie as tie
 
-returns : tie.NeedReturns
+returns : tie.Need-returns
 unfolding four_bytes
 returns c =
     let third = c.before.before.before.before.before.before in

@@ -6,7 +6,7 @@ use Rattle.entries.proofs.Stores.{then_stored}
 use Rattle.entries.proofs.put_entry.Statement.{statement}
 use Rattle.entries.proofs.put_entry.Tie as tie
 
-returns : tie.NeedReturns
+returns : tie.Need-returns
 unfolding four_bytes four_numbers question_bytes entry_bytes
 returns c =
     let answer = c.before.before in

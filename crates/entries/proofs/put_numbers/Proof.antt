@@ -16,7 +16,7 @@ use Rattle.entries.proofs.put_numbers.Tie as tie
 number_stored : (before : List ℕ) (at : ℕ) {after : List ℕ} {z w : ℤ} → z ≡ w → after ≡ sets before at (bytes32 (bits32 z)) → after ≡ sets before at (bytes32 (bits32 w))
 number_stored before at e h = h ∙ ap (λ (x : ℤ). sets before at (bytes32 (bits32 x))) e
 
-returns : tie.NeedReturns
+returns : tie.Need-returns
 unfolding four_numbers
 returns c =
     let fourth = c.before.before in

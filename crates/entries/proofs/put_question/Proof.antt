@@ -8,7 +8,7 @@ use Rattle.entries.proofs.Stores.{then_stored}
 use Rattle.entries.proofs.put_question.Statement.{statement}
 use Rattle.entries.proofs.put_question.Tie as tie
 
-returns : tie.NeedReturns
+returns : tie.Need-returns
 unfolding four_bytes question_bytes
 returns c =
     let numbers = c.before.before in

@@ -8,7 +8,7 @@ use Rattle.entries.specs.Entries.{question_at}
 use Rattle.entries.proofs.question_at.Statement.{statement}
 use Rattle.entries.proofs.question_at.Tie as tie
 
-returns : tie.NeedReturns
+returns : tie.Need-returns
 unfolding question_at
 returns c =
     let start_offset = c.before.before in

@@ -29,28 +29,28 @@ back c = to_z-of_z w32 c.before.args.z c.before.ranges.z
 not_negative : (c : tie.Else1) → lt_z c.before.args.z (pos 0) ≡ false
 not_negative c = sym (ap (λ (x : ℤ). lt_z x (pos 0)) (back c)) ∙ c.if1.false
 
-sub_k : tie.NeedOverflowSubK
+sub_k : tie.Need-overflow-sub-k
 sub_k c = rw (complement c) (small c)
 
-cast_k : tie.NeedOverflowCastK
+cast_k : tie.Need-overflow-cast-k
 cast_k c =
     let m : mag c.before.args.z < 2147483648 = (small c).sfits in
     rw (complement c, to_z-of_z w32 _ (small c)) (tt, omega arith)
 
-sub_result : tie.NeedOverflowSubResult
+sub_result : tie.Need-overflow-sub-result
 sub_result c =
     let m : mag c.before.args.z < 2147483648 = (small c).sfits in
     rw (complement c, to_z-of_z w32 _ (small c)) (omega arith)
 
-returns : tie.NeedReturns
+returns : tie.Need-returns
 returns c = rw (complement c, to_z-of_z w32 _ (small c)) (sym (bits_neg c.before.args.z (negative c)))
 
-cast_result : tie.NeedOverflowCastResult
+cast_result : tie.Need-overflow-cast-result
 cast_result c =
     let m : mag c.before.args.z < 2147483648 = c.before.ranges.z.sfits in
     rw (back c ∙ above c.before.args.z (not_negative c)) (tt, omega arith)
 
-returns_2 : tie.NeedReturns2
+returns_2 : tie.Need-returns-2
 returns_2 c = ap nat_abs (back c) ∙ bits_pos c.before.args.z (not_negative c)
 
 pub bits_spec : {M : Type 1} → statement M

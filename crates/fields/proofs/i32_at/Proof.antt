@@ -7,7 +7,7 @@ use borrow.Author.Rules.{rules}
 use Rattle.fields.proofs.i32_at.Statement.{statement}
 use Rattle.fields.proofs.i32_at.Tie as tie
 
-returns : tie.NeedReturns
+returns : tie.Need-returns
 returns c = to_z-of_z w32 c.signed.result (record { sfits = c.signed.type-inv }) ∙ c.signed.ensures ∙ ap signed32 c.before.u32-at.ensures
 
 pub i32_at_spec : {M : Type 1} → statement M

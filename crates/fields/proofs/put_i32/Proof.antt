@@ -9,7 +9,7 @@ use borrow.Author.Rules.{rules}
 use Rattle.fields.proofs.put_i32.Statement.{statement}
 use Rattle.fields.proofs.put_i32.Tie as tie
 
-returns : tie.NeedReturns
+returns : tie.Need-returns
 returns c =
     let s = c.before.before.before.before.before.before in
     c.before.before.put-u32.ensures

@@ -5,7 +5,7 @@ use borrow.Author.Rules.{rules}
 use Rattle.fields.proofs.put_u16.Statement.{statement}
 use Rattle.fields.proofs.put_u16.Tie as tie
 
-returns : tie.NeedReturns
+returns : tie.Need-returns
 returns c = rw (c.before.before.put-u82.ensures, c.before.before.before.before.before.before.put-u8.ensures, add-one)
 
 pub put_u16_spec : {M : Type 1} → statement M

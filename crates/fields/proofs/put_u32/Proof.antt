@@ -10,7 +10,7 @@ use borrow.Author.Rules.{rules}
 use Rattle.fields.proofs.put_u32.Statement.{statement}
 use Rattle.fields.proofs.put_u32.Tie as tie
 
-returns : tie.NeedReturns
+returns : tie.Need-returns
 returns c =
     let f = c.before.before.before.before.before.before.before.before.before in
     c.before.before.put-u162.ensures

@@ -3,7 +3,7 @@ use borrow.Author.Rules.{rules}
 use Rattle.fields.proofs.put_u8.Statement.{statement}
 use Rattle.fields.proofs.put_u8.Tie as tie
 
-returns : tie.NeedReturns
+returns : tie.Need-returns
 returns c = rw c.byte.ensures
 
 pub put_u8_spec : {M : Type 1} → statement M

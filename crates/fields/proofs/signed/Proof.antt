@@ -10,16 +10,16 @@ use borrow.Author.Rules.{rules}
 use Rattle.fields.proofs.signed.Statement.{statement}
 use Rattle.fields.proofs.signed.Tie as tie
 
-returns : tie.NeedReturns
+returns : tie.Need-returns
 returns c = let h = c.if1.true in rw (to_z_pos w32 c.before.args.n h, lt-ltb c.before.args.n 2147483648 h)
 
-sub_result : tie.NeedOverflowSubResult
+sub_result : tie.Need-overflow-sub-result
 sub_result c =
     let m = 4294967295 - c.before.args.n in
     let h : m < 2147483648 = omega arith in
     rw (to_z_pos w32 m h, minus_one_pos m) (record { sfits = h })
 
-returns_2 : tie.NeedReturns2
+returns_2 : tie.Need-returns-2
 returns_2 c =
     let m = 4294967295 - c.before.args.n in
     let h : m < 2147483648 = omega arith in

@@ -5,7 +5,7 @@ use borrow.Author.Rules.{rules}
 use Rattle.fields.proofs.u16_at.Statement.{statement}
 use Rattle.fields.proofs.u16_at.Tie as tie
 
-returns : tie.NeedReturns
+returns : tie.Need-returns
 returns c =
     let f = c.before.before.before in
     (omega (arith, two_bytes f.args.s.now f.args.at f.requires), omega arith)

@@ -5,7 +5,7 @@ use borrow.Author.Rules.{rules}
 use Rattle.fields.proofs.u32_at.Statement.{statement}
 use Rattle.fields.proofs.u32_at.Tie as tie
 
-returns : tie.NeedReturns
+returns : tie.Need-returns
 returns c =
     let f = c.before.before.before in
     omega (arith, two_halves f.args.s.now f.args.at f.requires)

@@ -9,38 +9,38 @@ use borrow.Author.Rules.{rules}
 use Rattle.filling.proofs.clear_starts.Statement.{statement}
 use Rattle.filling.proofs.clear_starts.Tie as tie
 
-abbrev invariant_loop : tie.invariant_loop
+abbrev invariant_loop : tie.invariant-loop
 invariant_loop table₀ from i₀ table i =
     (i ≤ length table₀) × (length table ≡ length table₀)
     × (sets table₀ from (replicate (length table₀ - from) 0) ≡ sets table i (replicate (length table₀ - i) 0))
 
-abbrev decreases_loop : tie.decreases_loop
+abbrev decreases_loop : tie.decreases-loop
 decreases_loop table₀ from i₀ table i = length table₀ - i
 
-loop_holds : tie.NeedLoopInit invariant_loop decreases_loop
+loop_holds : tie.Need-loop-init invariant_loop decreases_loop
 loop_holds c = (search rules, refl, refl)
 
-mul_table : tie.NeedOverflowMulTable invariant_loop decreases_loop
+mul_table : tie.Need-overflow-mul-table invariant_loop decreases_loop
 mul_table c = search rules
 
-slice_write_table : tie.NeedSliceWriteTable invariant_loop decreases_loop
+slice_write_table : tie.Need-slice-write-table invariant_loop decreases_loop
 slice_write_table c = search rules
 
-add_i : tie.NeedOverflowAddI invariant_loop decreases_loop
+add_i : tie.Need-overflow-add-i invariant_loop decreases_loop
 add_i c = omega arith
 
-loop_less : tie.NeedLoopSmaller invariant_loop decreases_loop
+loop_less : tie.Need-loop-smaller invariant_loop decreases_loop
 loop_less c = search rules
 
-loop_again : tie.NeedLoopPreserved invariant_loop decreases_loop
+loop_again : tie.Need-loop-preserved invariant_loop decreases_loop
 loop_again c =
     let l = c.before.loop in
     (omega arith, length-set l.table l.i 0 ∙ l.invariant.1, l.invariant.2 ∙ run_more l.table l.i _ 0 (omega arith))
 
-same_length : tie.NeedSameLength invariant_loop decreases_loop
+same_length : tie.Need-same-length invariant_loop decreases_loop
 same_length c = c.before.loop.invariant.1
 
-returns : tie.NeedReturns invariant_loop decreases_loop
+returns : tie.Need-returns invariant_loop decreases_loop
 returns c = let l = c.before.loop in sym (l.invariant.2 ∙ run_none l.table l.i _ 0 (omega arith))
 
 pub clear_starts_spec : {M : Type 1} → statement M

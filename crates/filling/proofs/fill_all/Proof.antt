@@ -26,7 +26,7 @@ use Rattle.filling.proofs.fill_all.Statement.{statement}
 use Rattle.filling.proofs.fill_all.Tie as tie
 
 -- where the first record was tallied
-module _ (c : tie.AfterKnownTold) where
+module _ (c : tie.After-known-told) where
   abbrev begin : tie.Start
   begin = c.before.before.before.before.before.before.before.before.before
 
@@ -46,28 +46,28 @@ module _ (c : tie.AfterKnownTold) where
   ready : Ready begin.args.count begin.args.s.now
   ready = begin.pre.1.0.1
 
-fill_first_requires : tie.NeedFillFirstRequires
+fill_first_requires : tie.Need-fill-first-requires
 fill_first_requires c κs =
     let k = c.before.before.before in
     ((begin k).requires.0, (((ready k).stands, small_first k), first_told (begin k).args.forward (begin k).args.s.now (begin k).args.count 0 (ready k).some (told k)))
 
-sub_left : tie.NeedOverflowSubLeft
+sub_left : tie.Need-overflow-sub-left
 sub_left c = omega (arith, (ready c.before.before.before.before.before.before.before.before.before.before).some)
 
-number_of_requires : tie.NeedNumberOfRequires
+number_of_requires : tie.Need-number-of-requires
 number_of_requires c κs = let k = c.before.before.before.before.before.before.before.before.before.before in (omega arith, omega (arith, (ready k).some, (begin k).requires.1.0.2))
 
-put_number_requires : tie.NeedPutNumberRequires
+put_number_requires : tie.Need-put-number-requires
 put_number_requires c κs =
     let k = c.before.before.before.before.before.before.before.before.before.before.before.before in
     (omega (arith, (begin k).requires.1.0.0, (small_first k).few), omega (arith, (begin k).requires.1.0.0))
 
-next_at_requires : tie.NeedNextAtRequires
+next_at_requires : tie.Need-next-at-requires
 next_at_requires c κs = (ready c.before.before.before.before.before.before.before.before.before.before.before.before.before.before.before).stands.numbers
 
 -- the first record's numbers were put in
-module _ (c : tie.AfterPutNumber) where
-  abbrev at_told : tie.AfterKnownTold
+module _ (c : tie.After-put-number) where
+  abbrev at_told : tie.After-known-told
   at_told = c.before.before.before.before.before.before.before.before.before.before.before.before.before
 
   abbrev own : List ℕ
@@ -76,7 +76,7 @@ module _ (c : tie.AfterPutNumber) where
   first_numbered : c.put-number.new.1.1.1.0 ≡ sets (begin at_told).args.exons.now 0 own
   first_numbered = rw (c.before.before.number-of.ensures, sub-zero (first at_told).count) at c.put-number.ensures
 
-fill_rest_requires : tie.NeedFillRestRequires
+fill_rest_requires : tie.Need-fill-rest-requires
 fill_rest_requires c κs =
     let numbered = c.before.before.before.before.before.before.before in
     let at_first = c.before.before.before.before.before.before.before.before.before.before.before.before.before.before.before.before in
@@ -89,13 +89,13 @@ fill_rest_requires c κs =
     rw c.before.before.before.before.next-at.ensures
     (long_after was nothing own_elements at_first.fill-first.ensures (begin k).requires.0, ((long, omega (arith, (ready k).some, (begin k).requires.1.0.2)), (((ready k).next, bounded), small_rest k)))
 
-returns : tie.NeedReturns
+returns : tie.Need-returns
 returns c =
     let s = c.before.before.before.before.before.before.before.before in
     let told = sym c.enum_told.given.1 ∙ c.before.before.tally-first.ensures.0 in
     absurd (subst SmallTally (first_refused s.args.s.now s.args.count 0 s.requires.1.0.1.some told) s.requires.1.1)
 
-returns_2 : tie.NeedReturns2
+returns_2 : tie.Need-returns-2
 returns_2 c =
     let at_rest = c.before.before.before.before.before.before.before.before in
     let numbered = c.before.before.before.before.before.before.before.before.before.before.before.before.before.before.before.before in

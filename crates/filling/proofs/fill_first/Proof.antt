@@ -18,13 +18,13 @@ as_text : (s : tie.Start) → read_first (record_at s.args.s.now 0)
     ≡ read_all most_segments (take (next_at s.args.s.now 0 - cigar_text) (drop cigar_text s.args.s.now))
 as_text s = first_accepted s.args.s.now 0 s.requires.1.0.0 s.requires.1.1
 
-fill_text_requires : tie.NeedFillTextRequires
+fill_text_requires : tie.Need-fill-text-requires
 fill_text_requires c κs =
     let s = c.before.before.before.before.before.before.before.before.before in
     let told = sym (ap (tallied nothing) (as_text s)) ∙ s.requires.1.1 in
     (s.requires.0, (rw c.before.before.before.before.next-at.ensures told, (record { few = omega arith; genome_small = omega arith; transcript_small = omega arith }, s.requires.1.0.1)))
 
-returns : tie.NeedReturns
+returns : tie.Need-returns
 returns c =
     let filled = c.before.before.before.before.before.before in
     let next = filled.before.before.before.before.before in

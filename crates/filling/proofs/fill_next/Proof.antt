@@ -52,31 +52,31 @@ module _ (s : tie.Start) where
   long_gap : Long with_gap
   long_gap = long_put s.args.from letter_n s.pre.0
 
-one_on_requires : tie.NeedOneOnRequires
+one_on_requires : tie.Need-one-on-requires
 one_on_requires c κs = let s = c.before.before.before.before.before in (s.requires.1.1.1.0, room s)
 
-narrow_requires : tie.NeedNarrowRequires
+narrow_requires : tie.Need-narrow-requires
 narrow_requires c κs = on_genome c.before.before.before.before.before.before
 
-narrow_requires_2 : tie.NeedNarrowRequires2
+narrow_requires_2 : tie.Need-narrow-requires-2
 narrow_requires_2 c κs = on_transcript c.before.before.before.before.before.before.before
 
-mul_genome : tie.NeedOverflowMulGenome
+mul_genome : tie.Need-overflow-mul-genome
 mul_genome c = let r = room c.before.before.before.before.before.before.before.before in omega arith
 
-slice_write_genome : tie.NeedSliceWriteGenome
+slice_write_genome : tie.Need-slice-write-genome
 slice_write_genome c = let s = c.before.before.before.before.before.before.before.before in omega (arith, room s, s.requires.0.genome_long)
 
-mul_transcript : tie.NeedOverflowMulTranscript
+mul_transcript : tie.Need-overflow-mul-transcript
 mul_transcript c = let r = room c.before.before.before.before.before.before.before.before in omega arith
 
-slice_write_transcript : tie.NeedSliceWriteTranscript
+slice_write_transcript : tie.Need-slice-write-transcript
 slice_write_transcript c = let s = c.before.before.before.before.before.before.before.before in omega (arith, room s, s.requires.0.transcript_long)
 
-slice_write_letters : tie.NeedSliceWriteLetters
+slice_write_letters : tie.Need-slice-write-letters
 slice_write_letters c = let s = c.before.before.before.before.before.before.before.before in omega (arith, room s, s.requires.0.letters_long)
 
-fill_text_requires : tie.NeedFillTextRequires
+fill_text_requires : tie.Need-fill-text-requires
 fill_text_requires c κs =
     let gap = c.before.before.before.before.before.before.before.before in
     let s = gap.before.before.before.before.before in
@@ -85,7 +85,7 @@ fill_text_requires c κs =
     rw (c.before.before.before.before.before.before.narrow.ensures, c.before.before.before.before.before.narrow2.ensures, c.before.before.before.before.next-at.ensures, on.0, c.before.before.before.before.before.before.before.before.gap_at.ensures)
     (long_gap s, (told, (rw (on.0, c.before.before.before.before.before.before.before.before.gap_at.ensures) at on.1, s.requires.1.1.1.1)))
 
-returns : tie.NeedReturns
+returns : tie.Need-returns
 unfolding fill
 returns c =
     let filled = c.before.before.before.before.before.before in
@@ -104,25 +104,25 @@ returns c =
     rw (as_text s) told
 
 -- the entry of the function, seen from where it returns: before the gap was measured
-abbrev entry : tie.AfterSliceKnown6 → tie.Start
+abbrev entry : tie.After-slice-known6 → tie.Start
 entry c =
     let filled = c.before.before.before.before.before.before in
     let gap = filled.before.before.before.before.before.before.before.before.before in
     gap.before.before.before.before.before
 
 -- the tables stay as long as they are
-long : (c : tie.AfterSliceKnown6) → let l = c.before.before.before.before.before.before.fill-text.new.1.1.1.1 in Long (tables l.0 l.1.0 l.1.1.0)
+long : (c : tie.After-slice-known6) → let l = c.before.before.before.before.before.before.fill-text.new.1.1.1.1 in Long (tables l.0 l.1.0 l.1.1.0)
 long c =
     let s = entry c in
     long_after (tables s.args.genome.now s.args.transcript.now s.args.letters.now) s.args.from _ (returns c) s.pre.0
 
-same_length : tie.NeedSameLength
+same_length : tie.Need-same-length
 same_length c = (long c).genome_long ∙ sym (entry c).requires.0.genome_long
 
-same_length_2 : tie.NeedSameLength2
+same_length_2 : tie.Need-same-length-2
 same_length_2 c = (long c).transcript_long ∙ sym (entry c).requires.0.transcript_long
 
-same_length_3 : tie.NeedSameLength3
+same_length_3 : tie.Need-same-length-3
 same_length_3 c = (long c).letters_long ∙ sym (entry c).requires.0.letters_long
 
 pub fill_next_spec : {M : Type 1} → statement M

@@ -25,7 +25,7 @@ use borrow.Author.Rules.{rules}
 use Rattle.filling.proofs.fill_rest.Statement.{statement}
 use Rattle.filling.proofs.fill_rest.Tie as tie
 
-abbrev invariant_loop : tie.invariant_loop
+abbrev invariant_loop : tie.invariant-loop
 invariant_loop forward s previous before left at genome₀ transcript₀ letters₀ exons₀ p₀ b₀ k₀ a₀ sums₀ genome transcript letters exons p b k a sums =
     Long (tables genome transcript letters) × Walk s p k a × Bounded sums
     × SmallTally (tallied_after (genome_end_of (record_at s p)) sums (exons_after sums.count (records_from k s a)))
@@ -35,29 +35,29 @@ invariant_loop forward s previous before left at genome₀ transcript₀ letters
     × (sets exons₀ sums₀.count (numbers_past forward before (exons_after sums₀.count (records_from left s at)))
     ≡ sets exons sums.count (numbers_past forward b (exons_after sums.count (records_from k s a))))
 
-abbrev decreases_loop : tie.decreases_loop
+abbrev decreases_loop : tie.decreases-loop
 decreases_loop forward s previous before left at genome₀ transcript₀ letters₀ exons₀ p₀ b₀ k₀ a₀ sums₀ genome transcript letters exons p b k a sums = k
 
-loop_holds : tie.NeedLoopInit invariant_loop decreases_loop
+loop_holds : tie.Need-loop-init invariant_loop decreases_loop
 loop_holds c =
     let s = c.before.before.before.before.before in
     (s.requires.0, s.requires.1.1.0.0, s.requires.1.1.0.1, s.requires.1.1.1, refl, s.requires.1.0.0, s.requires.1.0.1, refl)
 
 -- the record at the place stands, beside the one before it, and the walk goes on
-turn_here : (c : tie.InLoop invariant_loop decreases_loop) → let l = c.before.loop in Turn c.before.before.before.before.before.before.before.args.s.now l.p l.k l.a
+turn_here : (c : tie.In-loop invariant_loop decreases_loop) → let l = c.before.loop in Turn c.before.before.before.before.before.before.before.args.s.now l.p l.k l.a
 turn_here c = turn (omega arith) c.before.loop.invariant.1
 
-tally_next_requires : tie.NeedTallyNextRequires invariant_loop decreases_loop
+tally_next_requires : tie.Need-tally-next-requires invariant_loop decreases_loop
 tally_next_requires c κs =
     let l = c.before.loop in
     let r = turn_here c in
     ((l.invariant.1.inside, r.stands), (r.beside, l.invariant.2))
 
-enum_known_to : tie.NeedEnumKnownTo invariant_loop decreases_loop
+enum_known_to : tie.Need-enum-known-to invariant_loop decreases_loop
 enum_known_to c = search rules
 
 -- where the next record was tallied
-module _ (c : tie.AfterKnownTold invariant_loop decreases_loop) where
+module _ (c : tie.After-known-told invariant_loop decreases_loop) where
   abbrev begin : tie.Start invariant_loop decreases_loop
   begin = c.before.before.before.before.before.before.before.before.before.before.before
 
@@ -101,32 +101,32 @@ module _ (c : tie.AfterKnownTold invariant_loop decreases_loop) where
   further : sums.count < to.count
   further = omega (arith, ap (λ (t : Sums). t.count) (next_ends begin.args.forward bytes left place some there sums to told))
 
-fill_next_requires : tie.NeedFillNextRequires invariant_loop decreases_loop
+fill_next_requires : tie.Need-fill-next-requires invariant_loop decreases_loop
 fill_next_requires c κs =
     let k = c.before.before.before in
     let l = k.before.before.before.before.before.loop in
     let r = turn_here k.before.before.before.before in
     (l.invariant.0, ((l.invariant.1.inside, r.stands, r.beside), (own_told k, (l.invariant.2, small_to k))))
 
-put_next_requires : tie.NeedPutNextRequires invariant_loop decreases_loop
+put_next_requires : tie.Need-put-next-requires invariant_loop decreases_loop
 put_next_requires c κs =
     let k = c.before.before.before.before.before.before.before.before.before.before.before in
     let l = k.before.before.before.before.before.loop in
     ((some k, l.invariant.6), (further k, omega (arith, l.invariant.5, (small_to k).few), omega (arith, l.invariant.5)))
 
-next_at_requires : tie.NeedNextAtRequires invariant_loop decreases_loop
+next_at_requires : tie.Need-next-at-requires invariant_loop decreases_loop
 next_at_requires c κs = (turn_here c.before.before.before.before.before.before.before.before.before.before.before.before.before.before.before.before.before.before).stands.numbers
 
-add_b : tie.NeedOverflowAddB invariant_loop decreases_loop
+add_b : tie.Need-overflow-add-b invariant_loop decreases_loop
 add_b c = let l = c.before.before.before.before.before.before.before.before.before.before.before.before.before.before.before.before.before.before.before.before.loop in omega (arith, l.invariant.6)
 
-sub_k : tie.NeedOverflowSubK invariant_loop decreases_loop
+sub_k : tie.Need-overflow-sub-k invariant_loop decreases_loop
 sub_k c = search rules
 
-loop_less : tie.NeedLoopSmaller invariant_loop decreases_loop
+loop_less : tie.Need-loop-smaller invariant_loop decreases_loop
 loop_less c = search rules
 
-loop_again : tie.NeedLoopPreserved invariant_loop decreases_loop
+loop_again : tie.Need-loop-preserved invariant_loop decreases_loop
 loop_again c =
     let k = c.before.before.before.before.before.before.before.before.before.before.before.before.before.before.before in
     let l = k.before.before.before.before.before.loop in
@@ -153,41 +153,41 @@ loop_again c =
       l.invariant.7 ∙ ap (sets l.exons (sums k).count) one ∙ sets_then l.exons (sums k).count run (numbers_past forward (l.b + 1) others) numbered reached,
     )
 
-enum_told : tie.NeedEnumTold invariant_loop decreases_loop
+enum_told : tie.Need-enum-told invariant_loop decreases_loop
 enum_told c = search rules
 
-same_length : tie.NeedSameLength invariant_loop decreases_loop
+same_length : tie.Need-same-length invariant_loop decreases_loop
 same_length c = c.before.before.before.before.loop.invariant.0.genome_long ∙ sym c.before.before.before.before.before.before.before.before.before.before.requires.0.genome_long
 
-same_length_2 : tie.NeedSameLength2 invariant_loop decreases_loop
+same_length_2 : tie.Need-same-length-2 invariant_loop decreases_loop
 same_length_2 c = c.before.before.before.before.loop.invariant.0.transcript_long ∙ sym c.before.before.before.before.before.before.before.before.before.before.requires.0.transcript_long
 
-same_length_3 : tie.NeedSameLength3 invariant_loop decreases_loop
+same_length_3 : tie.Need-same-length-3 invariant_loop decreases_loop
 same_length_3 c = c.before.before.before.before.loop.invariant.0.letters_long ∙ sym c.before.before.before.before.before.before.before.before.before.before.requires.0.letters_long
 
-same_length_4 : tie.NeedSameLength4 invariant_loop decreases_loop
+same_length_4 : tie.Need-same-length-4 invariant_loop decreases_loop
 same_length_4 c = c.before.before.before.before.loop.invariant.5 ∙ sym c.before.before.before.before.before.before.before.before.before.before.requires.1.0.0
 
-returns : tie.NeedReturns invariant_loop decreases_loop
+returns : tie.Need-returns invariant_loop decreases_loop
 returns c =
     let l = c.before.before.before.before.loop in
     let s = c.before.before.before.before.before.before.before.before.before.before.args.s.now in
     let told = sym c.enum_told.given.1 ∙ c.before.before.tally-next.ensures.0 in
     absurd (subst SmallTally (rest_refused s l.k l.a (omega arith) (record_at s l.p) l.sums told) l.invariant.3)
 
-same_length_5 : tie.NeedSameLength5 invariant_loop decreases_loop
+same_length_5 : tie.Need-same-length-5 invariant_loop decreases_loop
 same_length_5 c = c.before.loop.invariant.0.genome_long ∙ sym c.before.before.before.before.before.before.before.requires.0.genome_long
 
-same_length_6 : tie.NeedSameLength6 invariant_loop decreases_loop
+same_length_6 : tie.Need-same-length-6 invariant_loop decreases_loop
 same_length_6 c = c.before.loop.invariant.0.transcript_long ∙ sym c.before.before.before.before.before.before.before.requires.0.transcript_long
 
-same_length_7 : tie.NeedSameLength7 invariant_loop decreases_loop
+same_length_7 : tie.Need-same-length-7 invariant_loop decreases_loop
 same_length_7 c = c.before.loop.invariant.0.letters_long ∙ sym c.before.before.before.before.before.before.before.requires.0.letters_long
 
-same_length_8 : tie.NeedSameLength8 invariant_loop decreases_loop
+same_length_8 : tie.Need-same-length-8 invariant_loop decreases_loop
 same_length_8 c = c.before.loop.invariant.5 ∙ sym c.before.before.before.before.before.before.before.requires.1.0.0
 
-returns_2 : tie.NeedReturns2 invariant_loop decreases_loop
+returns_2 : tie.Need-returns-2 invariant_loop decreases_loop
 unfolding fill
 returns_2 c =
     let l = c.before.loop in

@@ -19,17 +19,17 @@ use borrow.Author.Rules.{rules}
 use Rattle.filling.proofs.fill_text.Statement.{statement}
 use Rattle.filling.proofs.fill_text.Tie as tie
 
-abbrev invariant_loop : tie.invariant_loop
+abbrev invariant_loop : tie.invariant-loop
 invariant_loop forward text from to genome₀ transcript₀ letters₀ at₀ sums₀ genome transcript letters at sums =
     (at ≤ length text) × Long (tables genome transcript letters) × Bounded sums × UpTo from sums
     × (tallied sums (read_all (most_segments - sums.count) (drop at text)) ≡ tally.Sums to)
     × (fill (tables genome₀ transcript₀ letters₀) from (ordered forward (elements_in (read_all (most_segments - from.count) text)))
     ≡ fill (tables genome transcript letters) (left_from forward from sums) (ordered forward (elements_in (read_all (most_segments - sums.count) (drop at text)))))
 
-abbrev decreases_loop : tie.decreases_loop
+abbrev decreases_loop : tie.decreases-loop
 decreases_loop forward text from to genome₀ transcript₀ letters₀ at₀ sums₀ genome transcript letters at sums = length text - at
 
-loop_holds : tie.NeedLoopInit invariant_loop decreases_loop
+loop_holds : tie.Need-loop-init invariant_loop decreases_loop
 loop_holds c =
     let s = c.before.before.before.before in (
       omega arith,
@@ -40,14 +40,14 @@ loop_holds c =
       rw (left_all s.args.forward s.args.from),
     )
 
-step_at_requires : tie.NeedStepAtRequires invariant_loop decreases_loop
+step_at_requires : tie.Need-step-at-requires invariant_loop decreases_loop
 step_at_requires c κs = search rules
 
-enum_known_count : tie.NeedEnumKnownCount invariant_loop decreases_loop
+enum_known_count : tie.Need-enum-known-count invariant_loop decreases_loop
 enum_known_count c = search rules
 
 -- where a step found an element
-module _ (c : tie.AfterKnownTold invariant_loop decreases_loop) where
+module _ (c : tie.After-known-told invariant_loop decreases_loop) where
   abbrev begin : tie.Start invariant_loop decreases_loop
   begin = c.before.before.before.before.before.before.before.before.before
 
@@ -108,43 +108,43 @@ module _ (c : tie.AfterKnownTold invariant_loop decreases_loop) where
     transcript_up = omega (arith, from_sums.transcript_up);
   }
 
-one_on_requires : tie.NeedOneOnRequires invariant_loop decreases_loop
+one_on_requires : tie.Need-one-on-requires invariant_loop decreases_loop
 one_on_requires c κs = (c.before.before.before.before.loop.invariant.2, (taken c).room)
 
-turned_requires : tie.NeedTurnedRequires invariant_loop decreases_loop
+turned_requires : tie.Need-turned-requires invariant_loop decreases_loop
 turned_requires c κs =
     let k = c.before in
     rw c.one_on.ensures.0 (from_sums k, sums_after k, after_to k, (begin k).requires.1.1.1)
 
-narrow_requires : tie.NeedNarrowRequires invariant_loop decreases_loop
+narrow_requires : tie.Need-narrow-requires invariant_loop decreases_loop
 narrow_requires c κs = omega (arith, c.turned.ensures.1.genome_up, (begin c.before.before).pre.1.1.1.genome_small)
 
-narrow_requires_2 : tie.NeedNarrowRequires2 invariant_loop decreases_loop
+narrow_requires_2 : tie.Need-narrow-requires-2 invariant_loop decreases_loop
 narrow_requires_2 c κs = omega (arith, c.before.turned.ensures.1.transcript_up, (begin c.before.before.before).pre.1.1.1.transcript_small)
 
 -- the place has room in the tables
-below : (c : tie.AfterTurned invariant_loop decreases_loop) → c.turned.result.count < most_segments
+below : (c : tie.After-turned invariant_loop decreases_loop) → c.turned.result.count < most_segments
 below c = omega (arith, c.turned.ensures.1.count_below, (begin c.before.before).pre.1.1.1.few)
 
-mul_genome : tie.NeedOverflowMulGenome invariant_loop decreases_loop
+mul_genome : tie.Need-overflow-mul-genome invariant_loop decreases_loop
 mul_genome c = let b = below c.before.before in omega arith
 
-slice_write_genome : tie.NeedSliceWriteGenome invariant_loop decreases_loop
+slice_write_genome : tie.Need-slice-write-genome invariant_loop decreases_loop
 slice_write_genome c = let b = below c.before.before in omega (arith, c.before.before.before.before.before.before.before.before.loop.invariant.1.genome_long)
 
-mul_transcript : tie.NeedOverflowMulTranscript invariant_loop decreases_loop
+mul_transcript : tie.Need-overflow-mul-transcript invariant_loop decreases_loop
 mul_transcript c = let b = below c.before.before in omega arith
 
-slice_write_transcript : tie.NeedSliceWriteTranscript invariant_loop decreases_loop
+slice_write_transcript : tie.Need-slice-write-transcript invariant_loop decreases_loop
 slice_write_transcript c = let b = below c.before.before in omega (arith, c.before.before.before.before.before.before.before.before.loop.invariant.1.transcript_long)
 
-slice_write_letters : tie.NeedSliceWriteLetters invariant_loop decreases_loop
+slice_write_letters : tie.Need-slice-write-letters invariant_loop decreases_loop
 slice_write_letters c = let b = below c.before.before in omega (arith, c.before.before.before.before.before.before.before.before.loop.invariant.1.letters_long)
 
-loop_less : tie.NeedLoopSmaller invariant_loop decreases_loop
+loop_less : tie.Need-loop-smaller invariant_loop decreases_loop
 loop_less c = let m = moved c.before.before.before.before in omega arith
 
-loop_again : tie.NeedLoopPreserved invariant_loop decreases_loop
+loop_again : tie.Need-loop-preserved invariant_loop decreases_loop
 loop_again c =
     let k = c.before.before.before.before in
     let l = k.before.before.before.before.loop in
@@ -161,36 +161,36 @@ loop_again c =
       l.invariant.5 ∙ left ∙ turn,
     )
 
-enum_told : tie.NeedEnumTold invariant_loop decreases_loop
+enum_told : tie.Need-enum-told invariant_loop decreases_loop
 enum_told c = search rules
 
-same_length : tie.NeedSameLength invariant_loop decreases_loop
+same_length : tie.Need-same-length invariant_loop decreases_loop
 same_length c = c.before.before.before.loop.invariant.1.genome_long ∙ sym c.before.before.before.before.before.before.before.before.requires.0.genome_long
 
-same_length_2 : tie.NeedSameLength2 invariant_loop decreases_loop
+same_length_2 : tie.Need-same-length-2 invariant_loop decreases_loop
 same_length_2 c = c.before.before.before.loop.invariant.1.transcript_long ∙ sym c.before.before.before.before.before.before.before.before.requires.0.transcript_long
 
-same_length_3 : tie.NeedSameLength3 invariant_loop decreases_loop
+same_length_3 : tie.Need-same-length-3 invariant_loop decreases_loop
 same_length_3 c = c.before.before.before.loop.invariant.1.letters_long ∙ sym c.before.before.before.before.before.before.before.before.requires.0.letters_long
 
-returns : tie.NeedReturns invariant_loop decreases_loop
+returns : tie.Need-returns invariant_loop decreases_loop
 returns c =
     let l = c.before.before.before.loop in
     absurd (take_none _ l.at l.sums _ l.invariant.4 (sym c.before.before.step-at.ensures ∙ c.enum_told.given.1))
 
-enum_told_2 : tie.NeedEnumTold2 invariant_loop decreases_loop
+enum_told_2 : tie.Need-enum-told-2 invariant_loop decreases_loop
 enum_told_2 c = search rules
 
-same_length_4 : tie.NeedSameLength4 invariant_loop decreases_loop
+same_length_4 : tie.Need-same-length-4 invariant_loop decreases_loop
 same_length_4 c = c.before.before.before.loop.invariant.1.genome_long ∙ sym c.before.before.before.before.before.before.before.before.requires.0.genome_long
 
-same_length_5 : tie.NeedSameLength5 invariant_loop decreases_loop
+same_length_5 : tie.Need-same-length-5 invariant_loop decreases_loop
 same_length_5 c = c.before.before.before.loop.invariant.1.transcript_long ∙ sym c.before.before.before.before.before.before.before.before.requires.0.transcript_long
 
-same_length_6 : tie.NeedSameLength6 invariant_loop decreases_loop
+same_length_6 : tie.Need-same-length-6 invariant_loop decreases_loop
 same_length_6 c = c.before.before.before.loop.invariant.1.letters_long ∙ sym c.before.before.before.before.before.before.before.before.requires.0.letters_long
 
-returns_2 : tie.NeedReturns2 invariant_loop decreases_loop
+returns_2 : tie.Need-returns-2 invariant_loop decreases_loop
 returns_2 c =
     let l = c.before.before.before.loop in
     let a = c.before.before.before.before.before.before.before.before.args in

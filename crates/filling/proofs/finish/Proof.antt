@@ -8,34 +8,34 @@ use borrow.Author.Rules.{rules}
 use Rattle.filling.proofs.finish.Statement.{statement}
 use Rattle.filling.proofs.finish.Tie as tie
 
-clear_starts_requires : tie.NeedClearStartsRequires
+clear_starts_requires : tie.Need-clear-starts-requires
 clear_starts_requires c κs =
     let s = c.before.before.before.before.before.before in
     let l = length-set s.args.genome.now s.args.to.count c.before.before.narrow.result in
     (omega arith, omega arith)
 
-clear_starts_requires_2 : tie.NeedClearStartsRequires2
+clear_starts_requires_2 : tie.Need-clear-starts-requires-2
 clear_starts_requires_2 c κs =
     let s = c.before.before.before.before.before.before.before.before.before.before in
     let l = length-set s.args.transcript.now s.args.to.count c.before.before.before.before.before.narrow2.result in
     (omega arith, omega arith)
 
-clear_letters_requires : tie.NeedClearLettersRequires
+clear_letters_requires : tie.Need-clear-letters-requires
 clear_letters_requires c κs =
     let cleared = c.before.before.before.before.before.before.before in
     let s = cleared.before.before.before.before.before.before.before in
     (omega (arith, s.requires.0.letters_long, s.requires.1.few), omega (arith, s.requires.0.letters_long))
 
-same_length : tie.NeedSameLength
+same_length : tie.Need-same-length
 same_length c = ap length c.before.before.before.before.before.before.before.before.before.before.clear-starts.ensures ∙ simp (length-sets, length-set)
 
-same_length_2 : tie.NeedSameLength2
+same_length_2 : tie.Need-same-length-2
 same_length_2 c = ap length c.before.before.before.before.before.before.clear-starts2.ensures ∙ simp (length-sets, length-set)
 
-same_length_3 : tie.NeedSameLength3
+same_length_3 : tie.Need-same-length-3
 same_length_3 c = ap length c.before.before.clear-letters.ensures ∙ simp length-sets
 
-returns : tie.NeedReturns
+returns : tie.Need-returns
 returns c =
     let cleared = c.before.before.before.before.before.before.before.before.before.before in
     let narrow2 = cleared.before.before.narrow2 in

@@ -4,10 +4,10 @@ use borrow.Author.Rules.{rules}
 use Rattle.filling.proofs.number_of.Statement.{statement}
 use Rattle.filling.proofs.number_of.Tie as tie
 
-returns : tie.NeedReturns
+returns : tie.Need-returns
 returns c = rw c.if1.true refl
 
-returns_2 : tie.NeedReturns2
+returns_2 : tie.Need-returns-2
 returns_2 c = rw c.if1.false refl
 
 pub number_of_spec : {M : Type 1} → statement M

@@ -10,13 +10,13 @@ use borrow.Author.Rules.{rules}
 use Rattle.filling.proofs.put_next.Statement.{statement}
 use Rattle.filling.proofs.put_next.Tie as tie
 
-put_number_requires : tie.NeedPutNumberRequires
+put_number_requires : tie.Need-put-number-requires
 put_number_requires c κs = (simp length-set (omega arith), simp length-set (omega arith))
 
-same_length : tie.NeedSameLength
+same_length : tie.Need-same-length
 same_length c = ap length c.before.before.put-number.ensures ∙ simp (length-sets, length-set)
 
-returns : tie.NeedReturns
+returns : tie.Need-returns
 returns c =
     let gap = c.before.before.before.before.before in
     let a = gap.before.before.args in

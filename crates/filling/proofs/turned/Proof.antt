@@ -5,7 +5,7 @@ use borrow.Author.Rules.{rules}
 use Rattle.filling.proofs.turned.Statement.{statement}
 use Rattle.filling.proofs.turned.Tie as tie
 
-returns_2 : tie.NeedReturns2
+returns_2 : tie.Need-returns-2
 returns_2 c =
     let k = c.before.before.before.before.before.before.before.before.before in
     let p = k.before.requires in

@@ -20,13 +20,13 @@ use borrow.Author.Rules.{rules}
 use Rattle.filling.proofs.write_tables.Statement.{statement}
 use Rattle.filling.proofs.write_tables.Tie as tie
 
-fill_all_requires : tie.NeedFillAllRequires
+fill_all_requires : tie.Need-fill-all-requires
 fill_all_requires c κs =
     let s = c.before.before.before.before.before.before.before.before.before in
     let p = s.requires.1.1.0 in
     (s.requires.0, ((s.requires.1.0, p.0, p.1), subst SmallTally (sym s.requires.1.1.1) p.2))
 
-finish_requires : tie.NeedFinishRequires
+finish_requires : tie.Need-finish-requires
 finish_requires c κs =
     let filled = c.before.before.before.before.before.before.before.before.before.before.before in
     let s = filled.before.before.before.before.before.before.before.before.before.before in
@@ -35,14 +35,14 @@ finish_requires c κs =
     (long_after was nothing (elements_all a.forward (exons_of (records_from a.count a.s.now 0))) filled.fill-all.ensures.0 s.requires.0, s.requires.1.1.0.2)
 
 -- the numbers are in the table, which stays as long as it is
-put_number_requires : tie.NeedPutNumberRequires
+put_number_requires : tie.Need-put-number-requires
 put_number_requires c κs =
     let filled = c.before.before.before.before.before.before.before.before.before.before.before.before.before.before.before.before.before.before.before in
     let s = filled.before.before.before.before.before.before.before.before.before.before in
     let long = ap length filled.fill-all.ensures.1 ∙ length-sets s.args.exons.now 0 (numbers_all s.args.forward (exons_of (records_from s.args.count s.args.s.now 0))) ∙ s.requires.1.0 in
     (omega (arith, long), omega (arith, long))
 
-returns : tie.NeedReturns
+returns : tie.Need-returns
 returns c =
     let finished_at = c.before.before.before.before.before.before.before.before.before.before in
     let filled = c.before.before.before.before.before.before.before.before.before.before.before.before.before.before.before.before.before.before.before.before.before.before in

@@ -4,7 +4,7 @@ use borrow.Author.Rules.{rules}
 use Rattle.finding.proofs.farthest.Statement.{statement}
 use Rattle.finding.proofs.farthest.Tie as tie
 
-returns : tie.NeedReturns
+returns : tie.Need-returns
 returns c = rw (sym c.before.before.later.ensures, sym c.before.later2.ensures) c.later3.ensures
 
 pub farthest_spec : {M : Type 1} → statement M

@@ -11,51 +11,51 @@ use Rattle.finding.specs.laws.Index.{index_says, walk_arrives, walk_goes_on, wal
 use Rattle.finding.proofs.find_from.Statement.{statement}
 use Rattle.finding.proofs.find_from.Tie as tie
 
-abbrev invariant_loop : tie.invariant_loop
+abbrev invariant_loop : tie.invariant-loop
 invariant_loop starts count from p last i₀ i = (i ≤ index_of starts count (to_z w64 p)) × (i ≤ last)
 
-abbrev decreases_loop : tie.decreases_loop
+abbrev decreases_loop : tie.decreases-loop
 decreases_loop starts count from p last i₀ i = last - i
 
-sub_last : tie.NeedOverflowSubLast invariant_loop decreases_loop
+sub_last : tie.Need-overflow-sub-last invariant_loop decreases_loop
 sub_last c = search rules
 
-loop_holds : tie.NeedLoopInit invariant_loop decreases_loop
+loop_holds : tie.Need-loop-init invariant_loop decreases_loop
 loop_holds c =
     let below = (index_says c.args.starts.now c.args.count c.args.p c.requires.0.0).below in
     (rw (read c.ranges.p) c.requires.1, omega (arith, below, c.requires.1))
 
-add_is_above : tie.NeedOverflowAddIsAbove invariant_loop decreases_loop
+add_is_above : tie.Need-overflow-add-is-above invariant_loop decreases_loop
 add_is_above c = search rules
 
-mul_is_above : tie.NeedOverflowMulIsAbove invariant_loop decreases_loop
+mul_is_above : tie.Need-overflow-mul-is-above invariant_loop decreases_loop
 mul_is_above c = search rules
 
-element_copy_out_is_above : tie.NeedElementCopyOutIsAbove invariant_loop decreases_loop
+element_copy_out_is_above : tie.Need-element-copy-out-is-above invariant_loop decreases_loop
 element_copy_out_is_above c = search rules
 
-is_above_requires : tie.NeedIsAboveRequires invariant_loop decreases_loop
+is_above_requires : tie.Need-is-above-requires invariant_loop decreases_loop
 is_above_requires c κs = search rules
 
-returns : tie.NeedReturns invariant_loop decreases_loop
+returns : tie.Need-returns invariant_loop decreases_loop
 returns c =
     let at_loop = c.before.before.before.before in
     let s = at_loop.before in
     let p = read s.ranges.p in
     walk_arrives _ _ _ s.requires.0.0 _ (simp p at at_loop.loop.invariant.0) (simp p at (sym c.before.is-above.ensures ∙ c.if1.true))
 
-add_i : tie.NeedOverflowAddI invariant_loop decreases_loop
+add_i : tie.Need-overflow-add-i invariant_loop decreases_loop
 add_i c = search rules
 
-loop_less : tie.NeedLoopSmaller invariant_loop decreases_loop
+loop_less : tie.Need-loop-smaller invariant_loop decreases_loop
 loop_less c = search rules
 
-loop_again : tie.NeedLoopPreserved invariant_loop decreases_loop
+loop_again : tie.Need-loop-preserved invariant_loop decreases_loop
 loop_again c =
     let at_loop = c.before.before.before.before in
     (walk_goes_on _ _ _ at_loop.before.requires.0.0 _ at_loop.loop.invariant.0 (search rules) (sym c.before.is-above.ensures ∙ c.if1.false), search rules)
 
-returns_2 : tie.NeedReturns2 invariant_loop decreases_loop
+returns_2 : tie.Need-returns-2 invariant_loop decreases_loop
 returns_2 c =
     let s = c.before.before in
     let p = read s.ranges.p in

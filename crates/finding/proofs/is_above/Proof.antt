@@ -5,7 +5,7 @@ use Rattle.whole.specs.laws.Machine.{entry}
 use Rattle.finding.proofs.is_above.Statement.{statement}
 use Rattle.finding.proofs.is_above.Tie as tie
 
-returns : tie.NeedReturns
+returns : tie.Need-returns
 returns c = simp (read c.ranges.p, entry c.ranges.end)
 
 pub is_above_spec : {M : Type 1} → statement M

@@ -22,10 +22,10 @@ keeps : (z : ℤ) → le_z (pos 0) z ≡ true → pos (nat_abs z) ≡ z
 keeps (pos n) low = refl
 keeps (negsuc n) low = absurd (false≢true low)
 
-cast_result : tie.NeedOverflowCastResult
+cast_result : tie.Need-overflow-cast-result
 cast_result c = simp (read c.ranges.p) (asks c.args.p c.args.end c.requires.0 c.requires.1 c.ranges.end)
 
-returns : tie.NeedReturns
+returns : tie.Need-returns
 returns c = simp (read c.ranges.p) (keeps c.args.p c.requires.0)
 
 pub natural_spec : {M : Type 1} → statement M

@@ -8,16 +8,16 @@ use Rattle.finding.proofs.Halving.{Bracket, bracket_all, bracket_done, farthest_
 use Rattle.finding.proofs.quartered.Statement.{statement}
 use Rattle.finding.proofs.quartered.Tie as tie
 
-abbrev invariant_loop : tie.invariant_loop
+abbrev invariant_loop : tie.invariant-loop
 invariant_loop starts count p size low₀ left₀ most₀ low left most = (1 ≤ left) × (left ≤ most) × (low + left ≤ count) × (Rising starts count → Bracket starts count (pos p) low (low + left - 1))
 
-abbrev decreases_loop : tie.decreases_loop
+abbrev decreases_loop : tie.decreases-loop
 decreases_loop starts count p size low₀ left₀ most₀ low left most = most
 
-loop_holds : tie.NeedLoopInit invariant_loop decreases_loop
+loop_holds : tie.Need-loop-init invariant_loop decreases_loop
 loop_holds c = (omega arith, omega arith, omega arith, λ up. bracket_all (omega arith))
 
-loop_again : tie.NeedLoopPreserved invariant_loop decreases_loop
+loop_again : tie.Need-loop-preserved invariant_loop decreases_loop
 loop_again c =
     let at_loop = c.before.before.before.before.before in
     let inv = at_loop.loop.invariant in
@@ -28,7 +28,7 @@ loop_again c =
       λ up. rw c.farthest.ensures (quarter_more up _ _ _ (inv.3 up) inv.0 inv.2 (omega arith) (omega arith) (omega arith)),
     )
 
-returns : tie.NeedReturns invariant_loop decreases_loop
+returns : tie.Need-returns invariant_loop decreases_loop
 returns c = (omega arith, λ up. bracket_done (c.before.loop.invariant.3 up) (omega arith) (omega arith))
 
 pub quartered_spec : {M : Type 1} → statement M

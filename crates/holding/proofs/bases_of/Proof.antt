@@ -20,10 +20,10 @@ use Rattle.holding.proofs.bases_of.Tie as tie
 natural_by : {z : ℤ} → SFits w32 z → lt_z (to_z w32 (of_z w32 z)) (pos 0) ≡ false → le_z (pos 0) z ≡ true
 natural_by fits test = let t = simp (read fits) at test in omega (order, t)
 
-segment_count_requires : tie.NeedSegmentCountRequires
+segment_count_requires : tie.Need-segment-count-requires
 segment_count_requires c κs = sym c.before.head-holds.ensures ∙ c.if2.true
 
-returns : tie.NeedReturns
+returns : tie.Need-returns
 unfolding bases_of
 returns c =
     let at_count = c.before in
@@ -32,14 +32,14 @@ returns c =
     let kind : SFits w32 at_kind.before.before.args.head.kind = record { sfits = at_kind.before.struct_told.given.0.1 } in
     rw (same_32 {b = pos 0} kind (record { sfits = omega arith }) at_kind.if1.true, sym at_then.before.head-holds.ensures ∙ at_then.if2.true, at_count.segment-count.ensures.0)
 
-returns_2 : tie.NeedReturns2
+returns_2 : tie.Need-returns-2
 unfolding bases_of
 returns_2 c =
     let at_kind = c.before.before in
     let kind : SFits w32 at_kind.before.before.args.head.kind = record { sfits = at_kind.before.struct_told.given.0.1 } in
     rw (same_32 {b = pos 0} kind (record { sfits = omega arith }) at_kind.if1.true, sym c.before.head-holds.ensures ∙ c.if2.false)
 
-returns_3 : tie.NeedReturns3
+returns_3 : tie.Need-returns-3
 unfolding bases_of
 returns_3 c =
     let at_kind = c.before.before in
@@ -51,13 +51,13 @@ returns_3 c =
     let below : le_z (pos 0) h.length ≡ false = omega (order, test) in
     rw (other_32 h.kind (pos 0) at_left.if1.false, same_32 {b = pos 1} kind (record { sfits = omega arith }) at_kind.if3.true, below)
 
-natural_requires : tie.NeedNaturalRequires
+natural_requires : tie.Need-natural-requires
 natural_requires c κs =
     let told = c.before.before.before.before in
     let length : SFits w32 told.before.args.head.length = record { sfits = told.struct_told.given.1.1.1.1.1.1.1.0.1 } in
     simp (read length) (natural_by length c.if4.false)
 
-returns_4 : tie.NeedReturns4
+returns_4 : tie.Need-returns-4
 unfolding bases_of
 returns_4 c =
     let at_else = c.before.before in
@@ -70,7 +70,7 @@ returns_4 c =
     let is = simp (read length) at c.before.natural.ensures in
     rw (other_32 h.kind (pos 0) at_left.if1.false, same_32 {b = pos 1} kind (record { sfits = omega arith }) at_kind.if3.true, above, natural_le h.length most_bases above, le-leb (nat_abs h.length) most_bases (omega (arith, is))) (ap bases.Known is)
 
-returns_5 : tie.NeedReturns5
+returns_5 : tie.Need-returns-5
 unfolding bases_of
 returns_5 c =
     let at_else = c.before.before in
@@ -83,7 +83,7 @@ returns_5 c =
     let is = simp (read length) at c.before.natural.ensures in
     rw (other_32 h.kind (pos 0) at_left.if1.false, same_32 {b = pos 1} kind (record { sfits = omega arith }) at_kind.if3.true, above, natural_le h.length most_bases above, lt-leb (nat_abs h.length) most_bases (omega (arith, is)))
 
-returns_6 : tie.NeedReturns6
+returns_6 : tie.Need-returns-6
 unfolding bases_of
 returns_6 c =
     let h = c.before.before.before.args.head in

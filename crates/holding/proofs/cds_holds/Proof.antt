@@ -10,18 +10,18 @@ use Rattle.holding.specs.Holding.{cds_holds}
 use Rattle.holding.proofs.cds_holds.Statement.{statement}
 use Rattle.holding.proofs.cds_holds.Tie as tie
 
-returns : tie.NeedReturns
+returns : tie.Need-returns
 unfolding cds_holds
 returns c =
     let bits : SFits w32 c.before.before.before.before.args.head.bits = record { sfits = c.before.struct-told3.given.1.1.1.1.0.1 } in
     rw (same_32 {b = pos 0} bits (record { sfits = omega arith }) c.if1.true)
 
-cast_result : tie.NeedOverflowCastResult
+cast_result : tie.Need-overflow-cast-result
 cast_result c =
     let end : SFits w32 c.before.before.before.before.before.args.head.end = record { sfits = c.before.before.struct-told3.given.1.1.1.1.1.1.0.1 } in
     simp (read end) (fits_wider end)
 
-returns_2 : tie.NeedReturns2
+returns_2 : tie.Need-returns-2
 unfolding cds_holds
 returns_2 c =
     let at_start = c.before.before.before.before.before in
@@ -32,7 +32,7 @@ returns_2 c =
     let end : SFits w32 h.end = record { sfits = told.1.1.1.1.1.1.0.1 } in
     simp (other_32 h.bits (pos 0) c.before.if1.false, same_32 {b = pos 3} bits (record { sfits = omega arith }) c.if2.true, read start, read end, read (fits_wider end), entry at_start.ranges.length)
 
-returns_3 : tie.NeedReturns3
+returns_3 : tie.Need-returns-3
 unfolding cds_holds
 returns_3 c =
     let h = c.before.before.before.before.before.args.head in

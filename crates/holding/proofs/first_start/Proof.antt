@@ -6,13 +6,13 @@ use Rattle.holding.specs.laws.Held.{head_means, natural_says}
 use Rattle.holding.proofs.first_start.Statement.{statement}
 use Rattle.holding.proofs.first_start.Tie as tie
 
-natural_requires : tie.NeedNaturalRequires
+natural_requires : tie.Need-natural-requires
 natural_requires c κs =
     let h = c.before.args.head in
     let first : SFits w32 h.first = record { sfits = c.struct_told.given.1.1.0.1 } in
     simp (read first) (natural_says h.first (head_means h c.before.requires).first_natural)
 
-returns : tie.NeedReturns
+returns : tie.Need-returns
 returns c =
     let first : SFits w32 c.before.before.args.head.first = record { sfits = c.before.struct_told.given.1.1.0.1 } in
     simp (read first) at c.natural.ensures

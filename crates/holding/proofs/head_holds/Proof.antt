@@ -12,17 +12,17 @@ use Rattle.whole.specs.laws.Machine.{bits_32}
 use Rattle.holding.proofs.head_holds.Statement.{statement}
 use Rattle.holding.proofs.head_holds.Tie as tie
 
-cast_result : tie.NeedOverflowCastResult
+cast_result : tie.Need-overflow-cast-result
 cast_result c =
     let count : SFits w32 c.before.before.before.before.args.head.count = record { sfits = c.struct-told4.given.1.1.1.0.1 } in
     simp (read count) (fits_wider count)
 
-cast_result_3 : tie.NeedOverflowCastResult3
+cast_result_3 : tie.Need-overflow-cast-result-3
 cast_result_3 c =
     let records : SFits w32 c.before.before.before.before.args.head.records = record { sfits = c.struct-told4.given.1.1.1.1.1.1.1.1.0.1 } in
     simp (read records) (fits_wider records)
 
-returns : tie.NeedReturns
+returns : tie.Need-returns
 returns c =
     let h = c.before.before.before.before.args.head in
     let strand : SFits w32 h.strand = record { sfits = c.struct-told4.given.1.0.1 } in

@@ -5,7 +5,7 @@ use Rattle.whole.specs.laws.Machine.{bits_32}
 use Rattle.holding.proofs.is_forward.Statement.{statement}
 use Rattle.holding.proofs.is_forward.Tie as tie
 
-returns : tie.NeedReturns
+returns : tie.Need-returns
 returns c = bits_32 {a = c.before.args.head.strand} {b = pos 1} (record { sfits = c.struct_told.given.1.0.1 }) (record { sfits = omega arith })
 
 pub is_forward_spec : {M : Type 1} → statement M

@@ -4,10 +4,10 @@ use Rattle.whole.specs.laws.Machine.{cast_asks}
 use Rattle.holding.proofs.natural.Statement.{statement}
 use Rattle.holding.proofs.natural.Tie as tie
 
-cast_result : tie.NeedOverflowCastResult
+cast_result : tie.Need-overflow-cast-result
 cast_result c = simp (read c.ranges.x) (cast_asks c.args.x c.ranges.x c.requires)
 
-returns : tie.NeedReturns
+returns : tie.Need-returns
 returns c = simp (read c.ranges.x)
 
 pub natural_spec : {M : Type 1} → statement M

@@ -7,20 +7,20 @@ use Rattle.holding.specs.laws.Held.{head_means, natural_says}
 use Rattle.holding.proofs.record_count.Statement.{statement}
 use Rattle.holding.proofs.record_count.Tie as tie
 
-natural_requires : tie.NeedNaturalRequires
+natural_requires : tie.Need-natural-requires
 natural_requires c κs =
     let h = c.before.args.head in
     let records : SFits w32 h.records = record { sfits = c.struct_told.given.1.1.1.1.1.1.1.1.0.1 } in
     simp (read records) (natural_says h.records (head_means h c.before.requires).records.natural)
 
-cast_result : tie.NeedOverflowCastResult
+cast_result : tie.Need-overflow-cast-result
 cast_result c =
     let h = c.before.before.args.head in
     let records : SFits w32 h.records = record { sfits = c.before.struct_told.given.1.1.1.1.1.1.1.1.0.1 } in
     let is = simp (read records) at c.natural.ensures in
     omega (arith, is, (head_means h c.before.before.requires).records.below)
 
-returns : tie.NeedReturns
+returns : tie.Need-returns
 returns c =
     let h = c.before.before.args.head in
     let records : SFits w32 h.records = record { sfits = c.before.struct_told.given.1.1.1.1.1.1.1.1.0.1 } in

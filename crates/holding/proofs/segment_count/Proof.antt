@@ -8,13 +8,13 @@ use Rattle.holding.specs.laws.Held.{head_means, natural_says}
 use Rattle.holding.proofs.segment_count.Statement.{statement}
 use Rattle.holding.proofs.segment_count.Tie as tie
 
-natural_requires : tie.NeedNaturalRequires
+natural_requires : tie.Need-natural-requires
 natural_requires c κs =
     let h = c.before.args.head in
     let count : SFits w32 h.count = record { sfits = c.struct_told.given.1.1.1.0.1 } in
     simp (read count) (natural_says h.count (head_means h c.before.requires).count.natural)
 
-returns : tie.NeedReturns
+returns : tie.Need-returns
 returns c =
     let h = c.before.before.args.head in
     let count : SFits w32 h.count = record { sfits = c.before.struct_told.given.1.1.1.0.1 } in

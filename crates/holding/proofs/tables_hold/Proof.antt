@@ -24,7 +24,7 @@ low_where first genome transcript n h =
     let t_most = leb-true (get_or transcript n 0) most_bases t in
     record { genome_low = omega (arith, g_most); transcript_low = omega (arith, t_most) }
 
-returns : tie.NeedReturns
+returns : tie.Need-returns
 unfolding tables_hold
 returns c =
     let at_then = c.before in
@@ -35,11 +35,11 @@ returns c =
     let segments = sym (at_first.before.segments-hold.ensures (low_where _ a.genome.now a.transcript.now _ totals)) ∙ at_first.if1.true in
     rw (segments, totals, and-true) c.numbers-hold.ensures
 
-returns_2 : tie.NeedReturns2
+returns_2 : tie.Need-returns-2
 unfolding tables_hold
 returns_2 c = rw (sym c.before.totals-hold.ensures ∙ c.if2.false, and-false)
 
-returns_3 : tie.NeedReturns3
+returns_3 : tie.Need-returns-3
 unfolding tables_hold
 returns_3 c =
     let a = c.before.before.args in

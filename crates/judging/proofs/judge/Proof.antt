@@ -7,15 +7,15 @@ use borrow.Author.Rules.{rules}
 use Rattle.judging.proofs.judge.Statement.{statement}
 use Rattle.judging.proofs.judge.Tie as tie
 
-returns : tie.NeedReturns
+returns : tie.Need-returns
 unfolding judge
 returns c =
     (rw (lt-ltb both_bits c.before.before.before.args.numbers.cds c.if1.true), tt)
 
-judge_input_requires : tie.NeedJudgeInputRequires
+judge_input_requires : tie.Need-judge-input-requires
 judge_input_requires c κs = sym c.before.are-records.ensures ∙ c.if2.true
 
-returns_2 : tie.NeedReturns2
+returns_2 : tie.Need-returns-2
 unfolding judge
 returns_2 c =
     let at_records = c.before.before in
@@ -24,7 +24,7 @@ returns_2 c =
     let exact = sym at_records.are-records.ensures ∙ c.before.if2.true in
     (rw (known, exact) c.judge-input.ensures.0, c.judge-input.ensures.1)
 
-returns_3 : tie.NeedReturns3
+returns_3 : tie.Need-returns-3
 unfolding judge
 returns_3 c =
     let s = c.before.before.before.before.before in

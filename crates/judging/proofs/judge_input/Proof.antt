@@ -29,14 +29,14 @@ input s = input_of s.args.numbers s.args.s.now
 many : (s : tie.Start) → length (input s).records ≡ s.args.numbers.count
 many s = records_length s.args.numbers.count s.args.s.now 0
 
-returns : tie.NeedReturns
+returns : tie.Need-returns
 unfolding judge_input
 returns c =
     let s = c.before.before.before in
     (rw (eq-eqb (length (input s).records) 0 (many s ∙ c.if1.true)), tt)
 
 -- past the tests of the count, the strand decides
-module _ (c : tie.AfterStructTold) where
+module _ (c : tie.After-struct-told) where
   abbrev here : tie.Start
   here = c.before.before.before.before
 
@@ -46,14 +46,14 @@ module _ (c : tie.AfterStructTold) where
   strand_fits : SFits w32 here.args.numbers.strand
   strand_fits = record { sfits = c.struct_told.given.0.1 }
 
-returns_2 : tie.NeedReturns2
+returns_2 : tie.Need-returns-2
 unfolding judge_input
 returns_2 c =
     let k = c.before.before in
     let plus = same_32 (strand_fits k) one c.before.if2.true in
     (rw (some k, plus) c.judge-on.ensures.0, c.judge-on.ensures.1)
 
-returns_3 : tie.NeedReturns3
+returns_3 : tie.Need-returns-3
 unfolding judge_input
 returns_3 c =
     let k = c.before.before.before in
@@ -61,7 +61,7 @@ returns_3 c =
     let minus = same_32 (strand_fits k) minus_one c.before.if3.true in
     (rw (some k, not_plus, minus) c.judge-on2.ensures.0, c.judge-on2.ensures.1)
 
-returns_4 : tie.NeedReturns4
+returns_4 : tie.Need-returns-4
 unfolding judge_input
 returns_4 c =
     let k = c.before.before in

@@ -28,19 +28,19 @@ input s = input_of s.args.numbers s.args.s.now
 many : (s : tie.Start) → length (input s).records ≡ s.args.numbers.count
 many s = records_length s.args.numbers.count s.args.s.now 0
 
-returns : tie.NeedReturns
+returns : tie.Need-returns
 returns c =
     let s = c.before.before in
     (sym (ap told_of (too_many s.args.forward (input s) (omega (arith, many s)))), tt)
 
-returns_2 : tie.NeedReturns2
+returns_2 : tie.Need-returns-2
 returns_2 c =
     let s = c.before.before.before.before in
     let few : length (input s).records ≤ most_records = omega (arith, many s) in
     (sym (ap told_of (faulty s.args.forward (input s) few c.before.records-fault.ensures c.if2.true)), tt)
 
 -- past 4, 5 and 6, with the bounds
-module _ (c : tie.AfterHalfFault) where
+module _ (c : tie.After-half-fault) where
   abbrev here : tie.Start
   here = c.before.before.before.before.before.before.before.before.before
 
@@ -63,7 +63,7 @@ module _ (c : tie.AfterHalfFault) where
   sound : faults here.args.forward (input here).records ≡ 0
   sound = sym c.before.before.before.before.before.before.records-fault.ensures ∙ c.before.before.before.before.before.if2.false
 
-returns_3 : tie.NeedReturns3
+returns_3 : tie.Need-returns-3
 returns_3 c =
     let k = c.before in
     (sym (ap told_of (half_given (here k).args.forward (input (here k)) (few k) (sound k) (half_is k) c.if3.true)), tt)
@@ -79,20 +79,20 @@ module _ (c : tie.Else3) where
   reached : judge_on start.args.forward (input start) ≡ judge_exons start.args.forward (input start) (exons_of (input start).records)
   reached = to_exons start.args.forward (input start) (few c.before) (sound c.before) (sym (half_is c.before) ∙ c.if3.false)
 
-tally_all_requires : tie.NeedTallyAllRequires
+tally_all_requires : tie.Need-tally-all-requires
 tally_all_requires c κs = passed c
 
-bound_requires : tie.NeedBoundRequires
+bound_requires : tie.Need-bound-requires
 unfolding record_at
 bound_requires c κs =
     let r = passed c.before.before.before.before in
     (omega (arith, r.stands.numbers), r.start_whole)
 
-last_fault_requires : tie.NeedLastFaultRequires
+last_fault_requires : tie.Need-last-fault-requires
 last_fault_requires c κs = subst BoundedTally c.before.before.sums.given.1 c.before.before.before.before.tally-all.ensures.1
 
 -- what was tallied, and what the last tests said of it
-module _ (c : tie.AfterLastFault) where
+module _ (c : tie.After-last-fault) where
   abbrev before_sums : tie.Else3
   before_sums = c.before.before.before.before.before.before
 
@@ -113,7 +113,7 @@ module _ (c : tie.AfterLastFault) where
       c.last-fault.ensures
       ∙ ap₂ (λ (from to : Bound). last_fault from to sums.count c.before.bound.result sums.genome sums.transcript) (start_is before_sums.before) (end_is before_sums.before)
 
-returns_4 : tie.NeedReturns4
+returns_4 : tie.Need-returns-4
 returns_4 c =
     let k = c.before in
     let s = start (before_sums k) in
@@ -121,7 +121,7 @@ returns_4 c =
     let last = last_refused s.args.forward (input s) (sums k) k.before.bound.result (last_is k) (all k) (starts k) told_sums c.if4.true in
     (sym (ap told_of (reached (before_sums k) ∙ last)), tt)
 
-returns_5 : tie.NeedReturns5
+returns_5 : tie.Need-returns-5
 returns_5 c =
     let k = c.before in
     let s = start (before_sums k) in
@@ -130,7 +130,7 @@ returns_5 c =
     let last = last_passed s.args.forward (input s) (sums k) k.before.bound.result (last_is k) (all k) (starts k) (sym q ∙ e.0) c.if4.false in
     (sym (ap told_of (reached (before_sums k)) ∙ last), subst BoundedTally q e.1)
 
-returns_6 : tie.NeedReturns6
+returns_6 : tie.Need-returns-6
 returns_6 c =
     let k = c.before.before.before.before in
     let s = start k in

@@ -7,17 +7,17 @@ use borrow.Author.Rules.{rules}
 use Rattle.judging.proofs.last_fault.Statement.{statement}
 use Rattle.judging.proofs.last_fault.Tie as tie
 
-returns : tie.NeedReturns
+returns : tie.Need-returns
 unfolding last_fault
 returns c = rw (eq-eqb c.before.args.sums.count 0 c.if1.true)
 
-returns_2 : tie.NeedReturns2
+returns_2 : tie.Need-returns-2
 unfolding last_fault
 returns_2 c =
     let a = c.before.before.args in
     rw (ne_eqb a.sums.count 0 c.before.if1.false, lt-ltb most_bases a.sums.transcript c.if2.true)
 
-returns_3 : tie.NeedReturns3
+returns_3 : tie.Need-returns-3
 unfolding last_fault
 returns_3 c =
     let a = c.before.before.before.before.args in
@@ -27,7 +27,7 @@ returns_3 c =
       lt-ltb most_bases (a.first + a.sums.genome) c.if3.true,
     )
 
-returns_4 : tie.NeedReturns4
+returns_4 : tie.Need-returns-4
 unfolding last_fault
 returns_4 c =
     let a = c.before.before.before.before.before.args in

@@ -4,19 +4,19 @@ use Rattle.whole.specs.laws.Whole.{whole}
 use Rattle.judging.proofs.range_fault.Statement.{statement}
 use Rattle.judging.proofs.range_fault.Tie as tie
 
-returns : tie.NeedReturns
+returns : tie.Need-returns
 unfolding range_fault
 returns c = search whole
 
-returns_2 : tie.NeedReturns2
+returns_2 : tie.Need-returns-2
 unfolding range_fault
 returns_2 c = search whole
 
-returns_3 : tie.NeedReturns3
+returns_3 : tie.Need-returns-3
 unfolding range_fault
 returns_3 c = search whole
 
-returns_4 : tie.NeedReturns4
+returns_4 : tie.Need-returns-4
 unfolding range_fault
 returns_4 c = search whole
 

@@ -6,7 +6,7 @@ use borrow.Author.Rules.{rules}
 use Rattle.judging.proofs.signed.Statement.{statement}
 use Rattle.judging.proofs.signed.Tie as tie
 
-returns : tie.NeedReturns
+returns : tie.Need-returns
 returns c = to_z_pos w64 c.args.n (omega arith)
 
 pub signed_spec : {M : Type 1} → statement M

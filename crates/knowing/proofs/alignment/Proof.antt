@@ -3,7 +3,7 @@ use borrow.Author.Rules.{rules}
 use Rattle.knowing.proofs.alignment.Statement.{statement}
 use Rattle.knowing.proofs.alignment.Tie as tie
 
-returns : tie.NeedReturns
+returns : tie.Need-returns
 returns c =
     let s = c.before in
     let f = s.before in

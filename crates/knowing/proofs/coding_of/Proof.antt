@@ -17,18 +17,18 @@ is_given c = sym (bits_32 {a = c.before.before.args.head.bits} {b = pos 3} (reco
 is_missing : (c : tie.Else1) → both_given c.before.before.args.head ≡ false
 is_missing c = sym (bits_32 {a = c.before.before.args.head.bits} {b = pos 3} (record { sfits = c.before.struct_told.given.1.1.1.1.0.1 }) (record { sfits = omega arith })) ∙ ne_eqb _ _ c.if1.false
 
-natural_requires : tie.NeedNaturalRequires
+natural_requires : tie.Need-natural-requires
 natural_requires c κs =
     let s = c.before.before.before in
     simp (told w32 s.args.head.start c.struct-told2.given.1.1.1.1.1.0.1) (s.requires.start (is_given c.before))
 
-natural_requires_2 : tie.NeedNaturalRequires2
+natural_requires_2 : tie.Need-natural-requires-2
 natural_requires_2 c κs =
     let t = c.before.before.before in
     let s = t.before.before in
     simp (told w32 s.args.head.end c.struct-told3.given.1.1.1.1.1.1.0.1) (s.requires.end (is_given t))
 
-returns : tie.NeedReturns
+returns : tie.Need-returns
 returns c =
     let n = c.before.before in
     let t = n.before.before in
@@ -37,7 +37,7 @@ returns c =
     let end = simp (told w32 s.args.head.end c.before.struct-told3.given.1.1.1.1.1.1.0.1) at c.natural2.ensures in
     simp (is_given t, start, end)
 
-returns_2 : tie.NeedReturns2
+returns_2 : tie.Need-returns-2
 returns_2 c = simp (is_missing c)
 
 pub coding_of_spec : {M : Type 1} → statement M

@@ -5,13 +5,13 @@ use borrow.Author.Rules.{rules}
 use Rattle.knowing.proofs.is_held.Statement.{statement}
 use Rattle.knowing.proofs.is_held.Tie as tie
 
-returns : tie.NeedReturns
+returns : tie.Need-returns
 returns c = sym (known_lies _ _ _ (sym c.before.before.Known-of.ensures ∙ c.enum_told.given.1)).held
 
-returns_2 : tie.NeedReturns2
+returns_2 : tie.Need-returns-2
 returns_2 c = sym (known_measures _ _ _ (sym c.before.before.Known-of.ensures ∙ c.enum-told2.given.1)).held
 
-returns_3 : tie.NeedReturns3
+returns_3 : tie.Need-returns-3
 returns_3 c = sym (known_breaks _ (sym c.before.before.Known-of.ensures ∙ c.enum-told3.given.1))
 
 pub is_held_spec : {M : Type 1} → statement M

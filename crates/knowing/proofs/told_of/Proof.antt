@@ -18,11 +18,11 @@ use Rattle.knowing.proofs.told_of.Statement.{statement}
 use Rattle.knowing.proofs.told_of.Tie as tie
 
 -- the bases that are known
-bases_are : (p : tie.AfterBases) → bases_of p.before.before.before.args.head p.before.before.before.args.transcript.now ≡ bases.Known p.bases.given.0.0
+bases_are : (p : tie.After-bases) → bases_of p.before.before.before.args.head p.before.before.before.args.transcript.now ≡ bases.Known p.bases.given.0.0
 bases_are p = sym p.before.before.bases-of.ensures ∙ p.bases.given.1
 
 -- from the CDS that holds back to them
-abbrev bases_from : tie.Then1 → tie.AfterBases
+abbrev bases_from : tie.Then1 → tie.After-bases
 bases_from c = c.before.before.before
 
 cds_is : (c : tie.Then1) → cds_holds (bases_from c).before.before.before.args.head (bases_from c).bases.given.0.0 ≡ true
@@ -36,26 +36,26 @@ is_records c =
 is_length : (c : tie.Else2) → of_records (bases_from c.before.before.before).before.before.before.args.head ≡ false
 is_length c = other_32 (bases_from c.before.before.before).before.before.before.args.head.kind (pos 0) c.if2.false
 
-coding_of_requires : tie.NeedCodingOfRequires
+coding_of_requires : tie.Need-coding-of-requires
 coding_of_requires c κs = natural_where _ _ (cds_is c)
 
-alignment_requires : tie.NeedAlignmentRequires
+alignment_requires : tie.Need-alignment-requires
 alignment_requires c κs = (right_head _ _ (bases_are (bases_from c.before.before.before)) (is_records c)).0
 
-returns : tie.NeedReturns
+returns : tie.Need-returns
 unfolding told_of
 returns c =
     let o = c.before.before.before in
     rw (bases_are (bases_from o.before), cds_is o.before, is_records c.before, c.alignment.ensures, o.coding-of.ensures)
 
-natural_requires : tie.NeedNaturalRequires
+natural_requires : tie.Need-natural-requires
 natural_requires c κs =
     let e = c.before in
     let p = bases_from e.before.before.before in
     let h = p.before.before.before.args.head in
     simp (told w32 h.length c.struct-told2.given.1.1.1.1.1.1.1.0.1) (right_length _ _ (bases_are p) (is_length e))
 
-returns_2 : tie.NeedReturns2
+returns_2 : tie.Need-returns-2
 unfolding told_of
 returns_2 c =
     let e = c.before.before in
@@ -65,11 +65,11 @@ returns_2 c =
     let long = simp (told w32 h.length c.before.struct-told2.given.1.1.1.1.1.1.1.0.1) at c.natural.ensures in
     rw (bases_are p, cds_is o.before, is_length e, long, o.coding-of.ensures)
 
-returns_3 : tie.NeedReturns3
+returns_3 : tie.Need-returns-3
 unfolding told_of
 returns_3 c = rw (bases_are c.before.before.before, sym c.before.cds-holds.ensures ∙ c.if1.false)
 
-returns_4 : tie.NeedReturns4
+returns_4 : tie.Need-returns-4
 unfolding told_of
 returns_4 c = rw (sym c.before.before.bases-of.ensures ∙ c.enum_told.given.1)
 

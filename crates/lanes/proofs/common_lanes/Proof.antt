@@ -10,30 +10,30 @@ use Rattle.lanes.proofs.Lanes.{lanes_none, next_block}
 use Rattle.lanes.proofs.common_lanes.Statement.{statement}
 use Rattle.lanes.proofs.common_lanes.Tie as tie
 
-abbrev invariant_loop : tie.invariant_loop
+abbrev invariant_loop : tie.invariant-loop
 invariant_loop genome transcript letters count apart₀ bits₀ last done₀ apart bits done = (done ≤ count) × (length apart ≡ 8) × (length bits ≡ 8) × (lanes_within 0 apart ≡ all_below (common_same_at (tables genome transcript letters)) done) × ((k : ℕ) → lanes_within k bits ≡ all_below (common_within_at k (tables genome transcript letters)) done)
 
-abbrev decreases_loop : tie.decreases_loop
+abbrev decreases_loop : tie.decreases-loop
 decreases_loop genome transcript letters count apart₀ bits₀ last done₀ apart bits done = count - done
 
-loop_holds : tie.NeedLoopInit invariant_loop decreases_loop
+loop_holds : tie.Need-loop-init invariant_loop decreases_loop
 loop_holds c = (search rules, search rules, search rules, lanes_none _ _, λ k. lanes_none _ _)
 
 -- where the block that is taken begins
-begins : (c : tie.AfterAtMost invariant_loop decreases_loop) → let first = c.at_most.result in
+begins : (c : tie.After-at-most invariant_loop decreases_loop) → let first = c.at_most.result in
     (first ≤ c.before.before.loop.done) × (first + 8 ≤ c.before.before.before.args.count) × (c.before.before.loop.done < first + 8)
 begins c = next_block _ _ _ c.before.before.before.requires.0 (search rules) c.at_most.ensures
 
-lanes_on_requires : tie.NeedLanesOnRequires invariant_loop decreases_loop
+lanes_on_requires : tie.Need-lanes-on-requires invariant_loop decreases_loop
 lanes_on_requires c κs = let (meets, ends, more) = begins c.before.before in (search rules, search rules, search rules)
 
-add_done : tie.NeedOverflowAddDone invariant_loop decreases_loop
+add_done : tie.Need-overflow-add-done invariant_loop decreases_loop
 add_done c = let (meets, ends, more) = begins c.before.before.before.before.before in search rules
 
-loop_less : tie.NeedLoopSmaller invariant_loop decreases_loop
+loop_less : tie.Need-loop-smaller invariant_loop decreases_loop
 loop_less c = let (meets, ends, more) = begins c.before.before.before.before.before in search rules
 
-loop_again : tie.NeedLoopPreserved invariant_loop decreases_loop
+loop_again : tie.Need-loop-preserved invariant_loop decreases_loop
 loop_again c =
     let at_first = c.before.before.before.before.before in
     let kept = at_first.before.before.loop.invariant in
@@ -47,7 +47,7 @@ loop_again c =
       λ k. on_stretch _ _ _ _ meets reached (kept.4 k) (took.ensures.1 k),
     )
 
-returns : tie.NeedReturns invariant_loop decreases_loop
+returns : tie.Need-returns invariant_loop decreases_loop
 returns c =
     let at_loop = c.before.before.before.before in
     let kept = at_loop.before.loop.invariant in (

@@ -4,7 +4,7 @@ use Rattle.numbered.specs.laws.All.{stretched}
 use Rattle.lanes.proofs.common_steps.Statement.{statement}
 use Rattle.lanes.proofs.common_steps.Tie as tie
 
-returns : tie.NeedReturns
+returns : tie.Need-returns
 returns c =
     let front = c.before.before.common-steps-in.ensures in
     let back = c.before.common-steps-in2.ensures in (
@@ -12,7 +12,7 @@ returns c =
       λ k. c.both-seen.ensures.1 k ∙ ap₂ ◌&&◌ (front.1 k) (back.1 k) ∙ stretched _ _ _ _ (omega arith) (omega arith),
     )
 
-returns_2 : tie.NeedReturns2
+returns_2 : tie.Need-returns-2
 returns_2 c = c.common-lanes.ensures
 
 pub common_steps_spec : {M : Type 1} → statement M

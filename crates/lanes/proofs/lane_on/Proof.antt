@@ -6,7 +6,7 @@ use Rattle.lanes.proofs.NoBits.{apart_is}
 use Rattle.lanes.proofs.lane_on.Statement.{statement}
 use Rattle.lanes.proofs.lane_on.Tie as tie
 
-returns : tie.NeedReturns
+returns : tie.Need-returns
 unfolding common_same common_within
 returns c =
     let at_apart = c.before in

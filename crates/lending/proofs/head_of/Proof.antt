@@ -4,7 +4,7 @@ use Rattle.lending.specs.Lending.{head_at}
 use Rattle.lending.proofs.head_of.Statement.{statement}
 use Rattle.lending.proofs.head_of.Tie as tie
 
-returns : tie.NeedReturns
+returns : tie.Need-returns
 unfolding head_at
 returns c = search rules
 

@@ -6,7 +6,7 @@ use Rattle.letters.proofs.OneLetter.{common_is}
 use Rattle.letters.proofs.common_letter_on.Statement.{statement}
 use Rattle.letters.proofs.common_letter_on.Tie as tie
 
-returns : tie.NeedReturns
+returns : tie.Need-returns
 returns c =
     let at_sub = c.before in
     let a = at_sub.before in

@@ -4,7 +4,7 @@ use Rattle.letters.specs.Letters.{is_common}
 use Rattle.letters.proofs.is_common.Statement.{statement}
 use Rattle.letters.proofs.is_common.Tie as tie
 
-returns : tie.NeedReturns
+returns : tie.Need-returns
 unfolding is_common
 returns c = search rules
 

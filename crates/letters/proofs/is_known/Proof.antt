@@ -4,7 +4,7 @@ use Rattle.cigar.specs.Elements.{is_letter}
 use Rattle.letters.proofs.is_known.Statement.{statement}
 use Rattle.letters.proofs.is_known.Tie as tie
 
-returns : tie.NeedReturns
+returns : tie.Need-returns
 unfolding is_letter
 returns c = refl
 

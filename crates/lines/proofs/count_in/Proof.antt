@@ -16,10 +16,10 @@ kept : (z : ℤ) → SFits w32 z → le_z (pos 0) z ≡ true → T (non_neg z) �
 kept (pos n) f e = (tt, omega (arith, f.sfits))
 kept (negsuc n) f e = absurd (false≢true e)
 
-cast_result : tie.NeedOverflowCastResult
+cast_result : tie.Need-overflow-cast-result
 cast_result c = simp (read c.ranges.count) (kept c.args.count c.ranges.count c.requires)
 
-returns : tie.NeedReturns
+returns : tie.Need-returns
 returns c = simp (read c.ranges.count)
 
 pub count_in_spec : {M : Type 1} → statement M

@@ -29,12 +29,12 @@ use borrow.Author.Rules.{rules}
 use Rattle.lines.proofs.list_card.Statement.{statement}
 use Rattle.lines.proofs.list_card.Tie as tie
 
-abbrev entry : tie.AfterBuildCard → tie.Start
+abbrev entry : tie.After-build-card → tie.Start
 entry c = c.before.before.before.before.before.before.before
 
 -- what building has made
-module _ (c : tie.AfterHead) where
-  abbrev call : tie.AfterBuildCard
+module _ (c : tie.After-head) where
+  abbrev call : tie.After-build-card
   call = c.before.before
 
   abbrev bytes : List ℕ
@@ -69,17 +69,17 @@ module _ (c : tie.AfterHead) where
       let a = (entry call).args in
       call.build_card.ensures.1.0 ∙ ap (λ (j : Outcome Made). tables_after j (tables a.genome.now a.transcript.now a.letters.now)) makes_head.judged
 
-cast_is_plus : tie.NeedOverflowCastIsPlus
+cast_is_plus : tie.Need-overflow-cast-is-plus
 cast_is_plus c = let h = c.before.before.before in rw (read (strand_small h)) (fits_wider (strand_small h))
 
-count_in_requires : tie.NeedCountInRequires
+count_in_requires : tie.Need-count-in-requires
 count_in_requires c κs =
     let h = c.before.before.before.before.before in
     rw (read (count_small h), count_is h) (le-leb 0 (length (elements_made (thing h))) (omega arith))
 
 -- the strand and the count, as they are handed on
-module _ (c : tie.AfterCountIn) where
-  abbrev known : tie.AfterHead
+module _ (c : tie.After-count-in) where
+  abbrev known : tie.After-head
   known = c.before.before.before.before.before.before
 
   forward_is : c.before.before.is-plus.result ≡ (thing known).forward
@@ -91,19 +91,19 @@ module _ (c : tie.AfterCountIn) where
   number_is : c.count-in.result ≡ length (elements_made (thing known))
   number_is = c.count-in.ensures ∙ ap nat_abs (read (count_small known) ∙ count_is known)
 
-put_listing_requires : tie.NeedPutListingRequires
+put_listing_requires : tie.Need-put-listing-requires
 put_listing_requires c κs =
     let n = c.before.before.before.before in
     let h = known n in
     ((omega (arith, number_is n, (sane h).few), omega arith), made_holds (thing h) (tables_are h) (number_is n) (sane h))
 
-put_refusal_requires : tie.NeedPutRefusalRequires
+put_refusal_requires : tie.Need-put-refusal-requires
 put_refusal_requires c κs = omega arith
 
-same_length : tie.NeedSameLength
+same_length : tie.Need-same-length
 same_length c = put_length c.before.before.put-listing.ensures.0
 
-returns : tie.NeedReturns
+returns : tie.Need-returns
 returns c =
     let n = c.before.before.before.before.before.before.before in
     let h = known n in
@@ -113,10 +113,10 @@ returns c =
     let w = put_front (put_as e p.0) (omega (arith, p.1, (entry (call h)).requires)) in
     (w.0, (p.1, (w.1, b.1)))
 
-same_length_2 : tie.NeedSameLength2
+same_length_2 : tie.Need-same-length-2
 same_length_2 c = put_length c.before.before.put-refusal.ensures.0
 
-returns_2 : tie.NeedReturns2
+returns_2 : tie.Need-returns-2
 returns_2 c =
     let k = c.before.before.before.before.before.k.given in
     let b = c.before.before.before.before.before.before.before.build_card.ensures in

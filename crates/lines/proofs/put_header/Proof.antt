@@ -13,14 +13,14 @@ use borrow.Author.Rules.{rules}
 use Rattle.lines.proofs.put_header.Statement.{statement}
 use Rattle.lines.proofs.put_header.Tie as tie
 
-slice_write_buffer_2 : tie.NeedSliceWriteBuffer2
+slice_write_buffer_2 : tie.Need-slice-write-buffer-2
 slice_write_buffer_2 c = simp length-set (omega arith)
 
-put_numbers_requires : tie.NeedPutNumbersRequires
+put_numbers_requires : tie.Need-put-numbers-requires
 put_numbers_requires c κs = simp length-set (omega arith)
 
 -- after the numbers
-module _ (c : tie.AfterSliceKnown3) where
+module _ (c : tie.After-slice-known3) where
   abbrev start : tie.Start
   start = c.before.before.before.before.before.before.before.before.before.before
 
@@ -33,10 +33,10 @@ module _ (c : tie.AfterSliceKnown3) where
   unfolding listing_header
   whole = then_put five c.before.before.put-numbers.ensures.0
 
-same_length : tie.NeedSameLength
+same_length : tie.Need-same-length
 same_length c = put_length (whole c)
 
-returns : tie.NeedReturns
+returns : tie.Need-returns
 returns c = (whole c, omega arith)
 
 pub put_header_spec : {M : Type 1} → statement M

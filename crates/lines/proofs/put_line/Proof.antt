@@ -10,11 +10,11 @@ use borrow.Author.Rules.{rules}
 use Rattle.lines.proofs.put_line.Statement.{statement}
 use Rattle.lines.proofs.put_line.Tie as tie
 
-put_numbers_requires : tie.NeedPutNumbersRequires
+put_numbers_requires : tie.Need-put-numbers-requires
 put_numbers_requires c κs = simp length-set (omega arith)
 
 -- after the numbers
-module _ (c : tie.AfterSliceKnown2) where
+module _ (c : tie.After-slice-known2) where
   abbrev start : tie.Start
   start = c.before.before.before.before.before.before.before.before.before
 
@@ -23,10 +23,10 @@ module _ (c : tie.AfterSliceKnown2) where
   unfolding line_at
   whole = then_put (byte_put start.args.buffer.now start.args.at _) (rw c.before.before.before.before.before.before.before.count_at.ensures at c.before.before.put-numbers.ensures.0)
 
-same_length : tie.NeedSameLength
+same_length : tie.Need-same-length
 same_length c = put_length (whole c)
 
-returns : tie.NeedReturns
+returns : tie.Need-returns
 returns c = (whole c, omega arith)
 
 pub put_line_spec : {M : Type 1} → statement M

@@ -10,7 +10,7 @@ use Rattle.lines.proofs.put_listing.Statement.{statement}
 use Rattle.lines.proofs.put_listing.Tie as tie
 
 -- after the lines
-module _ (c : tie.AfterSliceKnown3) where
+module _ (c : tie.After-slice-known3) where
   abbrev start : tie.Start
   start = c.before.before.before.before.before.before.before.before.before.before.before
 
@@ -20,10 +20,10 @@ module _ (c : tie.AfterSliceKnown3) where
       rw (listing_is (tables start.args.genome.now start.args.transcript.now start.args.letters.now) start.args.count start.pre.1 start.args.forward) at
       (then_put c.before.before.before.before.before.before.put-header.ensures.0 c.before.before.put-lines.ensures.0)
 
-same_length : tie.NeedSameLength
+same_length : tie.Need-same-length
 same_length c = put_length (whole c)
 
-returns : tie.NeedReturns
+returns : tie.Need-returns
 returns c = (whole c, omega arith)
 
 pub put_listing_spec : {M : Type 1} → statement M

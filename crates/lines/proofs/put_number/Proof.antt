@@ -10,19 +10,19 @@ use borrow.Author.Rules.{rules}
 use Rattle.lines.proofs.put_number.Statement.{statement}
 use Rattle.lines.proofs.put_number.Tie as tie
 
-put_digits_requires : tie.NeedPutDigitsRequires
+put_digits_requires : tie.Need-put-digits-requires
 put_digits_requires c κs = simp length-set (omega (arith, number_short c.before.before.args.n c.before.before.ranges.n.fits))
 
-whole : (c : tie.AfterSliceKnown2) → Put c.before.before.before.before.before.args.buffer.now c.before.before.put-digits.new.0 c.before.before.before.before.before.args.at c.before.before.put-digits.result (number_text c.before.before.before.before.before.args.n)
+whole : (c : tie.After-slice-known2) → Put c.before.before.before.before.before.args.buffer.now c.before.before.put-digits.new.0 c.before.before.before.before.before.args.at c.before.before.put-digits.result (number_text c.before.before.before.before.before.args.n)
 whole c =
     let a = c.before.before.before.before.before.args in
     let e = c.before.before.put-digits.ensures in
     then_put (byte_put a.buffer.now a.at 32) (record { past = e.0; stored = e.1 })
 
-same_length : tie.NeedSameLength
+same_length : tie.Need-same-length
 same_length c = put_length (whole c)
 
-returns : tie.NeedReturns
+returns : tie.Need-returns
 returns c =
     let s = c.before.before.before.before.before in
     (whole c, omega (arith, (whole c).past, number_short s.args.n s.ranges.n.fits))

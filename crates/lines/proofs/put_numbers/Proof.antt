@@ -11,10 +11,10 @@ use borrow.Author.Rules.{rules}
 use Rattle.lines.proofs.put_numbers.Statement.{statement}
 use Rattle.lines.proofs.put_numbers.Tie as tie
 
-put_number_requires_2 : tie.NeedPutNumberRequires2
+put_number_requires_2 : tie.Need-put-number-requires-2
 put_number_requires_2 c κs = omega (arith, put_length c.before.before.before.put-number.ensures.0)
 
-put_number_requires_3 : tie.NeedPutNumberRequires3
+put_number_requires_3 : tie.Need-put-number-requires-3
 put_number_requires_3 c κs =
     omega (
       arith,
@@ -23,7 +23,7 @@ put_number_requires_3 c κs =
     )
 
 -- after the third number
-module _ (c : tie.AfterSliceKnown4) where
+module _ (c : tie.After-slice-known4) where
   abbrev start : tie.Start
   start = c.before.before.before.before.before.before.before.before.before.before.before.before.before
 
@@ -43,16 +43,16 @@ module _ (c : tie.AfterSliceKnown4) where
   unfolding numbers_text
   whole = then_put numbers (byte_put _ _ 10)
 
-slice_write_buffer : tie.NeedSliceWriteBuffer
+slice_write_buffer : tie.Need-slice-write-buffer
 slice_write_buffer c = omega (arith, put_length (numbers c))
 
-add_result : tie.NeedOverflowAddResult
+add_result : tie.Need-overflow-add-result
 add_result c = omega (arith, put_length (numbers c))
 
-same_length : tie.NeedSameLength
+same_length : tie.Need-same-length
 same_length c = put_length (whole c)
 
-returns : tie.NeedReturns
+returns : tie.Need-returns
 returns c = (whole c, omega arith)
 
 pub put_numbers_spec : {M : Type 1} → statement M

@@ -12,29 +12,29 @@ use borrow.Author.Rules.{rules}
 use Rattle.lines.proofs.put_refusal.Statement.{statement}
 use Rattle.lines.proofs.put_refusal.Tie as tie
 
-slice_write_buffer_2 : tie.NeedSliceWriteBuffer2
+slice_write_buffer_2 : tie.Need-slice-write-buffer-2
 slice_write_buffer_2 c = simp length-set (omega arith)
 
-slice_write_buffer_3 : tie.NeedSliceWriteBuffer3
+slice_write_buffer_3 : tie.Need-slice-write-buffer-3
 slice_write_buffer_3 c = simp length-set (omega arith)
 
-slice_write_buffer_4 : tie.NeedSliceWriteBuffer4
+slice_write_buffer_4 : tie.Need-slice-write-buffer-4
 slice_write_buffer_4 c = simp length-set (omega arith)
 
-slice_write_buffer_5 : tie.NeedSliceWriteBuffer5
+slice_write_buffer_5 : tie.Need-slice-write-buffer-5
 slice_write_buffer_5 c = simp length-set (omega arith)
 
-slice_write_buffer_6 : tie.NeedSliceWriteBuffer6
+slice_write_buffer_6 : tie.Need-slice-write-buffer-6
 slice_write_buffer_6 c = simp length-set (omega arith)
 
-slice_write_buffer_7 : tie.NeedSliceWriteBuffer7
+slice_write_buffer_7 : tie.Need-slice-write-buffer-7
 slice_write_buffer_7 c = simp length-set (omega arith)
 
-put_number_requires : tie.NeedPutNumberRequires
+put_number_requires : tie.Need-put-number-requires
 put_number_requires c κs = simp length-set (omega arith)
 
 -- after the number
-module _ (c : tie.AfterSliceKnown2) where
+module _ (c : tie.After-slice-known2) where
   abbrev start : tie.Start
   start = c.before.before.before.before.before
 
@@ -47,16 +47,16 @@ module _ (c : tie.AfterSliceKnown2) where
   unfolding refusal_text
   whole = then_put number (byte_put _ _ 10)
 
-slice_write_buffer_8 : tie.NeedSliceWriteBuffer8
+slice_write_buffer_8 : tie.Need-slice-write-buffer-8
 slice_write_buffer_8 c = omega (arith, put_length (number c))
 
-add_result : tie.NeedOverflowAddResult
+add_result : tie.Need-overflow-add-result
 add_result c = omega (arith, put_length (number c))
 
-same_length : tie.NeedSameLength
+same_length : tie.Need-same-length
 same_length c = put_length (whole c)
 
-returns : tie.NeedReturns
+returns : tie.Need-returns
 returns c = (whole c, omega arith)
 
 pub put_refusal_spec : {M : Type 1} → statement M

@@ -7,7 +7,7 @@ use borrow.Author.Rules.{rules}
 use Rattle.listing.proofs.main.Statement.{statement}
 use Rattle.listing.proofs.main.Tie as tie
 
-slice_aggregate_write_all : tie.NeedSliceAggregateWriteAll
+slice_aggregate_write_all : tie.Need-slice-aggregate-write-all
 slice_aggregate_write_all c =
     let l = c.before.before.list-card in
     sym (length-take-le l.result l.new.1.1.1.1.1.0 (omega arith))

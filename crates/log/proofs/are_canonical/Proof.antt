@@ -13,25 +13,25 @@ use Rattle.log.proofs.Walk.{one_passes, one_fails, none_left}
 use Rattle.log.proofs.are_canonical.Statement.{statement}
 use Rattle.log.proofs.are_canonical.Tie as tie
 
-abbrev invariant_loop : tie.invariant_loop
+abbrev invariant_loop : tie.invariant-loop
 invariant_loop log count left₀ at₀ left at =
     (at + entry_size * left ≤ length log) × (all_canonical (entries_from count log entries_at) ≡ all_canonical (entries_from left log at))
 
-abbrev decreases_loop : tie.decreases_loop
+abbrev decreases_loop : tie.decreases-loop
 decreases_loop log count left₀ at₀ left at = left
 
-loop_holds : tie.NeedLoopInit invariant_loop decreases_loop
+loop_holds : tie.Need-loop-init invariant_loop decreases_loop
 loop_holds c = (c.before.requires, refl)
 
 -- the entry at the place, and the test of it
-module _ (c : tie.AfterIsCanonical invariant_loop decreases_loop) where
+module _ (c : tie.After-is-canonical invariant_loop decreases_loop) where
   abbrev start : tie.Start invariant_loop decreases_loop
   start = c.before.before.before.before.before
 
   test_is : canonical (entry_at start.args.log.now c.before.before.before.loop.at) ≡ c.is-canonical.result
   test_is = sym (c.is-canonical.ensures ∙ ap canonical c.before.entry-at.ensures)
 
-loop_again : tie.NeedLoopPreserved invariant_loop decreases_loop
+loop_again : tie.Need-loop-preserved invariant_loop decreases_loop
 loop_again c =
     let l = c.before.before.before.before.loop in
     let a = (start c.before).args in (
@@ -39,13 +39,13 @@ loop_again c =
       l.invariant.1 ∙ one_passes l.left a.log.now l.at (omega arith) (test_is c.before ∙ c.if1.true),
     )
 
-returns : tie.NeedReturns invariant_loop decreases_loop
+returns : tie.Need-returns invariant_loop decreases_loop
 returns c =
     let l = c.before.before.before.before.loop in
     let a = (start c.before).args in
     sym (l.invariant.1 ∙ one_fails l.left a.log.now l.at (omega arith) (test_is c.before ∙ c.if1.false))
 
-returns_2 : tie.NeedReturns2 invariant_loop decreases_loop
+returns_2 : tie.Need-returns-2 invariant_loop decreases_loop
 returns_2 c =
     let l = c.before.loop in
     sym (l.invariant.1 ∙ none_left l.left c.before.before.before.args.log.now l.at (omega arith))

@@ -5,11 +5,11 @@ use Rattle.log.specs.Logs.{is_headed}
 use Rattle.log.proofs.is_headed.Statement.{statement}
 use Rattle.log.proofs.is_headed.Tie as tie
 
-returns : tie.NeedReturns
+returns : tie.Need-returns
 unfolding is_headed
 returns c = rw (lt-ltb _ _ c.if1.true)
 
-returns_2 : tie.NeedReturns2
+returns_2 : tie.Need-returns-2
 unfolding is_headed
 returns_2 c = rw (le-ltb _ _ c.before.before.if1.false, c.before.is-marked.ensures, c.u16-at.ensures.0)
 

@@ -5,7 +5,7 @@ use Rattle.log.specs.Logs.{is_marked}
 use Rattle.log.proofs.is_marked.Statement.{statement}
 use Rattle.log.proofs.is_marked.Tie as tie
 
-returns : tie.NeedReturns
+returns : tie.Need-returns
 unfolding is_marked
 returns c = refl
 

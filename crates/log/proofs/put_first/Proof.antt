@@ -20,12 +20,12 @@ use Rattle.log.proofs.put_first.Tie as tie
 first_length : (e : Entry) → 0 + length (header_bytes ++ entry_bytes e) ≡ entries_at + entry_size
 first_length e = rw (entry_length e)
 
-returns : tie.NeedReturns
+returns : tie.Need-returns
 returns c =
     let a = c.before.before.args in
     rw (entry_length a.entry, lt-ltb _ _ c.if1.true) (refl, refl)
 
-returns_2 : tie.NeedReturns2
+returns_2 : tie.Need-returns-2
 returns_2 c =
     let a = c.before.before.before.before.before.before.before.before.before.before.args in
     rw (entry_length a.entry, le-ltb _ _ c.before.before.before.before.before.before.before.before.if1.false) (

@@ -8,13 +8,13 @@ use Rattle.log.specs.Logs.{header_bytes}
 use Rattle.log.proofs.put_header.Statement.{statement}
 use Rattle.log.proofs.put_header.Tie as tie
 
-slice_write_log_2 : tie.NeedSliceWriteLog2
+slice_write_log_2 : tie.Need-slice-write-log-2
 slice_write_log_2 c = simp length-set (omega arith)
 
-slice_write_log_3 : tie.NeedSliceWriteLog3
+slice_write_log_3 : tie.Need-slice-write-log-3
 slice_write_log_3 c = simp length-set (omega arith)
 
-same_length : tie.NeedSameLength
+same_length : tie.Need-same-length
 same_length c = ap length c.before.before.put-u16.ensures ∙ length-sets c.before.before.before.before.before.args.log.now 0 header_bytes
 
 pub put_header_spec : {M : Type 1} → statement M

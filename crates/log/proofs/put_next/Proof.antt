@@ -11,19 +11,19 @@ use Rattle.log.specs.declared.Appended.TheVariants as appended
 use Rattle.log.proofs.put_next.Statement.{statement}
 use Rattle.log.proofs.put_next.Tie as tie
 
-returns : tie.NeedReturns
+returns : tie.Need-returns
 returns c =
     let a = c.before.before.args in
     let large : most_log < a.used + entry_size = omega arith in
     rw (entry_length a.entry, lt-ltb _ _ large) (refl, refl)
 
-returns_2 : tie.NeedReturns2
+returns_2 : tie.Need-returns-2
 returns_2 c =
     let a = c.before.before.before.args in
     let small : a.used + entry_size ≤ most_log = omega arith in
     rw (entry_length a.entry, le-ltb _ _ small, lt-ltb _ _ c.if2.true) (refl, refl)
 
-returns_3 : tie.NeedReturns3
+returns_3 : tie.Need-returns-3
 returns_3 c =
     let a = c.before.before.before.before.before.before.before.args in
     let small : a.used + entry_size ≤ most_log = omega arith in

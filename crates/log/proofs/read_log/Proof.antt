@@ -14,7 +14,7 @@ use Rattle.log.specs.declared.ReadLog.TheVariants as read
 use Rattle.log.proofs.read_log.Statement.{statement}
 use Rattle.log.proofs.read_log.Tie as tie
 
-returns : tie.NeedReturns
+returns : tie.Need-returns
 unfolding read_log
 returns c = rw (lt-ltb _ _ c.if1.true)
 
@@ -29,26 +29,26 @@ module _ (c : tie.Then2) where
   headed : Headed bytes (length bytes)
   headed = headed_means bytes (length bytes) test_is
 
-sub_count : tie.NeedOverflowSubCount
+sub_count : tie.Need-overflow-sub-count
 sub_count c = (headed c).long
 
-are_canonical_requires : tie.NeedAreCanonicalRequires
+are_canonical_requires : tie.Need-are-canonical-requires
 are_canonical_requires c κs = omega (arith, (headed c).size_is)
 
-returns_2 : tie.NeedReturns2
+returns_2 : tie.Need-returns-2
 unfolding read_log
 returns_2 c =
     let t = c.before.before in
     rw (le-ltb _ _ t.before.before.if1.false, test_is t, sym c.before.are-canonical.ensures ∙ c.if3.true)
     (ap read.Entries (sym (from_length (count_of (length (bytes t))) (bytes t) entries_at)))
 
-returns_3 : tie.NeedReturns3
+returns_3 : tie.Need-returns-3
 unfolding read_log
 returns_3 c =
     let t = c.before.before in
     rw (le-ltb _ _ t.before.before.if1.false, test_is t, sym c.before.are-canonical.ensures ∙ c.if3.false)
 
-returns_4 : tie.NeedReturns4
+returns_4 : tie.Need-returns-4
 unfolding read_log
 returns_4 c = rw (le-ltb _ _ c.before.before.if1.false, sym c.before.is-headed.ensures ∙ c.if2.false)
 

@@ -4,7 +4,7 @@ use borrow.Author.Rules.{rules}
 use Rattle.lone.proofs.beside_g.Statement.{statement}
 use Rattle.lone.proofs.beside_g.Tie as tie
 
-returns : tie.NeedReturns
+returns : tie.Need-returns
 returns c = simp (c.before.spot-beside.ensures.0, read c.before.before.ranges.offset) at c.g-of-start.ensures
 
 pub beside_g_spec : {M : Type 1} → statement M

@@ -3,7 +3,7 @@ use borrow.Author.Rules.{rules}
 use Rattle.lone.proofs.beside_n.Statement.{statement}
 use Rattle.lone.proofs.beside_n.Tie as tie
 
-returns : tie.NeedReturns
+returns : tie.Need-returns
 returns c =
     let l = c.before in
     let f = l.before in

@@ -5,7 +5,7 @@ use borrow.Author.Rules.{rules}
 use Rattle.lone.proofs.g_of_start.Statement.{statement}
 use Rattle.lone.proofs.g_of_start.Tie as tie
 
-returns : tie.NeedReturns
+returns : tie.Need-returns
 returns c =
     let n = c.before.before in
     let s = n.before in

@@ -12,7 +12,7 @@ use borrow.Author.Rules.{rules}
 use Rattle.lone.proofs.n_of_one.Statement.{statement}
 use Rattle.lone.proofs.n_of_one.Tie as tie
 
-returns : tie.NeedReturns
+returns : tie.Need-returns
 returns c =
     let e = c.before.before in
     let a = e.before.before.args in
@@ -21,7 +21,7 @@ returns c =
     let joined = simp c.before.n-both.ensures at c.n-marked.ensures ∙ ends_after true both end end in
     simp e.n-of-spot.ensures at joined ∙ sym (one_joined a.forward a.len both (spot_said a.start) e.before.if1.true)
 
-returns_2 : tie.NeedReturns2
+returns_2 : tie.Need-returns-2
 returns_2 c = simp c.before.stop-of.ensures.0 at c.n-answer.ensures
 
 pub n_of_one_spec : {M : Type 1} → statement M

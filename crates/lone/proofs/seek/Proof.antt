@@ -19,13 +19,13 @@ inside_is len p e = both (le_z (pos 0) p) (lt_z p (pos len)) e
 within_is : (t : tie.Then1) → let s = t.before.before.before in inside true t.before.before.last.result s.args.p.0 ≡ true
 within_is t = sym t.before.is-inside.ensures ∙ t.if1.true
 
-natural_requires : tie.NeedNaturalRequires
+natural_requires : tie.Need-natural-requires
 natural_requires c κs =
     let t = c.before in
     let s = t.before.before.before in
     simp (told w64 s.args.p.0 c.struct_told.given.0.1) (inside_is _ _ (within_is t))
 
-returns : tie.NeedReturns
+returns : tie.Need-returns
 returns c =
     let n = c.before in
     let t = n.before.before in

@@ -7,13 +7,13 @@ use borrow.Author.Rules.{rules}
 use Rattle.mapper.proofs.g_to_c.Statement.{statement}
 use Rattle.mapper.proofs.g_to_c.Tie as tie
 
-last_requires : tie.NeedLastRequires
+last_requires : tie.Need-last-requires
 last_requires c κs = let p = c.before in (known_lies _ _ _ (sym p.before.before.Known-of.ensures ∙ p.at.given.1)).sound.count_to
 
-g_to_n_requires : tie.NeedGToNRequires
+g_to_n_requires : tie.Need-g-to-n-requires
 g_to_n_requires c κs = let p = c.before.before in (known_lies _ _ _ (sym p.before.before.Known-of.ensures ∙ p.at.given.1)).sound
 
-returns : tie.NeedReturns
+returns : tie.Need-returns
 returns c =
     let n = c.before in
     let l = n.before in
@@ -21,11 +21,11 @@ returns c =
     let o = p.before.before in
     rw (l.last.ensures, n.g_to_n.ensures) at c.then-n-to-c.ensures ∙ sym (lying_g_to_c _ _ _ (sym o.Known-of.ensures ∙ p.at.given.1) o.before.args.strict _)
 
-returns_2 : tie.NeedReturns2
+returns_2 : tie.Need-returns-2
 unfolding ask_g_to_c ask_g_to_n
 returns_2 c = sym (ask_length _ _ (sym c.before.before.Known-of.ensures ∙ c.enum_told.given.1))
 
-returns_3 : tie.NeedReturns3
+returns_3 : tie.Need-returns-3
 returns_3 c = sym (ask_broken _ _ (sym c.before.before.Known-of.ensures ∙ c.enum-told2.given.1))
 
 pub g_to_c_spec : {M : Type 1} → statement M

@@ -7,22 +7,22 @@ use borrow.Author.Rules.{rules}
 use Rattle.mapper.proofs.n_to_c.Statement.{statement}
 use Rattle.mapper.proofs.n_to_c.Tie as tie
 
-last_requires : tie.NeedLastRequires
+last_requires : tie.Need-last-requires
 last_requires c κs = let p = c.before in (known_lies _ _ _ (sym p.before.before.Known-of.ensures ∙ p.at.given.1)).sound.count_to
 
-returns : tie.NeedReturns
+returns : tie.Need-returns
 returns c =
     let p = c.before.before.before in
     let o = p.before.before in
     rw c.before.last.ensures at c.n_to_c.ensures ∙ sym (lying_n_to_c _ _ _ (sym o.Known-of.ensures ∙ p.at.given.1) o.before.args.strict _)
 
-returns_2 : tie.NeedReturns2
+returns_2 : tie.Need-returns-2
 unfolding ask_n_to_c
 returns_2 c =
     let p = c.before.before in
     c.n-to-c2.ensures ∙ sym (ask_length _ _ (sym p.before.before.Known-of.ensures ∙ p.length.given.1))
 
-returns_3 : tie.NeedReturns3
+returns_3 : tie.Need-returns-3
 returns_3 c = sym (ask_broken _ _ (sym c.before.before.Known-of.ensures ∙ c.enum_told.given.1))
 
 pub n_to_c_spec : {M : Type 1} → statement M

@@ -5,7 +5,7 @@ use Rattle.numbered.proofs.OneNumber.{wrapped16_is, most_small, no_bit_more}
 use Rattle.numbered.proofs.is_stepped.Statement.{statement}
 use Rattle.numbered.proofs.is_stepped.Tie as tie
 
-returns : tie.NeedReturns
+returns : tie.Need-returns
 unfolding stepped
 returns c =
     let at_step = c.before in

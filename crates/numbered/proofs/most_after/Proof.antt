@@ -5,11 +5,11 @@ use Rattle.numbered.specs.Numbers.{most_after}
 use Rattle.numbered.proofs.most_after.Statement.{statement}
 use Rattle.numbered.proofs.most_after.Tie as tie
 
-returns : tie.NeedReturns
+returns : tie.Need-returns
 unfolding most_after
 returns c = rw (eq-eqb c.before.args.letter letter_n c.if1.true)
 
-returns_2 : tie.NeedReturns2
+returns_2 : tie.Need-returns-2
 unfolding most_after
 returns_2 c = rw (ne_eqb c.before.args.letter letter_n c.if1.false)
 

@@ -4,7 +4,7 @@ use Rattle.numbered.proofs.Numbering.{numbers_decided}
 use Rattle.numbered.proofs.numbers_hold.Statement.{statement}
 use Rattle.numbered.proofs.numbers_hold.Tie as tie
 
-returns : tie.NeedReturns
+returns : tie.Need-returns
 returns c =
     let then = c.before.before.before.before in
     let to = then.before.before in
@@ -13,7 +13,7 @@ returns c =
     let steps = rw (from.from-neighbour.ensures.0, to.to-neighbour.ensures.0) at (sym then.before.steps-hold.ensures ∙ then.if1.true) in
     c.ends-hold.ensures ∙ (rw steps at (numbers_decided a.letters.now a.exons.now a.count from.before.requires.0 from.before.requires.1 a.forward a.records))
 
-returns_2 : tie.NeedReturns2
+returns_2 : tie.Need-returns-2
 returns_2 c =
     let to = c.before.before in
     let from = to.before in

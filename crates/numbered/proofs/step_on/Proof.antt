@@ -5,7 +5,7 @@ use Rattle.numbered.proofs.OneNumber.{wrapped16_is, none_above}
 use Rattle.numbered.proofs.step_on.Statement.{statement}
 use Rattle.numbered.proofs.step_on.Tie as tie
 
-returns : tie.NeedReturns
+returns : tie.Need-returns
 unfolding stepped
 returns c =
     let at_above = c.before in

@@ -8,21 +8,21 @@ use Rattle.numbered.specs.laws.All.{from_none, from_more}
 use Rattle.numbered.proofs.steps_in.Statement.{statement}
 use Rattle.numbered.proofs.steps_in.Tie as tie
 
-abbrev invariant_loop : tie.invariant_loop
+abbrev invariant_loop : tie.invariant-loop
 invariant_loop letters exons low high first to wrong₀ i₀ wrong i = (first ≤ i) × (i ≤ to) × (eqb wrong 0 ≡ all_below (from first (stepped_at letters exons low high)) i)
 
-abbrev decreases_loop : tie.decreases_loop
+abbrev decreases_loop : tie.decreases-loop
 decreases_loop letters exons low high first to wrong₀ i₀ wrong i = to - i
 
-loop_holds : tie.NeedLoopInit invariant_loop decreases_loop
+loop_holds : tie.Need-loop-init invariant_loop decreases_loop
 loop_holds c = (search rules, search rules, from_none _ _)
 
-loop_again : tie.NeedLoopPreserved invariant_loop decreases_loop
+loop_again : tie.Need-loop-preserved invariant_loop decreases_loop
 loop_again c =
     let kept = c.before.before.before.before.before.loop.invariant in
     (search rules, search rules, c.step-on.ensures ∙ from_more _ _ _ kept.0 kept.2 refl)
 
-returns : tie.NeedReturns invariant_loop decreases_loop
+returns : tie.Need-returns invariant_loop decreases_loop
 returns c = all_done _ _ _ c.before.loop.invariant.2 c.before.loop.invariant.1 c.loop-test.false
 
 pub steps_in_spec : {M : Type 1} → statement M

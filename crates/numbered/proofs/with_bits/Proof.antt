@@ -3,7 +3,7 @@ use Rattle.numbered.proofs.OneNumber.{none_or}
 use Rattle.numbered.proofs.with_bits.Statement.{statement}
 use Rattle.numbered.proofs.with_bits.Tie as tie
 
-returns : tie.NeedReturns
+returns : tie.Need-returns
 returns c = none_or c.args.a c.args.b
 
 pub with_bits_spec : {M : Type 1} → statement M

@@ -3,13 +3,13 @@ use borrow.Author.Rules.{rules}
 use Rattle.places.proofs.found_exons.Statement.{statement}
 use Rattle.places.proofs.found_exons.Tie as tie
 
-returns : tie.NeedReturns
+returns : tie.Need-returns
 returns c =
     let second = c.before in
     let first = second.before in
     simp (c.if1.true, first.found.ensures, second.found2.ensures, first.before.behind.ensures)
 
-returns_2 : tie.NeedReturns2
+returns_2 : tie.Need-returns-2
 returns_2 c =
     let second = c.before in
     let first = second.before in

@@ -13,14 +13,14 @@ use borrow.Author.Rules.{rules}
 use Rattle.places.proofs.g_of_ends.Statement.{statement}
 use Rattle.places.proofs.g_of_ends.Tie as tie
 
-from_is : (c : tie.AfterPlaceOfN) →
+from_is : (c : tie.After-place-of-n) →
     let a = c.before.before.before.before.before.args in
     c.place-of-n.result.0 ≡ turned a.at.forward (get_or a.transcript.now a.at.count 0) (place_of_n a.a.base)
 from_is c =
     let t = c.before.before.before.before in
     simp (c.before.last.ensures, told w32 t.before.args.a.base t.struct_told.given.0.1) at c.place-of-n.ensures.0
 
-to_is : (c : tie.AfterPlaceOfN2) →
+to_is : (c : tie.After-place-of-n2) →
     let a = c.before.before.before.before.before.before.args in
     c.place-of-n2.result.0 ≡ turned a.at.forward (get_or a.transcript.now a.at.count 0) (place_of_n a.b.base)
 to_is c =
@@ -29,7 +29,7 @@ to_is c =
     simp (l.last.ensures, told w32 t.before.before.args.b.base t.struct-told2.given.0.1) at c.place-of-n2.ensures.0
 
 -- the test that was made is 14's
-test_is : (c : tie.AfterAreInside) →
+test_is : (c : tie.After-are-inside) →
     let s = c.before.before.before.before.before.before.before in
     let a = s.args in
     t_inside a.at (tables a.genome.now a.transcript.now a.letters.now) a.exons.now s.requires a.strict (paper_n_asked a.a) (paper_n_asked a.b) ≡ c.are-inside.result
@@ -39,7 +39,7 @@ test_is c =
     sym (simp (p.before.last.ensures, to_is q, from_is p) at c.are-inside.ensures)
 
 -- two numbers with the same bits are one number
-returns : tie.NeedReturns
+returns : tie.Need-returns
 returns c =
     let u = c.before in
     let o = u.before in
@@ -53,13 +53,13 @@ returns c =
     rw (← one)
     (simp (first, told w32 a.a.offset o.struct-told3.given.1.0.1, told w32 a.b.offset u.struct-told4.given.1.0.1) at c.g-of-one.ensures)
 
-chosen_exons_requires : tie.NeedChosenExonsRequires
+chosen_exons_requires : tie.Need-chosen-exons-requires
 chosen_exons_requires c κs =
     let x = c.before in
     let s = x.before.before.before.before.before.before.before.before.before in
     (x.spot-of-n.ensures.1.1, c.spot-of-n2.ensures.1.1, s.requires.count_to)
 
-returns_2 : tie.NeedReturns2
+returns_2 : tie.Need-returns-2
 returns_2 c =
     let e = c.before.before.before in
     let y = e.before in
@@ -76,7 +76,7 @@ returns_2 c =
     rw (g_answered a.at _ _ s.requires a.strict (paper_n_asked a.a) (paper_n_asked a.b) (test_is t.before ∙ t.if2.true))
     (simp (e.chosen-exons.ensures, from, to, o, u) at c.g-answer.ensures)
 
-returns_3 : tie.NeedReturns3
+returns_3 : tie.Need-returns-3
 returns_3 c =
     let s = c.before.before.before.before.before.before.before.before in
     let a = s.args in

@@ -4,7 +4,7 @@ use borrow.Author.Rules.{rules}
 use Rattle.places.proofs.is_in_bounds.Statement.{statement}
 use Rattle.places.proofs.is_in_bounds.Tie as tie
 
-returns : tie.NeedReturns
+returns : tie.Need-returns
 returns c =
     let q = c.before.before in
     let s = q.before.before in

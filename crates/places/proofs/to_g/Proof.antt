@@ -4,11 +4,11 @@ use borrow.Author.Rules.{rules}
 use Rattle.places.proofs.to_g.Statement.{statement}
 use Rattle.places.proofs.to_g.Tie as tie
 
-returns : tie.NeedReturns
+returns : tie.Need-returns
 unfolding map_n_to_g
 returns c = simp c.before.if1.true (simp c.before.if1.true at c.g-of-ends.ensures)
 
-returns_2 : tie.NeedReturns2
+returns_2 : tie.Need-returns-2
 unfolding map_n_to_g
 returns_2 c = simp c.before.if1.false (simp c.before.if1.false at c.g-of-ends2.ensures)
 

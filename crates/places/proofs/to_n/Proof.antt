@@ -9,14 +9,14 @@ use borrow.Author.Rules.{rules}
 use Rattle.places.proofs.to_n.Statement.{statement}
 use Rattle.places.proofs.to_n.Tie as tie
 
-from_is : (c : tie.AfterPlaceOfG) → c.place-of-g.result.0 ≡ place_of_g c.before.before.args.at.first c.before.before.args.from
+from_is : (c : tie.After-place-of-g) → c.place-of-g.result.0 ≡ place_of_g c.before.before.args.at.first c.before.before.args.from
 from_is c = rw (read c.before.before.ranges.from) at c.place-of-g.ensures.0
 
-to_is : (c : tie.AfterPlaceOfG2) → c.place-of-g2.result.0 ≡ place_of_g c.before.before.before.args.at.first c.before.before.before.args.to
+to_is : (c : tie.After-place-of-g2) → c.place-of-g2.result.0 ≡ place_of_g c.before.before.before.args.at.first c.before.before.before.args.to
 to_is c = rw (read c.before.before.before.ranges.to) at c.place-of-g2.ensures.0
 
 -- the test that was made is 14's
-test_is : (c : tie.AfterAreInside) →
+test_is : (c : tie.After-are-inside) →
     let s = c.before.before.before.before.before in
     let a = s.args in
     g_inside a.at (tables a.genome.now a.transcript.now a.letters.now) a.exons.now s.requires a.strict a.from a.to ≡ c.are-inside.result
@@ -25,7 +25,7 @@ test_is c =
     sym (simp (c.before.last.ensures, to_is q, from_is q.before) at c.are-inside.ensures)
 
 -- two numbers with the same bits are one number
-returns : tie.NeedReturns
+returns : tie.Need-returns
 returns c =
     let s = c.before.before in
     let a = s.args in
@@ -35,13 +35,13 @@ returns c =
     let one : a.from ≡ a.to = cc in
     rw (← one) (simp from at c.one-to-n.ensures)
 
-found_exons_requires : tie.NeedFoundExonsRequires
+found_exons_requires : tie.Need-found-exons-requires
 found_exons_requires c κs =
     let x = c.before in
     let s = x.before.before.before.before.before.before.before in
     (x.spot-of-g.ensures.1.1, c.spot-of-g2.ensures.1.1, s.requires.count_to)
 
-returns_2 : tie.NeedReturns2
+returns_2 : tie.Need-returns-2
 returns_2 c =
     let f = c.before.before in
     let y = f.before in
@@ -55,7 +55,7 @@ returns_2 c =
     rw (n_answered a.at _ _ s.requires a.strict a.from a.to (test_is t.before ∙ t.if2.true))
     (simp (from, to, f.found-exons.ensures, c.before.last2.ensures) at c.n-answer.ensures)
 
-returns_3 : tie.NeedReturns3
+returns_3 : tie.Need-returns-3
 returns_3 c =
     let s = c.before.before.before.before.before.before in
     let a = s.args in

@@ -10,25 +10,25 @@ use borrow.Author.Rules.{rules}
 use Rattle.playing.proofs.card_end.Statement.{statement}
 use Rattle.playing.proofs.card_end.Tie as tie
 
-returns : tie.NeedReturns
+returns : tie.Need-returns
 unfolding card_end
 returns c = rw (lt-ltb (length c.before.before.args.input.now) size_bytes c.if1.true)
 
-returns_2 : tie.NeedReturns2
+returns_2 : tie.Need-returns-2
 unfolding card_end
 returns_2 c =
     let u = c.before.u32-at in
     let s = c.before.before.before.before.args.input.now in
     rw (← u.ensures, le-ltb (length s) size_bytes (omega arith), lt-ltb most_card u.result (omega arith))
 
-returns_3 : tie.NeedReturns3
+returns_3 : tie.Need-returns-3
 unfolding card_end
 returns_3 c =
     let u = c.before.before.u32-at in
     let s = c.before.before.before.before.before.args.input.now in
     rw (← u.ensures, le-ltb (length s) size_bytes (omega arith), le-ltb most_card u.result (omega arith), lt-ltb (length s - size_bytes) u.result (omega arith))
 
-returns_4 : tie.NeedReturns4
+returns_4 : tie.Need-returns-4
 unfolding card_end
 returns_4 c =
     let u = c.before.before.u32-at in

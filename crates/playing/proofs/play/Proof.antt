@@ -25,12 +25,12 @@ use borrow.Author.Rules.{rules}
 use Rattle.playing.proofs.play.Statement.{statement}
 use Rattle.playing.proofs.play.Tie as tie
 
-abbrev entry : tie.AfterBuildCard → tie.Start
+abbrev entry : tie.After-build-card → tie.Start
 entry c = c.before.before.before.before.before.before.before.before
 
 -- what building has made
-module _ (c : tie.AfterHead) where
-  abbrev call : tie.AfterBuildCard
+module _ (c : tie.After-head) where
+  abbrev call : tie.After-build-card
   call = c.before.before
 
   abbrev card : List ℕ
@@ -62,7 +62,7 @@ module _ (c : tie.AfterHead) where
       ∙ replay_roomy (lent_by makes_head.made) log (length text) (entry call).pre
       ∙ sym (played_made card log makes_head.made makes_head.judged)
 
-returns : tie.NeedReturns
+returns : tie.Need-returns
 returns c =
     let h = c.before.before.before.before.before.before.before.before.before.before.before.before in
     let r = c.before.before.before.before.before.replay.ensures in
@@ -81,7 +81,7 @@ returns c =
       ),
     )
 
-returns_2 : tie.NeedReturns2
+returns_2 : tie.Need-returns-2
 returns_2 c =
     let h = c.before.before.before.before.before.before.before.before.before.before.before.before.before.before.before.before in
     let r = c.before.before.before.before.before.before.before.before.before.replay.ensures in
@@ -93,7 +93,7 @@ returns_2 c =
     let w = put_front (put_as (sym (ap played_text o)) put) (omega (arith, p.1, (entry (call h)).requires)) in
     (w.0, (omega (arith, p.1), (w.1, (call h).build_card.ensures.1)))
 
-returns_3 : tie.NeedReturns3
+returns_3 : tie.Need-returns-3
 returns_3 c =
     let b = c.before.before.before.before.before.before.before in
     let a = (entry b).args in

@@ -20,7 +20,7 @@ use Rattle.playing.proofs.play_input.Statement.{statement}
 use Rattle.playing.proofs.play_input.Tie as tie
 
 -- the card is there
-module _ (c : tie.AfterTo) where
+module _ (c : tie.After-to) where
   abbrev start : tie.Start
   start = c.before.before.before.before.before
 
@@ -38,22 +38,22 @@ module _ (c : tie.AfterTo) where
       ap (played (card_to input to)) (take_all (length input - to) (drop to input) (omega (arith, length-drop to input)))
       ∙ sym (input_played_lem input to there.outcome)
 
-sub_play : tie.NeedOverflowSubPlay
+sub_play : tie.Need-overflow-sub-play
 sub_play c = omega (arith, (there c.before).after, (there c.before).within)
 
-part_play_start : tie.NeedSliceBoundsPlayStart
+part_play_start : tie.Need-slice-bounds-play-start
 part_play_start c = omega (arith, (there c.before).after, (there c.before).within)
 
-part_play_end : tie.NeedSliceBoundsPlayEnd
+part_play_end : tie.Need-slice-bounds-play-end
 part_play_end c = omega (arith, (there c.before).after, (there c.before).within)
 
-sub_play_2 : tie.NeedOverflowSubPlay2
+sub_play_2 : tie.Need-overflow-sub-play-2
 sub_play_2 c = omega (arith, (there c.before.before).after, (there c.before.before).within)
 
-part_play_start_2 : tie.NeedSliceBoundsPlayStart2
+part_play_start_2 : tie.Need-slice-bounds-play-start-2
 part_play_start_2 c = omega (arith, (there c.before.before).after, (there c.before.before).within)
 
-returns : tie.NeedReturns
+returns : tie.Need-returns
 returns c =
     let t = c.before.before.before.before.before.before.before.before.before.before.before in
     let a = (start t).args in
@@ -72,7 +72,7 @@ returns c =
       ),
     )
 
-returns_2 : tie.NeedReturns2
+returns_2 : tie.Need-returns-2
 returns_2 c =
     let a = c.before.before.before.before.before.before.before.before.before.before.args in
     let k = c.before.before.before.before.before.k.given in

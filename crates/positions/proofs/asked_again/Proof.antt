@@ -8,7 +8,7 @@ use Rattle.positions.proofs.asked_again.Tie as tie
 abbrev interval : NAsked → NAsked → Interval NAsked
 interval a b = record { from = a; to = b }
 
-returns : tie.NeedReturns
+returns : tie.Need-returns
 returns c = ap₂ interval c.before.n-asked.ensures c.n-asked2.ensures
 
 pub asked_again_spec : {M : Type 1} → statement M

@@ -5,7 +5,7 @@ use borrow.Author.Rules.{rules}
 use Rattle.reading.proofs.bound.Statement.{statement}
 use Rattle.reading.proofs.bound.Tie as tie
 
-returns : tie.NeedReturns
+returns : tie.Need-returns
 returns c = c.u32-at.ensures ∙ bits_whole _ c.before.before.requires.1
 
 pub bound_spec : {M : Type 1} → statement M

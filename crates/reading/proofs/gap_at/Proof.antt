@@ -8,19 +8,19 @@ use borrow.Author.Rules.{rules}
 use Rattle.reading.proofs.gap_at.Statement.{statement}
 use Rattle.reading.proofs.gap_at.Tie as tie
 
-bound_requires : tie.NeedBoundRequires
+bound_requires : tie.Need-bound-requires
 unfolding record_at
 bound_requires c κs = (omega arith, c.before.requires.1.start_whole)
 
-bound_requires_2 : tie.NeedBoundRequires2
+bound_requires_2 : tie.Need-bound-requires-2
 unfolding record_at
 bound_requires_2 c κs = (omega arith, c.before.before.requires.1.end_whole)
 
-sub_result : tie.NeedOverflowSubResult
+sub_result : tie.Need-overflow-sub-result
 unfolding record_at
 sub_result c = rw (c.bound2.ensures, c.before.bound.ensures) (beside_order c.before.before.before.requires.1)
 
-returns : tie.NeedReturns
+returns : tie.Need-returns
 unfolding record_at
 returns c = ap₂ ◌-◌ c.before.bound.ensures c.bound2.ensures
 

@@ -7,7 +7,7 @@ use borrow.Author.Rules.{rules}
 use Rattle.reading.proofs.one_on.Statement.{statement}
 use Rattle.reading.proofs.one_on.Tie as tie
 
-returns : tie.NeedReturns
+returns : tie.Need-returns
 unfolding genome transcript
 returns c =
     let g = c.before.before.before.along-genome.ensures in

@@ -27,15 +27,15 @@ end_fits s = search whole
 reached_fits : (s : tie.Start) → SFits w64 (s.args.start +ℤ pos s.args.length)
 reached_fits s = sum_44 (widen_42 (widen_40 (i32_40 (start_fits s)))) (along_small s)
 
-add_reached : tie.NeedOverflowAddReached
+add_reached : tie.Need-overflow-add-reached
 add_reached c = rw (widened (start_fits c), along_is c) (reached_fits c)
 
-returns : tie.NeedReturns
+returns : tie.Need-returns
 returns c =
     let s = c.before in
     sym (same_read _ _ (reached_fits s) (fits_wider (end_fits s)) (rw (widened (start_fits s), along_is s, read (end_fits s)) at c.if1.true))
 
-returns_2 : tie.NeedReturns2
+returns_2 : tie.Need-returns-2
 returns_2 c =
     let s = c.before in
     sym (other_read (s.args.start +ℤ pos s.args.length) s.args.end (rw (widened (start_fits s), along_is s, read (end_fits s)) at c.if1.false))

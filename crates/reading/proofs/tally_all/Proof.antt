@@ -7,22 +7,22 @@ use borrow.Author.Rules.{rules}
 use Rattle.reading.proofs.tally_all.Statement.{statement}
 use Rattle.reading.proofs.tally_all.Tie as tie
 
-tally_first_requires : tie.NeedTallyFirstRequires
+tally_first_requires : tie.Need-tally-first-requires
 tally_first_requires c κs = c.before.requires.stands
 
-next_at_requires : tie.NeedNextAtRequires
+next_at_requires : tie.Need-next-at-requires
 next_at_requires c κs = c.before.before.before.before.before.requires.stands.numbers
 
-sub_left : tie.NeedOverflowSubLeft
+sub_left : tie.Need-overflow-sub-left
 sub_left c = let r = c.before.before.before.before.before.before.requires in omega (arith, r.some)
 
-tally_rest_requires : tie.NeedTallyRestRequires
+tally_rest_requires : tie.Need-tally-rest-requires
 tally_rest_requires c κs =
     let r = c.before.before.before.before.before.before.requires in
     let e = c.before.before.before.before.tally-first.ensures in
     (rw c.next-at.ensures r.next, subst BoundedTally c.before.before.first.given.1 e.1)
 
-returns : tie.NeedReturns
+returns : tie.Need-returns
 returns c =
     let s = c.before.before.before.before.before.before.before in
     let f = c.before.before.before.before.before.tally-first.ensures in
@@ -30,7 +30,7 @@ returns c =
     let e = c.tally-rest.ensures in
     (rw c.before.next-at.ensures at e.0 ∙ sym (first_sums s.args.s.now s.args.count 0 s.requires.some (sym q ∙ f.0)), e.1)
 
-returns_2 : tie.NeedReturns2
+returns_2 : tie.Need-returns-2
 returns_2 c =
     let s = c.before.before.before.before.before in
     let f = c.before.before.before.tally-first.ensures in

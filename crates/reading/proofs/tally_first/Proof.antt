@@ -15,12 +15,12 @@ use Rattle.reading.proofs.tally_first.Tie as tie
 abbrev told : tie.Start → Reading → Tally
 told s read = tallied nothing (spanned (record_at s.args.s.now 0) read)
 
-returns : tie.NeedReturns
+returns : tie.Need-returns
 returns c =
     let s = c.before.before.before in
     (sym (ap (told s) (first_large s.args.s.now 0 s.requires (omega arith))), tt)
 
-returns_2 : tie.NeedReturns2
+returns_2 : tie.Need-returns-2
 returns_2 c =
     let s = c.before.before.before.before in
     let e = c.tally-record.ensures in

@@ -17,17 +17,17 @@ told s read =
     let here = record_at s.args.s.now s.args.at in
     tallied (one_on s.args.from (between (record_at s.args.s.now s.args.previous) here)) (spanned here read)
 
-returns : tie.NeedReturns
+returns : tie.Need-returns
 returns c =
     let s = c.before.before.before in
     (sym (ap (told s) (next_large s.args.s.now s.args.at s.requires.0.1 s.args.from.count (omega arith))), tt)
 
-returns_2 : tie.NeedReturns2
+returns_2 : tie.Need-returns-2
 returns_2 c =
     let s = c.before.before.before.before.before in
     (sym (ap (told s) (next_full s.args.s.now s.args.at s.requires.0.1 s.args.from.count (omega arith) c.if2.true)), tt)
 
-returns_3 : tie.NeedReturns3
+returns_3 : tie.Need-returns-3
 returns_3 c =
     let s = c.before.before.before.before.before.before.before.before in
     let on = c.before.one_on.ensures.0 in

@@ -20,7 +20,7 @@ use Rattle.reading.proofs.tally_record.Statement.{statement}
 use Rattle.reading.proofs.tally_record.Tie as tie
 
 -- the text was tallied
-module _ (c : tie.AfterTallyText) where
+module _ (c : tie.After-tally-text) where
   abbrev begin : tie.Start
   begin = c.before.before.before.before
 
@@ -35,8 +35,8 @@ module _ (c : tie.AfterTallyText) where
   own q = rw (cigar_is begin.args.s.now begin.args.at begin.pre.0) (sym (rw c.before.before.next-at.ensures at c.tally-text.ensures.0) ∙ q)
 
 -- and not refused
-module _ (c : tie.AfterKnownTold) where
-  abbrev text : tie.AfterTallyText
+module _ (c : tie.After-known-told) where
+  abbrev text : tie.After-tally-text
   text = c.before.before.before
 
   abbrev to : Sums
@@ -51,15 +51,15 @@ module _ (c : tie.AfterKnownTold) where
   grows : (begin text).args.from.genome ≤ to.genome
   grows = tallied_grows (begin text).args.from (read text) told
 
-sub_length : tie.NeedOverflowSubLength
+sub_length : tie.Need-overflow-sub-length
 sub_length c = grows c.before.before.before.before
 
-spans_requires : tie.NeedSpansRequires
+spans_requires : tie.Need-spans-requires
 spans_requires c κs = let b = bounded c.before.before.before.before in omega (arith, b.few, b.genome_small)
 
 -- the test of 32, as the definition has it
-module _ (c : tie.AfterSpans) where
-  abbrev passed : tie.AfterKnownTold
+module _ (c : tie.After-spans) where
+  abbrev passed : tie.After-known-told
   passed = c.before.before.before.before.before
 
   abbrev length : ℕ
@@ -72,17 +72,17 @@ module _ (c : tie.AfterSpans) where
       let ends = c.before.before.before.i32-at2 in
       c.spans.ensures ∙ ap₂ (λ (start end : ℤ). spans start end length) (word.told w32 _ starts.type-inv ∙ starts.ensures) (word.told w32 _ ends.type-inv ∙ ends.ensures)
 
-returns : tie.NeedReturns
+returns : tie.Need-returns
 returns c =
     let k = passed c.before in
     (sym (tallied_passes (here (text k)) (begin (text k)).args.from (read (text k)) (told k) (sym (tested c.before) ∙ c.if1.true)), bounded k)
 
-returns_2 : tie.NeedReturns2
+returns_2 : tie.Need-returns-2
 returns_2 c =
     let k = passed c.before in
     (sym (tallied_short (here (text k)) (begin (text k)).args.from (read (text k)) (told k) (sym (tested c.before) ∙ c.if1.false)), tt)
 
-returns_3 : tie.NeedReturns3
+returns_3 : tie.Need-returns-3
 returns_3 c =
     let t = c.before.before.before in
     (sym (tallied_refused (here t) (begin t).args.from (read t) (own t c.before.k.given.1)), tt)

@@ -12,7 +12,7 @@ use Rattle.records.proofs.follow_fault.Statement.{statement}
 use Rattle.records.proofs.follow_fault.Tie as tie
 
 -- what the test of `ord` gave
-rises : (c : tie.AfterRiseFault) → let s = c.before.before.before.before in
+rises : (c : tie.After-rise-fault) → let s = c.before.before.before.before in
     c.rise-fault.result ≡ rise_fault (field_at s.args.s.now (s.args.a + ord_at)) (field_at s.args.s.now (s.args.b + ord_at))
 rises c =
     c.rise-fault.ensures
@@ -20,11 +20,11 @@ rises c =
     (told w64 _ c.before.before.field.type-inv ∙ c.before.before.field.ensures)
     (told w64 _ c.before.field2.type-inv ∙ c.before.field2.ensures)
 
-returns : tie.NeedReturns
+returns : tie.Need-returns
 unfolding follow_fault record_at
 returns c = refuses _ (rises c.before) c.if1.true
 
-returns_2 : tie.NeedReturns2
+returns_2 : tie.Need-returns-2
 unfolding follow_fault record_at
 returns_2 c =
     passes (rises c.before.before.before.before) c.before.before.before.if1.false

@@ -4,7 +4,7 @@ use borrow.Author.Rules.{rules}
 use Rattle.records.proofs.next_at.Statement.{statement}
 use Rattle.records.proofs.next_at.Tie as tie
 
-returns : tie.NeedReturns
+returns : tie.Need-returns
 returns c = omega arith
 
 pub next_at_spec : {M : Type 1} → statement M

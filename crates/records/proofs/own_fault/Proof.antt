@@ -12,7 +12,7 @@ use Rattle.records.proofs.own_fault.Statement.{statement}
 use Rattle.records.proofs.own_fault.Tie as tie
 
 -- what the test of the genome bounds gave
-genome : (c : tie.AfterSpanFault) → let s = c.before.before.before.before in
+genome : (c : tie.After-span-fault) → let s = c.before.before.before.before in
     c.span-fault.result ≡ span_fault (field_at s.args.s.now (s.args.at + alt_start_at)) (field_at s.args.s.now (s.args.at + alt_end_at))
 genome c =
     c.span-fault.ensures
@@ -20,11 +20,11 @@ genome c =
     (told w64 _ c.before.before.field.type-inv ∙ c.before.before.field.ensures)
     (told w64 _ c.before.field2.type-inv ∙ c.before.field2.ensures)
 
-returns : tie.NeedReturns
+returns : tie.Need-returns
 unfolding own_fault record_at
 returns c = refuses _ (genome c.before) c.if1.true
 
-returns_2 : tie.NeedReturns2
+returns_2 : tie.Need-returns-2
 unfolding own_fault record_at
 returns_2 c =
     passes (genome c.before.before.before.before) c.before.before.before.if1.false

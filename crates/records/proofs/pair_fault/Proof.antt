@@ -12,7 +12,7 @@ use Rattle.records.proofs.pair_fault.Statement.{statement}
 use Rattle.records.proofs.pair_fault.Tie as tie
 
 -- what the test of the genome start gave
-starts : (c : tie.AfterStartFault) → let s = c.before.before.before.before in
+starts : (c : tie.After-start-fault) → let s = c.before.before.before.before in
     c.start-fault.result ≡ start_fault (field_at s.args.s.now (s.args.previous + alt_end_at)) (field_at s.args.s.now (s.args.at + alt_start_at))
 starts c =
     c.start-fault.ensures
@@ -20,17 +20,17 @@ starts c =
     (told w64 _ c.before.before.field.type-inv ∙ c.before.before.field.ensures)
     (told w64 _ c.before.field2.type-inv ∙ c.before.field2.ensures)
 
-returns : tie.NeedReturns
+returns : tie.Need-returns
 unfolding pair_fault record_at
 returns c = refuses _ (starts c.before) c.if1.true
 
-returns_2 : tie.NeedReturns2
+returns_2 : tie.Need-returns-2
 unfolding pair_fault record_at
 returns_2 c =
     passes (starts c.before.before.before) c.before.before.if1.false
     (rw c.before.if2.true c.follow-fault.ensures)
 
-returns_3 : tie.NeedReturns3
+returns_3 : tie.Need-returns-3
 unfolding pair_fault record_at
 returns_3 c =
     passes (starts c.before.before.before) c.before.before.if1.false

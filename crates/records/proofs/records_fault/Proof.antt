@@ -15,36 +15,36 @@ use borrow.Author.Rules.{rules}
 use Rattle.records.proofs.records_fault.Statement.{statement}
 use Rattle.records.proofs.records_fault.Tie as tie
 
-abbrev invariant_loop : tie.invariant_loop
+abbrev invariant_loop : tie.invariant-loop
 invariant_loop forward count s first previous₀ at₀ left₀ previous at left =
     (previous + cigar_text ≤ length s) × (exactly left s at ≡ true)
     × (faults forward (records_from count s 0) ≡ faults_after forward (record_at s previous) (records_from left s at))
 
-abbrev decreases_loop : tie.decreases_loop
+abbrev decreases_loop : tie.decreases-loop
 decreases_loop forward count s first previous₀ at₀ left₀ previous at left = left
 
-returns : tie.NeedReturns invariant_loop decreases_loop
+returns : tie.Need-returns invariant_loop decreases_loop
 returns c = sym (no_faults _ c.before.before.args.count _ 0 (omega arith))
 
 -- a record begins at the front, and at each turn of the loop
 first_begins : (c : tie.Else1 invariant_loop decreases_loop) → Begins c.before.before.args.count c.before.before.args.s.now 0
 first_begins c = begins _ _ 0 (omega arith) c.before.before.requires
 
-own_fault_requires : tie.NeedOwnFaultRequires invariant_loop decreases_loop
+own_fault_requires : tie.Need-own-fault-requires invariant_loop decreases_loop
 own_fault_requires c κs = (first_begins c).stands.numbers
 
-returns_2 : tie.NeedReturns2 invariant_loop decreases_loop
+returns_2 : tie.Need-returns-2 invariant_loop decreases_loop
 returns_2 c =
     let a = c.before.before.before.before.args in
     refuses _ c.before.own-fault.ensures c.if2.true ∙ sym (faults_first a.forward a.count a.s.now 0 (omega arith))
 
-next_at_requires : tie.NeedNextAtRequires invariant_loop decreases_loop
+next_at_requires : tie.Need-next-at-requires invariant_loop decreases_loop
 next_at_requires c κs = (first_begins c.before.before).stands.numbers
 
-sub_left : tie.NeedOverflowSubLeft invariant_loop decreases_loop
+sub_left : tie.Need-overflow-sub-left invariant_loop decreases_loop
 sub_left c = search rules
 
-loop_holds : tie.NeedLoopInit invariant_loop decreases_loop
+loop_holds : tie.Need-loop-init invariant_loop decreases_loop
 loop_holds c =
     let a = c.before.before.before.before.before.args in
     let f = first_begins c.before.before.before in
@@ -55,7 +55,7 @@ loop_holds c =
           ∙ sym (passes c.before.before.own-fault.ensures c.before.if2.false refl),
     )
 
-module _ (c : tie.InLoop invariant_loop decreases_loop) where
+module _ (c : tie.In-loop invariant_loop decreases_loop) where
   abbrev bytes : List ℕ
   bytes = c.before.before.before.before.before.before.before.args.s.now
 
@@ -75,33 +75,33 @@ module _ (c : tie.InLoop invariant_loop decreases_loop) where
       or_else faults_after strand (record_at bytes c.before.loop.at) (records_from (c.before.loop.left - 1) bytes (next_at bytes c.before.loop.at))
   from_here = c.before.loop.invariant.2 ∙ faults_one _ _ c.before.loop.left _ c.before.loop.at (omega arith)
 
-own_fault_requires_2 : tie.NeedOwnFaultRequires2 invariant_loop decreases_loop
+own_fault_requires_2 : tie.Need-own-fault-requires-2 invariant_loop decreases_loop
 own_fault_requires_2 c κs = (begins_here c).stands.numbers
 
-returns_3 : tie.NeedReturns3 invariant_loop decreases_loop
+returns_3 : tie.Need-returns-3 invariant_loop decreases_loop
 returns_3 c =
     let l = c.before.before.before.loop in
     refuses _ c.before.own-fault2.ensures c.if3.true ∙ sym (from_here c.before.before)
 
-pair_fault_requires : tie.NeedPairFaultRequires invariant_loop decreases_loop
+pair_fault_requires : tie.Need-pair-fault-requires invariant_loop decreases_loop
 pair_fault_requires c κs = (c.before.before.before.loop.invariant.0, (begins_here c.before.before).stands.numbers)
 
-returns_4 : tie.NeedReturns4 invariant_loop decreases_loop
+returns_4 : tie.Need-returns-4 invariant_loop decreases_loop
 returns_4 c =
     passes c.before.before.before.own-fault2.ensures c.before.before.if3.false
     (refuses _ c.before.pair-fault.ensures c.if4.true)
     ∙ sym (from_here c.before.before.before.before)
 
-next_at_requires_2 : tie.NeedNextAtRequires2 invariant_loop decreases_loop
+next_at_requires_2 : tie.Need-next-at-requires-2 invariant_loop decreases_loop
 next_at_requires_2 c κs = (begins_here c.before.before.before.before).stands.numbers
 
-sub_left_2 : tie.NeedOverflowSubLeft2 invariant_loop decreases_loop
+sub_left_2 : tie.Need-overflow-sub-left-2 invariant_loop decreases_loop
 sub_left_2 c = search rules
 
-loop_less : tie.NeedLoopSmaller invariant_loop decreases_loop
+loop_less : tie.Need-loop-smaller invariant_loop decreases_loop
 loop_less c = search rules
 
-loop_again : tie.NeedLoopPreserved invariant_loop decreases_loop
+loop_again : tie.Need-loop-preserved invariant_loop decreases_loop
 loop_again c =
     let b = begins_here c.before.before.before.before.before in
     rw c.next-at2.ensures (
@@ -113,7 +113,7 @@ loop_again c =
           (passes c.before.before.pair-fault.ensures c.before.if4.false refl)),
     )
 
-returns_5 : tie.NeedReturns5 invariant_loop decreases_loop
+returns_5 : tie.Need-returns-5 invariant_loop decreases_loop
 returns_5 c =
     let l = c.before.loop in
     sym (l.invariant.2 ∙ faults_none _ _ l.left _ l.at (omega arith))

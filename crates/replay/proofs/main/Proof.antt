@@ -7,7 +7,7 @@ use borrow.Author.Rules.{rules}
 use Rattle.replay.proofs.main.Statement.{statement}
 use Rattle.replay.proofs.main.Tie as tie
 
-slice_aggregate_write_all : tie.NeedSliceAggregateWriteAll
+slice_aggregate_write_all : tie.Need-slice-aggregate-write-all
 slice_aggregate_write_all c =
     let l = c.before.before.play-input in
     sym (length-take-le l.result l.new.1.1.1.1.1.0 (omega arith))

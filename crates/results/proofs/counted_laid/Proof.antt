@@ -5,10 +5,10 @@ use borrow.Author.Rules.{rules}
 use Rattle.results.proofs.counted_laid.Statement.{statement}
 use Rattle.results.proofs.counted_laid.Tie as tie
 
-returns : tie.NeedReturns
+returns : tie.Need-returns
 returns c = ap counted_laid (sym c.before.counted.given.1)
 
-returns_2 : tie.NeedReturns2
+returns_2 : tie.Need-returns-2
 returns_2 c = ap counted_laid (sym c.before.counted2.given.1)
 
 pub counted_laid_spec : {M : Type 1} → statement M

@@ -4,10 +4,10 @@ use borrow.Author.Rules.{rules}
 use Rattle.results.proofs.lay_built.Statement.{statement}
 use Rattle.results.proofs.lay_built.Tie as tie
 
-returns : tie.NeedReturns
+returns : tie.Need-returns
 returns c = rw c.before.before.before.b.given.1 (refl, c.lay-head.ensures)
 
-returns_2 : tie.NeedReturns2
+returns_2 : tie.Need-returns-2
 returns_2 c = rw c.before.b2.given.1 (refl, refl)
 
 pub lay_built_spec : {M : Type 1} → statement M

@@ -4,7 +4,7 @@ use borrow.Author.Rules.{rules}
 use Rattle.results.proofs.part_laid.Statement.{statement}
 use Rattle.results.proofs.part_laid.Tie as tie
 
-returns : tie.NeedReturns
+returns : tie.Need-returns
 returns c = rw c.star-number.ensures refl
 
 pub part_laid_spec : {M : Type 1} → statement M

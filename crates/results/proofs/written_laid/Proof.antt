@@ -5,10 +5,10 @@ use borrow.Author.Rules.{rules}
 use Rattle.results.proofs.written_laid.Statement.{statement}
 use Rattle.results.proofs.written_laid.Tie as tie
 
-returns : tie.NeedReturns
+returns : tie.Need-returns
 returns c = ap written_laid (sym c.before.written.given.1)
 
-returns_2 : tie.NeedReturns2
+returns_2 : tie.Need-returns-2
 returns_2 c = ap written_laid (sym c.before.written2.given.1)
 
 pub written_laid_spec : {M : Type 1} → statement M

@@ -12,23 +12,23 @@ use borrow.Author.Rules.{rules}
 use Rattle.rows.proofs.expects.Statement.{statement}
 use Rattle.rows.proofs.expects.Tie as tie
 
-abbrev invariant_loop : tie.invariant_loop
+abbrev invariant_loop : tie.invariant-loop
 invariant_loop row words same₀ i₀ same i = (i ≤ answer_size) × (same ≡ all_below (λ (k : ℕ). is_word row k (get_or words k (pos 0))) i)
 
-abbrev decreases_loop : tie.decreases_loop
+abbrev decreases_loop : tie.decreases-loop
 decreases_loop row words same₀ i₀ same i = answer_size - i
 
-loop_holds : tie.NeedLoopInit invariant_loop decreases_loop
+loop_holds : tie.Need-loop-init invariant_loop decreases_loop
 loop_holds c = (search rules, all_none _)
 
-loop_again : tie.NeedLoopPreserved invariant_loop decreases_loop
+loop_again : tie.Need-loop-preserved invariant_loop decreases_loop
 loop_again c =
     let a = c.before.before.before.before.before.args in
     let l = c.before.before.before.loop in
     let word = told w64 (get_or a.t2 l.i (pos 0)) c.before.is-word-arg.given in
     (search rules, all_more _ _ l.invariant.1 (c.is_IsWord.ensures ∙ ap (is_word a.row.now l.i) word))
 
-returns : tie.NeedReturns invariant_loop decreases_loop
+returns : tie.Need-returns invariant_loop decreases_loop
 unfolding expected
 returns c = all_done _ _ _ c.before.loop.invariant.1 c.before.loop.invariant.0 c.loop-test.false
 

@@ -8,14 +8,14 @@ use borrow.Author.Rules.{rules}
 use Rattle.rows.proofs.first.Statement.{statement}
 use Rattle.rows.proofs.first.Tie as tie
 
-returns : tie.NeedReturns
+returns : tie.Need-returns
 unfolding first_of
 returns c = rw (lt-ltb _ _ c.before.if1.true)
 
-slice_aggregate_result_2 : tie.NeedSliceAggregateResult2
+slice_aggregate_result_2 : tie.Need-slice-aggregate-result-2
 slice_aggregate_result_2 c = sym (length-take-le _ _ (omega arith))
 
-returns_2 : tie.NeedReturns2
+returns_2 : tie.Need-returns-2
 unfolding first_of
 returns_2 c = rw (le-ltb _ _ c.before.if1.false)
 

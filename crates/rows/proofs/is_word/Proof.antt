@@ -10,13 +10,13 @@ use borrow.Author.Rules.{rules}
 use Rattle.rows.proofs.is_word.Statement.{statement}
 use Rattle.rows.proofs.is_word.Tie as tie
 
-word_fits : (c : tie.AfterSignedWord) → SFits w32 c.signed_word.result
+word_fits : (c : tie.After-signed-word) → SFits w32 c.signed_word.result
 word_fits c = record { sfits = c.signed_word.type-inv }
 
-cast_word : tie.NeedOverflowCastWord
+cast_word : tie.Need-overflow-cast-word
 cast_word c = simp (read (word_fits c)) (fits_wider (word_fits c))
 
-returns : tie.NeedReturns
+returns : tie.Need-returns
 unfolding is_word
 returns c =
     let w = c.before in
@@ -25,7 +25,7 @@ returns c =
     (ap (λ (a : ℤ). eq_z a z) (sym w.signed_word.ensures)
     ∙ same_read w.signed_word.result z (fits_wider (word_fits w)) w.before.before.ranges.z (simp (read (word_fits w)) at c.if1.true))
 
-returns_2 : tie.NeedReturns2
+returns_2 : tie.Need-returns-2
 unfolding is_word
 returns_2 c =
     let w = c.before in

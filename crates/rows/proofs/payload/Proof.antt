@@ -6,7 +6,7 @@ use borrow.Author.Rules.{rules}
 use Rattle.rows.proofs.payload.Statement.{statement}
 use Rattle.rows.proofs.payload.Tie as tie
 
-returns : tie.NeedReturns
+returns : tie.Need-returns
 returns c = c.first.ensures ∙ ap₂ first_of (ap (λ (s : Slice). s.bytes) c.before.before.rest.ensures) c.before.word.ensures
 
 pub payload_spec : {M : Type 1} → statement M

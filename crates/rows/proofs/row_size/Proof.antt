@@ -5,11 +5,11 @@ use borrow.Author.Rules.{rules}
 use Rattle.rows.proofs.row_size.Statement.{statement}
 use Rattle.rows.proofs.row_size.Tie as tie
 
-returns : tie.NeedReturns
+returns : tie.Need-returns
 unfolding row_size
 returns c = (rw (← c.before.word.ensures, lt-ltb _ _ c.if1.true), search rules)
 
-returns_2 : tie.NeedReturns2
+returns_2 : tie.Need-returns-2
 unfolding row_size
 returns_2 c = (rw (← c.before.word.ensures, le-ltb _ _ c.if1.false), search rules)
 

@@ -7,11 +7,11 @@ use borrow.Author.Rules.{rules}
 use Rattle.rows.proofs.signed_word.Statement.{statement}
 use Rattle.rows.proofs.signed_word.Tie as tie
 
-returns : tie.NeedReturns
+returns : tie.Need-returns
 unfolding word_at
 returns c = rw (lt-ltb _ _ c.if1.true)
 
-returns_2 : tie.NeedReturns2
+returns_2 : tie.Need-returns-2
 unfolding word_at
 returns_2 c = rw (le-ltb _ _ c.before.if1.false) (read (record { sfits = c.i32-at.type-inv }) ∙ c.i32-at.ensures)
 

@@ -6,7 +6,7 @@ use Rattle.rows.specs.Sizes.{most_file}
 use Rattle.rows.proofs.space.Statement.{statement}
 use Rattle.rows.proofs.space.Tie as tie
 
-returns : tie.NeedReturns
+returns : tie.Need-returns
 returns c = (refl, sym (length-replicate {A = ℕ} most_file 0))
 
 pub space_spec : {M : Type 1} → statement M

@@ -8,18 +8,18 @@ use Rattle.segments.proofs.Bounds.{fits_37, before_37, entry_37}
 use Rattle.segments.proofs.beside_at.Statement.{statement}
 use Rattle.segments.proofs.beside_at.Tie as tie
 
-sub_before : tie.NeedOverflowSubBefore
+sub_before : tie.Need-overflow-sub-before
 sub_before c =
     let t = c.before.before.ranges.t in
     simp (entry t) (fits_37 (before_37 t))
 
-returns : tie.NeedReturns
+returns : tie.Need-returns
 returns c =
     let t = c.before.before.ranges.t in
     simp (entry t, read (fits_37 (before_37 t)), c.enum_told.given.1)
     (refl, record { place_small = before_37 t; offset_small = omega arith })
 
-returns_2 : tie.NeedReturns2
+returns_2 : tie.Need-returns-2
 returns_2 c =
     let t = c.before.before.ranges.t in
     simp (entry t, c.enum-told2.given.1) (refl, record { place_small = entry_37 t; offset_small = omega arith })

@@ -3,10 +3,10 @@ use Rattle.whole.specs.laws.Whole.{read}
 use Rattle.segments.proofs.is_left_nearer.Statement.{statement}
 use Rattle.segments.proofs.is_left_nearer.Tie as tie
 
-returns : tie.NeedReturns
+returns : tie.Need-returns
 returns c = simp (read c.before.ranges.left, read c.before.ranges.right, c.if1.true)
 
-returns_2 : tie.NeedReturns2
+returns_2 : tie.Need-returns-2
 returns_2 c = simp (read c.before.ranges.left, read c.before.ranges.right, c.if1.false)
 
 pub is_left_nearer_spec : {M : Type 1} → statement M

@@ -4,7 +4,7 @@ use borrow.Author.Rules.{rules}
 use Rattle.segments.proofs.map_at.Statement.{statement}
 use Rattle.segments.proofs.map_at.Tie as tie
 
-returns : tie.NeedReturns
+returns : tie.Need-returns
 returns c =
     let p = read c.before.before.before.before.before.ranges.p in
     (simp p at c.spot_in.ensures.0, c.spot_in.ensures.1)

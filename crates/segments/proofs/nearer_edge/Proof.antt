@@ -9,15 +9,15 @@ use Rattle.segments.proofs.Bounds.{fits_37, negated, before_37, entry_37, back_3
 use Rattle.segments.proofs.nearer_edge.Statement.{statement}
 use Rattle.segments.proofs.nearer_edge.Tie as tie
 
-sub_before : tie.NeedOverflowSubBefore
+sub_before : tie.Need-overflow-sub-before
 sub_before c =
     let t = c.before.before.ranges.t in
     simp (entry t) (fits_37 (before_37 t))
 
-sub_back : tie.NeedOverflowSubBack
+sub_back : tie.Need-overflow-sub-back
 sub_back c = simp (read c.before.before.ranges.right, negated) (fits_38 (back_38 c.before.before.requires.1))
 
-returns : tie.NeedReturns
+returns : tie.Need-returns
 unfolding nearer
 returns c =
     let a = c.before.before in
@@ -26,7 +26,7 @@ returns c =
     simp (entry t, read (fits_37 (before_37 t)), read a.ranges.left, is_left)
     (refl, record { place_small = before_37 t; offset_small = omega (arith, a.requires.0.within) })
 
-returns_2 : tie.NeedReturns2
+returns_2 : tie.Need-returns-2
 unfolding nearer
 returns_2 c =
     let a = c.before.before in

@@ -8,16 +8,16 @@ use Rattle.segments.proofs.Bounds.{fits_37, next_38}
 use Rattle.segments.proofs.stop_of.Statement.{statement}
 use Rattle.segments.proofs.stop_of.Tie as tie
 
-add_next : tie.NeedOverflowAddNext
+add_next : tie.Need-overflow-add-next
 add_next c =
     let place = c.before.before.requires.place_small in
     rw (read (fits_37 place)) (fits_38 (next_38 place))
 
-returns : tie.NeedReturns
+returns : tie.Need-returns
 unfolding stop_of
 returns c = (rw c.if1.true refl, wider c.before.requires)
 
-returns_2 : tie.NeedReturns2
+returns_2 : tie.Need-returns-2
 unfolding stop_of
 returns_2 c =
     let place = c.before.before.requires.place_small in

@@ -17,19 +17,19 @@ use Rattle.segments.proofs.transcript_to_genome.Tie as tie
 held : (c : tie.Start) → let a = c.args in Holds (tables a.genome.now a.transcript.now a.letters.now) a.count
 held c = holds_means _ _ c.requires.1.0
 
-found : (c : tie.AfterFind) → let a = c.before.before.args in c.find.result ≡ index_of a.transcript.now a.count a.p.0
+found : (c : tie.After-find) → let a = c.before.before.args in c.find.result ≡ index_of a.transcript.now a.count a.p.0
 found c = simp (read (fits_36 c.before.before.requires.1.1)) at (c.find.ensures.1 (held c.before.before).transcript_rises)
 
-map_at_requires : tie.NeedMapAtRequires
+map_at_requires : tie.Need-map-at-requires
 map_at_requires c κs =
     let w = c.before.before.requires.1.1 in
     (omega (arith, c.find.ensures.0), simp (read (fits_36 w)) w)
 
-by_tables : (c : tie.AfterMapAt) → let a = c.before.before.before.args in spot_said c.map_at.result ≡ map_by_tables a.transcript.now a.genome.now a.letters.now a.count a.p.0 (end_said a.end) true
+by_tables : (c : tie.After-map-at) → let a = c.before.before.before.args in spot_said c.map_at.result ≡ map_by_tables a.transcript.now a.genome.now a.letters.now a.count a.p.0 (end_said a.end) true
 unfolding map_by_tables
 by_tables c = let p = read (fits_36 c.before.before.before.requires.1.1) in rw (sym (found c.before)) (simp p at c.map_at.ensures.0)
 
-returns : tie.NeedReturns
+returns : tie.Need-returns
 returns c = (by_tables c ∙ by_transcript _ _ (held c.before.before.before) (omega arith) _ _ _, c.map_at.ensures.1)
 
 pub transcript_to_genome_spec : {M : Type 1} → statement M

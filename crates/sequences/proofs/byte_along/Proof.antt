@@ -6,10 +6,10 @@ use borrow.Author.Rules.{rules}
 use Rattle.sequences.proofs.byte_along.Statement.{statement}
 use Rattle.sequences.proofs.byte_along.Tie as tie
 
-returns : tie.NeedReturns
+returns : tie.Need-returns
 returns c = rw c.before.if1.true (sym (get_d_reverse c.before.before.args.s.now c.before.before.args.i c.before.before.requires))
 
-returns_2 : tie.NeedReturns2
+returns_2 : tie.Need-returns-2
 returns_2 c = rw c.before.if1.false refl
 
 pub byte_along_spec : {M : Type 1} → statement M

@@ -17,19 +17,19 @@ use Rattle.sequences.proofs.changed_part.Statement.{statement}
 use Rattle.sequences.proofs.changed_part.Tie as tie
 
 -- how many bytes go at the back
-removed : (c : tie.AfterTrimCommonSuffixes) → let a = c.before.before.before.before.before.before.args in c.trim-common-suffixes.result ≡ after a.reference.now a.alternative.now
+removed : (c : tie.After-trim-common-suffixes) → let a = c.before.before.before.before.before.before.args in c.trim-common-suffixes.result ≡ after a.reference.now a.alternative.now
 removed c =
     let a = c.before.before.before.before.before.before.args in
     c.trim-common-suffixes.ensures
     ∙ after_rests (slice_of a.reference) (slice_of a.alternative) _ _ _
     c.before.before.before.trim-common-prefixes.ensures c.before.before.rest.ensures c.before.rest2.ensures
 
-sub_to : tie.NeedOverflowSubTo
+sub_to : tie.Need-overflow-sub-to
 sub_to c =
     let a = c.before.before.before.before.before.before.before.args in
     omega (arith, apart a.reference.now a.alternative.now, removed c.before)
 
-sub_to_2 : tie.NeedOverflowSubTo2
+sub_to_2 : tie.Need-overflow-sub-to-2
 sub_to_2 c =
     let a = c.before.before.before.before.before.before.before.args in
     omega (arith, apart a.reference.now a.alternative.now, removed c.before)
@@ -38,14 +38,14 @@ sub_to_2 c =
 told : (r a : List ℕ) (alternative : Bool) (p q : ℕ) → ltb (length r) (length a) ≡ alternative → p ≡ bytes_before r a → q ≡ after r a → record { alternative = alternative; from = p; to = length (cond alternative a r) - q } ≡ changed_part r a
 told r a alternative p q longer front back = rw (longer, front, back)
 
-returns : tie.NeedReturns
+returns : tie.Need-returns
 returns c =
     let d = c.before.before.before.before in
     let a = d.before.before.before.args in
     told a.reference.now a.alternative.now false _ _
     (le-ltb (length a.reference.now) (length a.alternative.now) (omega arith)) d.trim-common-prefixes.ensures (removed c.before)
 
-returns_2 : tie.NeedReturns2
+returns_2 : tie.Need-returns-2
 returns_2 c =
     let d = c.before.before.before.before in
     let a = d.before.before.before.args in

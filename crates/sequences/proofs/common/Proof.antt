@@ -8,41 +8,41 @@ use borrow.Author.Rules.{rules}
 use Rattle.sequences.proofs.common.Statement.{statement}
 use Rattle.sequences.proofs.common.Tie as tie
 
-abbrev invariant_loop : tie.invariant_loop
+abbrev invariant_loop : tie.invariant-loop
 invariant_loop r a back n₀ n = Upto back r a n
 
-abbrev decreases_loop : tie.decreases_loop
+abbrev decreases_loop : tie.decreases-loop
 decreases_loop r a back n₀ n = length r - n
 
-loop_holds : tie.NeedLoopInit invariant_loop decreases_loop
+loop_holds : tie.Need-loop-init invariant_loop decreases_loop
 loop_holds c = search rules
 
-returns : tie.NeedReturns invariant_loop decreases_loop
+returns : tie.Need-returns invariant_loop decreases_loop
 returns c = ends_a _ _ _ _ c.before.before.loop.invariant c.if1.true
 
-byte_along_requires : tie.NeedByteAlongRequires invariant_loop decreases_loop
+byte_along_requires : tie.Need-byte-along-requires invariant_loop decreases_loop
 byte_along_requires c κs = omega arith
 
-byte_along_requires_2 : tie.NeedByteAlongRequires2 invariant_loop decreases_loop
+byte_along_requires_2 : tie.Need-byte-along-requires-2 invariant_loop decreases_loop
 byte_along_requires_2 c κs = omega arith
 
-returns_2 : tie.NeedReturns2 invariant_loop decreases_loop
+returns_2 : tie.Need-returns-2 invariant_loop decreases_loop
 returns_2 c =
     let l = c.before.before.before.before.before.loop in
     differs _ _ _ l.n l.invariant (omega arith) (omega arith) (λ e. omega arith)
 
-add_n : tie.NeedOverflowAddN invariant_loop decreases_loop
+add_n : tie.Need-overflow-add-n invariant_loop decreases_loop
 add_n c = search rules
 
-loop_less : tie.NeedLoopSmaller invariant_loop decreases_loop
+loop_less : tie.Need-loop-smaller invariant_loop decreases_loop
 loop_less c = search rules
 
-loop_again : tie.NeedLoopPreserved invariant_loop decreases_loop
+loop_again : tie.Need-loop-preserved invariant_loop decreases_loop
 loop_again c =
     let l = c.before.before.before.before.before.loop in
     more _ _ _ l.n l.invariant (omega arith) (omega arith) (omega arith)
 
-returns_3 : tie.NeedReturns3 invariant_loop decreases_loop
+returns_3 : tie.Need-returns-3 invariant_loop decreases_loop
 returns_3 c = ends_r _ _ _ _ c.before.loop.invariant c.loop-test.false
 
 pub common_spec : {M : Type 1} → statement M

@@ -8,7 +8,7 @@ use borrow.Author.Rules.{rules}
 use Rattle.sequences.proofs.front.Statement.{statement}
 use Rattle.sequences.proofs.front.Tie as tie
 
-returns : tie.NeedReturns
+returns : tie.Need-returns
 returns c =
     let a = c.before.before.before.args in
     let ends : length a.s.now - a.q ≡ 0 = omega arith in

@@ -8,13 +8,13 @@ use borrow.Author.Rules.{rules}
 use Rattle.sequences.proofs.rest.Statement.{statement}
 use Rattle.sequences.proofs.rest.Tie as tie
 
-returns : tie.NeedReturns
+returns : tie.Need-returns
 returns c =
     let a = c.before.before.before.args in
     let begins : min a.p (length a.s.now) ≡ length a.s.now = omega arith in
     rw begins c.cut.ensures
 
-returns_2 : tie.NeedReturns2
+returns_2 : tie.Need-returns-2
 returns_2 c =
     let a = c.before.before.before.args in
     let begins : min a.p (length a.s.now) ≡ a.p = omega arith in

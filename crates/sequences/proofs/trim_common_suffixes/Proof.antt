@@ -5,7 +5,7 @@ use borrow.Author.Rules.{rules}
 use Rattle.sequences.proofs.trim_common_suffixes.Statement.{statement}
 use Rattle.sequences.proofs.trim_common_suffixes.Tie as tie
 
-returns : tie.NeedReturns
+returns : tie.Need-returns
 unfolding suffix_len
 returns c = c.common.ensures
 

@@ -14,17 +14,17 @@ use borrow.Author.Rules.{rules}
 use Rattle.spelling.proofs.element_size.Statement.{statement}
 use Rattle.spelling.proofs.element_size.Tie as tie
 
-returns : tie.NeedReturns
+returns : tie.Need-returns
 returns c =
     let s = c.before.before.before in
     let l : is_letter s.args.letter ≡ true = sym c.before.before.is-letter.ensures ∙ c.before.if1.true in
     let b : lt_z s.args.count (pos 0) ≡ true = rw (read s.ranges.count) at c.if2.true in
     rw (l, b) (refl, tt)
 
-unsigned_requires : tie.NeedUnsignedRequires
+unsigned_requires : tie.Need-unsigned-requires
 unsigned_requires c κs = c.if2.false
 
-returns_2 : tie.NeedReturns2
+returns_2 : tie.Need-returns-2
 returns_2 c =
     let s = c.before.before.before.before.before in
     let t = c.before.before in
@@ -34,7 +34,7 @@ returns_2 c =
     let size = c.element-len.ensures.0 ∙ ap (λ (n : ℕ). length (element_text n s.args.letter)) (c.before.unsigned.ensures ∙ ap nat_abs kept) in
     rw (l, b) (ap answer.Text (size ∙ sym (alone_long (nat_abs s.args.count) s.args.letter)), c.element-len.ensures.1)
 
-returns_3 : tie.NeedReturns3
+returns_3 : tie.Need-returns-3
 returns_3 c =
     let l : is_letter c.before.before.args.letter ≡ false = sym c.before.is-letter.ensures ∙ c.if1.false in
     rw l (refl, tt)

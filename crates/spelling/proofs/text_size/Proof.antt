@@ -15,15 +15,15 @@ use borrow.Author.Rules.{rules}
 use Rattle.spelling.proofs.text_size.Statement.{statement}
 use Rattle.spelling.proofs.text_size.Tie as tie
 
-abbrev invariant_loop : tie.invariant_loop
+abbrev invariant_loop : tie.invariant-loop
 invariant_loop number counts letters total₀ i₀ total i =
     (i ≤ number) × (total ≤ 11 * i) × (size_of (elements_given counts letters number) ≡ size_from total (left_of counts letters number i))
 
-abbrev decreases_loop : tie.decreases_loop
+abbrev decreases_loop : tie.decreases-loop
 decreases_loop number counts letters total₀ i₀ total i = number - i
 
 -- the element at the place, its size and what is left
-module _ (c : tie.AfterElementSize invariant_loop decreases_loop) where
+module _ (c : tie.After-element-size invariant_loop decreases_loop) where
   abbrev start : tie.Start invariant_loop decreases_loop
   start = c.before.before.before.before.before.before
 
@@ -46,55 +46,55 @@ module _ (c : tie.AfterElementSize invariant_loop decreases_loop) where
       ≡ size_from c.before.before.before.before.loop.total (judged count letter (rest (place + 1)))
   left = c.before.before.before.before.loop.invariant.2 ∙ ap (size_from _) (left_more _ _ start.args.number place (omega arith))
 
-loop_holds : tie.NeedLoopInit invariant_loop decreases_loop
+loop_holds : tie.Need-loop-init invariant_loop decreases_loop
 loop_holds c =
     let a = c.before.args in
     let all = elements_given a.counts.now a.letters.now a.number in
     (omega arith, omega arith, size_all all ∙ ap (size_from 0) (left_all a.counts.now a.letters.now a.number))
 
-mul_element_size : tie.NeedOverflowMulElementSize invariant_loop decreases_loop
+mul_element_size : tie.Need-overflow-mul-element-size invariant_loop decreases_loop
 mul_element_size c = search rules
 
-shared_slice_copy_out_element_size : tie.NeedSharedSliceCopyOutElementSize invariant_loop decreases_loop
+shared_slice_copy_out_element_size : tie.Need-shared-slice-copy-out-element-size invariant_loop decreases_loop
 shared_slice_copy_out_element_size c = search rules
 
-shared_slice_read_element_size : tie.NeedSharedSliceReadElementSize invariant_loop decreases_loop
+shared_slice_read_element_size : tie.Need-shared-slice-read-element-size invariant_loop decreases_loop
 shared_slice_read_element_size c = search rules
 
-element_size_requires : tie.NeedElementSizeRequires invariant_loop decreases_loop
+element_size_requires : tie.Need-element-size-requires invariant_loop decreases_loop
 element_size_requires c κs = search rules
 
-enum_known_size : tie.NeedEnumKnownSize invariant_loop decreases_loop
+enum_known_size : tie.Need-enum-known-size invariant_loop decreases_loop
 enum_known_size c = search rules
 
 -- the size of one element is small
-small : (c : tie.AfterSize invariant_loop decreases_loop) → c.size.given.0.0 ≤ 11
+small : (c : tie.After-size invariant_loop decreases_loop) → c.size.given.0.0 ≤ 11
 small c = subst (AtMost 11) c.size.given.1 c.before.before.element-size.ensures.1
 
-add_total : tie.NeedOverflowAddTotal invariant_loop decreases_loop
+add_total : tie.Need-overflow-add-total invariant_loop decreases_loop
 add_total c = let s = small c.before in omega arith
 
-add_i : tie.NeedOverflowAddI invariant_loop decreases_loop
+add_i : tie.Need-overflow-add-i invariant_loop decreases_loop
 add_i c = search rules
 
-loop_less : tie.NeedLoopSmaller invariant_loop decreases_loop
+loop_less : tie.Need-loop-smaller invariant_loop decreases_loop
 loop_less c = search rules
 
-loop_again : tie.NeedLoopPreserved invariant_loop decreases_loop
+loop_again : tie.Need-loop-preserved invariant_loop decreases_loop
 loop_again c =
     let s = small c.before in
     let e = c.before.before.before in
     (omega arith, omega arith, left e ∙ size_more _ (count e) (letter e) (rest e (place e + 1)) (sym (sized e) ∙ c.before.size.given.1))
 
-enum_known_k : tie.NeedEnumKnownK invariant_loop decreases_loop
+enum_known_k : tie.Need-enum-known-k invariant_loop decreases_loop
 enum_known_k c = search rules
 
-returns : tie.NeedReturns invariant_loop decreases_loop
+returns : tie.Need-returns invariant_loop decreases_loop
 returns c =
     let e = c.before.before.before in
     sym (left e ∙ size_refused _ (count e) (letter e) (rest e (place e + 1)) (sym (sized e) ∙ c.before.k.given.1))
 
-returns_2 : tie.NeedReturns2 invariant_loop decreases_loop
+returns_2 : tie.Need-returns-2 invariant_loop decreases_loop
 returns_2 c =
     let a = c.before.before.before.args in
     let l = c.before.loop in

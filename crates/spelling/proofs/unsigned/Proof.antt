@@ -15,10 +15,10 @@ not_negative : (z : ℤ) → lt_z z (pos 0) ≡ false → SFits w32 z → T (non
 not_negative (pos n) h f = (tt, omega (arith, f.sfits))
 not_negative (negsuc n) h f = absurd (true≢false h)
 
-cast_result : tie.NeedOverflowCastResult
+cast_result : tie.Need-overflow-cast-result
 cast_result c = rw (read c.ranges.count) (not_negative c.args.count c.requires c.ranges.count)
 
-returns : tie.NeedReturns
+returns : tie.Need-returns
 returns c = ap nat_abs (read c.ranges.count)
 
 pub unsigned_spec : {M : Type 1} → statement M

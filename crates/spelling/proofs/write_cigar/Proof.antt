@@ -13,16 +13,16 @@ use borrow.Author.Rules.{rules}
 use Rattle.spelling.proofs.write_cigar.Statement.{statement}
 use Rattle.spelling.proofs.write_cigar.Tie as tie
 
-returns : tie.NeedReturns
+returns : tie.Need-returns
 returns c =
     let a = c.before.before.args in
     rw (many_written a.number a.counts.now a.letters.now (length a.buffer.now) c.if1.true) (refl, refl)
 
-text_size_requires : tie.NeedTextSizeRequires
+text_size_requires : tie.Need-text-size-requires
 text_size_requires c κs = (record { counts_long = omega arith; letters_long = omega arith }, omega arith)
 
 -- what the elements take, where they were measured
-module _ (c : tie.AfterSize) where
+module _ (c : tie.After-size) where
   abbrev start : tie.Start
   start = c.before.before.before.before.before.before.before
 
@@ -35,25 +35,25 @@ module _ (c : tie.AfterSize) where
   few : start.args.number ≤ most_segments
   few = c.before.before.before.before.before.if1.false
 
-returns_2 : tie.NeedReturns2
+returns_2 : tie.Need-returns-2
 returns_2 c =
     let s = c.before.before in
     let a = (start s).args in
     rw (large_written a.number a.counts.now a.letters.now (length a.buffer.now) (few s) (measured s) c.if2.true) (refl, refl)
 
-returns_3 : tie.NeedReturns3
+returns_3 : tie.Need-returns-3
 returns_3 c =
     let s = c.before.before.before in
     let a = (start s).args in
     rw (full_written a.number a.counts.now a.letters.now (length a.buffer.now) (few s) (measured s) c.before.if2.false c.if3.true) (refl, refl)
 
-put_elements_requires : tie.NeedPutElementsRequires
+put_elements_requires : tie.Need-put-elements-requires
 put_elements_requires c κs =
     let s = c.before.before.before.before.before.before in
     let z = sized (all s) (measured s) in
     ((record { counts_long = omega arith; letters_long = omega arith }, few s), (z.granted, omega arith))
 
-returns_4 : tie.NeedReturns4
+returns_4 : tie.Need-returns-4
 returns_4 c =
     let s = c.before.before.before.before.before.before.before.before.before in
     let a = (start s).args in
@@ -63,7 +63,7 @@ returns_4 c =
     rw (text_written a.number a.counts.now a.letters.now (length a.buffer.now) (few s) (measured s) small room)
     (ap answer.Text z.long, c.before.before.put-elements.ensures ∙ sets_front (elements_text (elements_in (all s))) a.buffer.now (omega arith))
 
-returns_5 : tie.NeedReturns5
+returns_5 : tie.Need-returns-5
 returns_5 c =
     let t = c.before.before.before in
     let a = t.before.before.before.before.before.args in

@@ -3,7 +3,7 @@ use borrow.Author.Rules.{rules}
 use Rattle.spots.proofs.are_inside.Statement.{statement}
 use Rattle.spots.proofs.are_inside.Tie as tie
 
-returns : tie.NeedReturns
+returns : tie.Need-returns
 returns c = simp (c.before.is-inside.ensures, c.is-inside2.ensures)
 
 pub are_inside_spec : {M : Type 1} → statement M

@@ -3,7 +3,7 @@ use borrow.Author.Rules.{rules}
 use Rattle.spots.proofs.chosen_exon.Statement.{statement}
 use Rattle.spots.proofs.chosen_exon.Tie as tie
 
-returns : tie.NeedReturns
+returns : tie.Need-returns
 returns c = rw c.before.behind.ensures at c.chosen.ensures
 
 pub chosen_exon_spec : {M : Type 1} → statement M

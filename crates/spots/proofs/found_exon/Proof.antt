@@ -3,7 +3,7 @@ use borrow.Author.Rules.{rules}
 use Rattle.spots.proofs.found_exon.Statement.{statement}
 use Rattle.spots.proofs.found_exon.Tie as tie
 
-returns : tie.NeedReturns
+returns : tie.Need-returns
 returns c = rw c.before.behind.ensures at c.found.ensures
 
 pub found_exon_spec : {M : Type 1} → statement M

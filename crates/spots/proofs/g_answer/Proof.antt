@@ -5,7 +5,7 @@ use borrow.Author.Rules.{rules}
 use Rattle.spots.proofs.g_answer.Statement.{statement}
 use Rattle.spots.proofs.g_answer.Tie as tie
 
-returns : tie.NeedReturns
+returns : tie.Need-returns
 unfolding g_joined
 returns c =
     let b = c.before in

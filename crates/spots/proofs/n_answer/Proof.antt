@@ -9,7 +9,7 @@ use Rattle.spots.proofs.n_answer.Statement.{statement}
 use Rattle.spots.proofs.n_answer.Tie as tie
 
 -- the two ends, which bore no mark, with the mark of both spots
-returns : tie.NeedReturns
+returns : tie.Need-returns
 unfolding n_joined
 returns c =
     let f = c.before.before in
@@ -17,7 +17,7 @@ returns c =
     let joined = simp c.before.n-both.ensures at c.n-marked.ensures ∙ ends_after (b.before.before.before.before.args.a.sure && b.before.before.before.before.args.b.sure) (paper_exons b.before.before.before.before.args.exons) (paper_n_end b.before.n-of-spot.result) (paper_n_end b.n-of-spot2.result) in
     simp f.if1.true (simp (f.if1.true, b.n-of-spot2.ensures, b.before.n-of-spot.ensures) at joined)
 
-returns_2 : tie.NeedReturns2
+returns_2 : tie.Need-returns-2
 unfolding n_joined
 returns_2 c =
     let f = c.before.before in

@@ -6,12 +6,12 @@ use borrow.Author.Rules.{rules}
 use Rattle.spots.proofs.n_of_spot.Statement.{statement}
 use Rattle.spots.proofs.n_of_spot.Tie as tie
 
-place_to_n_requires : tie.NeedPlaceToNRequires
+place_to_n_requires : tie.Need-place-to-n-requires
 place_to_n_requires c κs =
     let a = c.before in
     rw c.turn.ensures (turned_40 a.ranges.len _ a.requires.place_small)
 
-returns : tie.NeedReturns
+returns : tie.Need-returns
 returns c =
     let o = c.before.before in
     let t = o.before.before in

@@ -7,18 +7,18 @@ use borrow.Author.Rules.{rules}
 use Rattle.spots.proofs.place_of_g.Statement.{statement}
 use Rattle.spots.proofs.place_of_g.Tie as tie
 
-cast_number : tie.NeedOverflowCastNumber
+cast_number : tie.Need-overflow-cast-number
 cast_number c = simp (read c.ranges.g) (fits_wider c.ranges.g)
 
-sub_place : tie.NeedOverflowSubPlace
+sub_place : tie.Need-overflow-sub-place
 sub_place c = simp (widened c.ranges.g) (fits_38 (less_38 c.ranges.g c.ranges.first))
 
-sub_place_2 : tie.NeedOverflowSubPlace2
+sub_place_2 : tie.Need-overflow-sub-place-2
 sub_place_2 c =
     let f = c.ranges in
     simp (widened f.g, entry f.first, read (fits_38 (less_38 f.g f.first))) (fits_36 (place_36 f.g f.first))
 
-returns : tie.NeedReturns
+returns : tie.Need-returns
 returns c =
     let f = c.ranges in
     let place = place_36 f.g f.first in

@@ -7,13 +7,13 @@ use borrow.Author.Rules.{rules}
 use Rattle.spots.proofs.place_of_n.Statement.{statement}
 use Rattle.spots.proofs.place_of_n.Tie as tie
 
-place_is : (c : tie.AfterNToPlace) → c.n-to-place.result.0 ≡ place_of_n c.before.before.args.base
+place_is : (c : tie.After-n-to-place) → c.n-to-place.result.0 ≡ place_of_n c.before.before.args.base
 place_is c = simp (c.before.whole-n.ensures.0, read c.before.before.ranges.base) at c.n-to-place.ensures
 
-turn_requires : tie.NeedTurnRequires
+turn_requires : tie.Need-turn-requires
 turn_requires c κs = rw (place_is c) (widen_34 (of_n_34 c.before.before.ranges.base))
 
-returns : tie.NeedReturns
+returns : tie.Need-returns
 returns c =
     let f = c.before.before.before.ranges in
     let is = rw (place_is c.before) at c.turn.ensures in

@@ -5,13 +5,13 @@ use Rattle.spots.proofs.Sizes.{negated, signed_40}
 use Rattle.spots.proofs.sign.Statement.{statement}
 use Rattle.spots.proofs.sign.Tie as tie
 
-sub_result : tie.NeedOverflowSubResult
+sub_result : tie.Need-overflow-sub-result
 sub_result c = simp (read c.before.ranges.offset, negated) (fits_40 (signed_40 false c.before.requires))
 
-returns : tie.NeedReturns
+returns : tie.Need-returns
 returns c = simp (c.if1.true, read c.before.ranges.offset)
 
-returns_2 : tie.NeedReturns2
+returns_2 : tie.Need-returns-2
 returns_2 c = simp (c.if1.false, read c.before.ranges.offset, negated, read (fits_40 (signed_40 false c.before.requires)))
 
 pub sign_spec : {M : Type 1} → statement M

@@ -22,19 +22,19 @@ held c = holds_means _ _ c.requires.0.segments
 number_is : (c : tie.Start) → let a = c.args in a.number ≡ index_of a.transcript.now a.at.count a.p.0
 number_is c = c.requires.2.here (held c).transcript_rises
 
-map_at_requires : tie.NeedMapAtRequires
+map_at_requires : tie.Need-map-at-requires
 map_at_requires c κs =
     let s = c.before in
     (omega (arith, s.requires.2.on, s.requires.0.count_to), rw (told w64 s.args.p.0 c.struct_told.given.0.1) s.requires.1)
 
-by_tables : (c : tie.AfterMapAt) → let a = c.before.before.args in
+by_tables : (c : tie.After-map-at) → let a = c.before.before.args in
     spot_said c.map_at.result ≡ map_by_tables a.transcript.now a.genome.now a.letters.now a.at.count a.p.0 start (true)
 unfolding map_by_tables
 by_tables c =
     let s = c.before.before in
     rw (sym (number_is s)) (simp (told w64 s.args.p.0 c.before.struct_told.given.0.1) at c.map_at.ensures.0)
 
-returns : tie.NeedReturns
+returns : tie.Need-returns
 returns c =
     let s = c.before.before in
     let spot = by_tables c ∙ by_transcript _ _ (held s) s.requires.0.count_from _ _ _ in

@@ -5,7 +5,7 @@ use borrow.Author.Rules.{rules}
 use Rattle.spots.proofs.spot_of_n.Statement.{statement}
 use Rattle.spots.proofs.spot_of_n.Tie as tie
 
-returns : tie.NeedReturns
+returns : tie.Need-returns
 returns c =
     let s = c.before in
     let said = c.transcript-to-genome.ensures in

@@ -8,22 +8,22 @@ use borrow.Author.Rules.{rules}
 use Rattle.spots.proofs.turn.Statement.{statement}
 use Rattle.spots.proofs.turn.Tie as tie
 
-sub_place : tie.NeedOverflowSubPlace
+sub_place : tie.Need-overflow-sub-place
 sub_place c =
     let len = c.before.before.ranges.len in
     simp (entry len) (fits_38 (end_38 len))
 
-sub_place_2 : tie.NeedOverflowSubPlace2
+sub_place_2 : tie.Need-overflow-sub-place-2
 sub_place_2 c =
     let a = c.before.before in
     let len = a.ranges.len in
     simp (entry len, read (fits_38 (end_38 len)), told w64 a.args.p.0 c.struct_told.given.0.1) (fits_40 (back_40 len a.requires))
 
-returns : tie.NeedReturns
+returns : tie.Need-returns
 unfolding turned
 returns c = simp c.if1.true
 
-returns_2 : tie.NeedReturns2
+returns_2 : tie.Need-returns-2
 unfolding turned
 returns_2 c =
     let a = c.before.before in

@@ -5,7 +5,7 @@ use Rattle.stepping.specs.laws.OneStep.{wrapped_is}
 use Rattle.stepping.proofs.common_on.Statement.{statement}
 use Rattle.stepping.proofs.common_on.Tie as tie
 
-returns : tie.NeedReturns
+returns : tie.Need-returns
 unfolding common_same common_within
 returns c =
     let at_unless = c.before.before in

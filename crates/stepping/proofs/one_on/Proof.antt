@@ -5,7 +5,7 @@ use Rattle.stepping.specs.laws.OneStep.{wrapped_is}
 use Rattle.stepping.proofs.one_on.Statement.{statement}
 use Rattle.stepping.proofs.one_on.Tie as tie
 
-returns : tie.NeedReturns
+returns : tie.Need-returns
 unfolding same steps_within
 returns c =
     let at_sum = c.before in

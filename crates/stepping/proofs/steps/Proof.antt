@@ -4,10 +4,10 @@ use Rattle.numbered.specs.laws.All.{from_start, stretched}
 use Rattle.stepping.proofs.steps.Statement.{statement}
 use Rattle.stepping.proofs.steps.Tie as tie
 
-returns : tie.NeedReturns
+returns : tie.Need-returns
 returns c = let all = c.steps-in.ensures in (all.0 ∙ from_start _ _, λ k. all.1 k ∙ from_start _ _)
 
-returns_2 : tie.NeedReturns2
+returns_2 : tie.Need-returns-2
 returns_2 c =
     let front = c.before.before.steps-in2.ensures in
     let back = c.before.steps-in3.ensures in (
@@ -15,7 +15,7 @@ returns_2 c =
       λ k. c.both-seen.ensures.1 k ∙ ap₂ ◌&&◌ (front.1 k) (back.1 k) ∙ stretched _ _ _ _ (omega arith) (omega arith),
     )
 
-returns_3 : tie.NeedReturns3
+returns_3 : tie.Need-returns-3
 returns_3 c =
     let front = c.before.before.steps-in4.ensures in
     let back = c.before.steps-in5.ensures in (
@@ -23,7 +23,7 @@ returns_3 c =
       λ k. c.both-seen2.ensures.1 k ∙ ap₂ ◌&&◌ (front.1 k) (back.1 k) ∙ stretched _ _ _ _ (omega arith) (omega arith),
     )
 
-returns_4 : tie.NeedReturns4
+returns_4 : tie.Need-returns-4
 returns_4 c =
     let front = c.before.before.steps-in6.ensures in
     let back = c.before.steps-in7.ensures in (

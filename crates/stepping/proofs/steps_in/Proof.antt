@@ -9,21 +9,21 @@ use Rattle.stepping.specs.laws.OneStep.{within_none}
 use Rattle.stepping.proofs.steps_in.Statement.{statement}
 use Rattle.stepping.proofs.steps_in.Tie as tie
 
-abbrev invariant_loop : tie.invariant_loop
+abbrev invariant_loop : tie.invariant-loop
 invariant_loop genome transcript letters first to seen₀ i₀ seen i = (first ≤ i) × (i ≤ to) × (seen.same ≡ all_below (from first (same_at (tables genome transcript letters))) i) × ((k : ℕ) → within k seen.bits ≡ all_below (from first (within_at k (tables genome transcript letters))) i)
 
-abbrev decreases_loop : tie.decreases_loop
+abbrev decreases_loop : tie.decreases-loop
 decreases_loop genome transcript letters first to seen₀ i₀ seen i = to - i
 
-loop_holds : tie.NeedLoopInit invariant_loop decreases_loop
+loop_holds : tie.Need-loop-init invariant_loop decreases_loop
 loop_holds c = (search rules, search rules, from_none _ _, λ k. within_none k ∙ from_none _ _)
 
-loop_again : tie.NeedLoopPreserved invariant_loop decreases_loop
+loop_again : tie.Need-loop-preserved invariant_loop decreases_loop
 loop_again c =
     let kept = c.before.before.before.before.before.before.before.loop.invariant in
     (search rules, search rules, c.one_on.ensures.0 ∙ from_more _ _ _ kept.0 kept.2 refl, λ k. c.one_on.ensures.1 k ∙ from_more _ _ _ kept.0 (kept.3 k) refl)
 
-returns : tie.NeedReturns invariant_loop decreases_loop
+returns : tie.Need-returns invariant_loop decreases_loop
 returns c =
     let kept = c.before.loop.invariant in
     (all_done _ _ _ kept.2 kept.1 c.loop-test.false, λ k. all_done _ _ _ (kept.3 k) kept.1 c.loop-test.false)

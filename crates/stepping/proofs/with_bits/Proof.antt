@@ -3,7 +3,7 @@ use Rattle.stepping.specs.laws.OneStep.{within_or}
 use Rattle.stepping.proofs.with_bits.Statement.{statement}
 use Rattle.stepping.proofs.with_bits.Tie as tie
 
-returns : tie.NeedReturns
+returns : tie.Need-returns
 returns c k = within_or k c.args.a c.args.b
 
 pub with_bits_spec : {M : Type 1} → statement M

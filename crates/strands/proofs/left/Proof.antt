@@ -6,12 +6,12 @@ use borrow.Author.Rules.{rules}
 use Rattle.strands.proofs.left.Statement.{statement}
 use Rattle.strands.proofs.left.Tie as tie
 
-returns : tie.NeedReturns
+returns : tie.Need-returns
 returns c =
     let gone = c.before.before.before.before.args.gone in
     rw c.before.before.if1.true (c.front.ensures ∙ ap (λ (s : Slice). front_of s gone.prefix) c.before.rest.ensures)
 
-returns_2 : tie.NeedReturns2
+returns_2 : tie.Need-returns-2
 returns_2 c =
     let gone = c.before.before.before.before.args.gone in
     rw c.before.before.if1.false (c.front2.ensures ∙ ap (λ (s : Slice). front_of s gone.suffix) c.before.rest2.ensures)

@@ -21,7 +21,7 @@ prefix_fronts r a x y q e ex ey = rw (ex, ey, e, front_bytes r (suffix_len r.byt
 told : (r a : List ℕ) (p q : ℕ) → p ≡ bytes_before r a → q ≡ after r a → record { prefix = p; suffix = q } ≡ removed_of r a
 told r a p q front back = rw (front, back)
 
-returns : tie.NeedReturns
+returns : tie.Need-returns
 returns c =
     let f = c.before.before in
     let a = f.before.before.before.before.before.args in
@@ -35,7 +35,7 @@ returns c =
     in
     rw f.before.before.if1.true (told (turned r) (turned s) _ _ first then)
 
-returns_2 : tie.NeedReturns2
+returns_2 : tie.Need-returns-2
 returns_2 c =
     let f = c.before.before in
     let a = f.before.before.before.before.before.args in

@@ -3,7 +3,7 @@ use Rattle.whole.specs.laws.Machine.{bits_32}
 use Rattle.surely.proofs.is_base.Statement.{statement}
 use Rattle.surely.proofs.is_base.Tie as tie
 
-returns : tie.NeedReturns
+returns : tie.Need-returns
 returns c = bits_32 {a = c.args.from} {b = c.args.to} c.ranges.from c.ranges.to
 
 pub is_base_spec : {M : Type 1} → statement M

@@ -37,7 +37,7 @@ module _ (strict : Bool) (a : Alignment) (starts : List ℕ) where
   by_name coding q p n (code.TheVariants.Inside r number) (e, seen) = (rw e n, seen)
   by_name coding q p n code.TheVariants.Other h = tt
 
-returns : tie.NeedReturns
+returns : tie.Need-returns
 returns c =
     let l = c.before in
     let n = l.before.before.before in

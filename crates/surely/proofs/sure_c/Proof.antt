@@ -15,7 +15,7 @@ use Rattle.surely.proofs.sure_c.Statement.{statement}
 use Rattle.surely.proofs.sure_c.Tie as tie
 
 -- the n. position is there
-placed : (p : tie.AfterN) →
+placed : (p : tie.After-n) →
     let e = p.before.before in
     let a = e.before.before.before.args in
     sure_c a.strict a.at a.transcript.now a.exons.now (paper_coding a.cds) (spot_said a.spot)
@@ -26,7 +26,7 @@ placed p =
     simp (← l.before.found-exon.ensures, ← l.last.ensures, ← e.n-of-spot.ensures, p.n.given.1)
 
 -- and is numbered once in c.
-numbered : (c : tie.AfterOneToC) →
+numbered : (c : tie.After-one-to-c) →
     let e = c.before.before.before.before.before.before.before in
     let a = e.before.before.before.args in
     sure_c a.strict a.at a.transcript.now a.exons.now (paper_coding a.cds) (spot_said a.spot)
@@ -36,23 +36,23 @@ numbered c =
     let p = d.before.before.before in
     simp c.one-to-c.ensures (placed p ∙ rw d.cds.given.1 (ap (laid c_laid) (c_once _ _ _ _ _ _)))
 
-returns : tie.NeedReturns
+returns : tie.Need-returns
 returns c =
     let p = c.before.before in
     c.lay-one-c.ensures ∙ sym (rw p.c.given.1 at (numbered p.before.before))
 
-returns_2 : tie.NeedReturns2
+returns_2 : tie.Need-returns-2
 returns_2 c =
     let p = c.before.before in
     c.refusal-of.ensures ∙ sym (rw p.k.given.1 at (numbered p.before.before))
 
-returns_3 : tie.NeedReturns3
+returns_3 : tie.Need-returns-3
 returns_3 c =
     let m = c.before in
     let p = m.before.before.before in
     c.refusal-of2.ensures ∙ sym (placed p ∙ rw m.enum_told.given.1 (ap (laid c_laid) (c_missing _ _ _ _)))
 
-returns_4 : tie.NeedReturns4
+returns_4 : tie.Need-returns-4
 returns_4 c =
     let p = c.before.before in
     let e = p.before.before in

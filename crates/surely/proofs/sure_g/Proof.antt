@@ -4,14 +4,14 @@ use borrow.Author.Rules.{rules}
 use Rattle.surely.proofs.sure_g.Statement.{statement}
 use Rattle.surely.proofs.sure_g.Tie as tie
 
-returns : tie.NeedReturns
+returns : tie.Need-returns
 returns c =
     let p = c.before.before in
     let e = p.before.before in
     let end = simp (read e.before.before.ranges.offset) at e.g-of-place.ensures in
     simp (c.lay-one-g.ensures, e.before.chosen-exon.ensures, ← end, p.g.given.1)
 
-returns_2 : tie.NeedReturns2
+returns_2 : tie.Need-returns-2
 returns_2 c =
     let p = c.before.before in
     let e = p.before.before in

@@ -4,14 +4,14 @@ use borrow.Author.Rules.{rules}
 use Rattle.surely.proofs.sure_n.Statement.{statement}
 use Rattle.surely.proofs.sure_n.Tie as tie
 
-returns : tie.NeedReturns
+returns : tie.Need-returns
 returns c =
     let n = c.before in
     let t = n.before in
     let l = t.before in
     simp (c.laid-n.ensures, l.before.found-exon.ensures, ← l.last.ensures, t.if1.true, n.n-of-spot.ensures)
 
-returns_2 : tie.NeedReturns2
+returns_2 : tie.Need-returns-2
 returns_2 c =
     let n = c.before in
     let t = n.before in

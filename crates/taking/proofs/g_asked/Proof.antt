@@ -5,7 +5,7 @@ use Rattle.taking.specs.Taking.{g_asked}
 use Rattle.taking.proofs.g_asked.Statement.{statement}
 use Rattle.taking.proofs.g_asked.Tie as tie
 
-returns : tie.NeedReturns
+returns : tie.Need-returns
 unfolding g_asked
 returns c =
     let a = c.before.before in

@@ -3,10 +3,10 @@ use Rattle.whole.specs.laws.Whole.{read}
 use Rattle.taking.proofs.g_end.Statement.{statement}
 use Rattle.taking.proofs.g_end.Tie as tie
 
-returns : tie.NeedReturns
+returns : tie.Need-returns
 returns c = rw c.if1.true
 
-returns_2 : tie.NeedReturns2
+returns_2 : tie.Need-returns-2
 returns_2 c = rw (c.if1.false, read c.before.ranges.z)
 
 pub g_end_spec : {M : Type 1} → statement M

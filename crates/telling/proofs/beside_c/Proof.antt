@@ -3,7 +3,7 @@ use borrow.Author.Rules.{rules}
 use Rattle.telling.proofs.beside_c.Statement.{statement}
 use Rattle.telling.proofs.beside_c.Tie as tie
 
-returns : tie.NeedReturns
+returns : tie.Need-returns
 returns c =
     let n = c.before in
     simp (n.before.last.ensures, n.beside-n.ensures) at c.then-n-to-c.ensures

@@ -7,7 +7,7 @@ use borrow.Author.Rules.{rules}
 use Rattle.telling.proofs.interval_c.Statement.{statement}
 use Rattle.telling.proofs.interval_c.Tie as tie
 
-returns : tie.NeedReturns
+returns : tie.Need-returns
 returns c =
     let t = c.before in
     let n = t.before in
@@ -18,7 +18,7 @@ returns c =
     let to = told w32 g.0.1.0 e.known-told.given.1.0.1 in
     rw g.1 (c.lay-c.ensures ∙ ap (laid c_laid) (simp (l.last.ensures, simp (from, to) at n.to-n.ensures) at t.then-n-to-c.ensures))
 
-returns_2 : tie.NeedReturns2
+returns_2 : tie.Need-returns-2
 returns_2 c = rw c.before.enum_told.given.1 c.refusal-of.ensures
 
 pub interval_c_spec : {M : Type 1} → statement M

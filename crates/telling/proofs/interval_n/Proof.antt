@@ -7,7 +7,7 @@ use borrow.Author.Rules.{rules}
 use Rattle.telling.proofs.interval_n.Statement.{statement}
 use Rattle.telling.proofs.interval_n.Tie as tie
 
-returns : tie.NeedReturns
+returns : tie.Need-returns
 returns c =
     let t = c.before in
     let e = t.before in
@@ -16,7 +16,7 @@ returns c =
     let to = told w32 g.0.1.0 e.known-told.given.1.0.1 in
     rw g.1 (c.lay-n.ensures ∙ ap (laid n_laid) (simp (from, to) at t.to-n.ensures))
 
-returns_2 : tie.NeedReturns2
+returns_2 : tie.Need-returns-2
 returns_2 c = rw c.before.enum_told.given.1 c.refusal-of.ensures
 
 pub interval_n_spec : {M : Type 1} → statement M

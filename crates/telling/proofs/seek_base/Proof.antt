@@ -25,7 +25,7 @@ as_base : (a : Alignment) (starts : List ℕ) (ends : Outcome (Interval ℤ)) (p
 as_base a starts ends p b (code.TheVariants.Inside q number) (e, seen) = (rw e b, seen)
 as_base a starts ends p b code.TheVariants.Other h = tt
 
-returns : tie.NeedReturns
+returns : tie.Need-returns
 returns c =
     let l = c.before in
     let t = l.before in

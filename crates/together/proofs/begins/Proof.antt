@@ -4,7 +4,7 @@ use Rattle.together.specs.Ends.{begin}
 use Rattle.together.proofs.begins.Statement.{statement}
 use Rattle.together.proofs.begins.Tie as tie
 
-returns : tie.NeedReturns
+returns : tie.Need-returns
 unfolding begin
 returns c = search rules
 

@@ -12,21 +12,21 @@ use Rattle.stepping.specs.laws.OneStep.{within_none}
 use Rattle.together.proofs.ends_in.Statement.{statement}
 use Rattle.together.proofs.ends_in.Tie as tie
 
-abbrev invariant_loop : tie.invariant_loop
+abbrev invariant_loop : tie.invariant-loop
 invariant_loop genome transcript first to bits₀ i₀ bits i = (first ≤ i) × (i ≤ to) × ((k : ℕ) → within k bits ≡ all_below (from first (ends_within_at k genome transcript)) i)
 
-abbrev decreases_loop : tie.decreases_loop
+abbrev decreases_loop : tie.decreases-loop
 decreases_loop genome transcript first to bits₀ i₀ bits i = to - i
 
-loop_holds : tie.NeedLoopInit invariant_loop decreases_loop
+loop_holds : tie.Need-loop-init invariant_loop decreases_loop
 loop_holds c = (search rules, search rules, λ k. within_none k ∙ from_none _ _)
 
-loop_again : tie.NeedLoopPreserved invariant_loop decreases_loop
+loop_again : tie.Need-loop-preserved invariant_loop decreases_loop
 loop_again c =
     let kept = c.before.before.before.before.before.loop.invariant in
     (search rules, search rules, λ k. c.with-bits2.ensures k ∙ from_more _ _ _ kept.0 (kept.2 k) (c.before.with-bits.ensures k))
 
-returns : tie.NeedReturns invariant_loop decreases_loop
+returns : tie.Need-returns invariant_loop decreases_loop
 returns c = λ k. all_done _ _ _ (c.before.loop.invariant.2 k) c.before.loop.invariant.1 c.loop-test.false
 
 pub ends_in_spec : {M : Type 1} → statement M

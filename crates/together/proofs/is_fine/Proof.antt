@@ -11,11 +11,11 @@ and_true : (b : Bool) → b ≡ (b && true)
 and_true true = refl
 and_true false = refl
 
-returns : tie.NeedReturns
+returns : tie.Need-returns
 unfolding within
 returns c = rw (lt-ltb c.before.args.seen.bits 2097152 c.if1.true) (and_true _)
 
-returns_2 : tie.NeedReturns2
+returns_2 : tie.Need-returns-2
 unfolding within
 returns_2 c =
     let at_ends = c.before in

@@ -14,7 +14,7 @@ fine true true f₁ f₂ e h = rw e (h e)
 fine true false f₁ f₂ e h = rw e
 fine false same f₁ f₂ e h = rw e
 
-returns : tie.NeedReturns
+returns : tie.Need-returns
 returns c =
     let at_shown = c.before.before in
     let start = at_shown.before in

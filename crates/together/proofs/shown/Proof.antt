@@ -16,10 +16,10 @@ commons : (c : tie.Then1) → let a = c.before.before.args in
     (leb 8 a.count ≡ true) × (all_below (common_at a.letters.now) a.count ≡ true)
 commons c = both _ _ (sym c.before.all-common.ensures ∙ c.if1.true)
 
-common_steps_requires : tie.NeedCommonStepsRequires
+common_steps_requires : tie.Need-common-steps-requires
 common_steps_requires c κs = (leb-true 8 _ (commons c).0, search rules)
 
-returns : tie.NeedReturns
+returns : tie.Need-returns
 returns c =
     let start = c.before.before.before.args in
     let a = tables start.genome.now start.transcript.now start.letters.now in
@@ -29,7 +29,7 @@ returns c =
       λ e k. shows.1 k ∙ common_withins a start.count all k (sym shows.0 ∙ e),
     )
 
-returns_2 : tie.NeedReturns2
+returns_2 : tie.Need-returns-2
 returns_2 c =
     let shows = c.before.steps.ensures in
     (ap₂ ◌&&◌ c.before.before.all_Known.ensures shows.0, λ e k. shows.1 k)

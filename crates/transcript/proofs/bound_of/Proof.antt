@@ -4,7 +4,7 @@ use borrow.Author.Rules.{rules}
 use Rattle.transcript.proofs.bound_of.Statement.{statement}
 use Rattle.transcript.proofs.bound_of.Tie as tie
 
-returns : tie.NeedReturns
+returns : tie.Need-returns
 returns c = rw (c.if1.true, read c.before.ranges.number)
 
 pub bound_of_spec : {M : Type 1} → statement M

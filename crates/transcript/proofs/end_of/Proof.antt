@@ -4,7 +4,7 @@ use borrow.Author.Rules.{rules}
 use Rattle.transcript.proofs.end_of.Statement.{statement}
 use Rattle.transcript.proofs.end_of.Tie as tie
 
-returns : tie.NeedReturns
+returns : tie.Need-returns
 returns c = rw (read c.before.ranges.number) at c.bound_of.ensures
 
 pub end_of_spec : {M : Type 1} → statement M

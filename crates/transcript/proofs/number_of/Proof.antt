@@ -5,10 +5,10 @@ use borrow.Author.Rules.{rules}
 use Rattle.transcript.proofs.number_of.Statement.{statement}
 use Rattle.transcript.proofs.number_of.Tie as tie
 
-returns : tie.NeedReturns
+returns : tie.Need-returns
 returns c = rw c.before.bound.given.1 (told w32 _ c.known-told.given.0.1)
 
-returns_2 : tie.NeedReturns2
+returns_2 : tie.Need-returns-2
 returns_2 c = rw c.enum_told.given.1
 
 pub number_of_spec : {M : Type 1} → statement M

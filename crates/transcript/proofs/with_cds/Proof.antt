@@ -7,7 +7,7 @@ use borrow.Author.Rules.{rules}
 use Rattle.transcript.proofs.with_cds.Statement.{statement}
 use Rattle.transcript.proofs.with_cds.Tie as tie
 
-returns : tie.NeedReturns
+returns : tie.Need-returns
 returns c =
     let s = c.before.before.before.before in
     rw (

@@ -16,27 +16,27 @@ letter_left b l m d i n e =
     eqb-true b letter_x
     (rw (ne_eqb b letter_equal e, ne_eqb b letter_d d, ne_eqb b letter_i i, ne_eqb b letter_m m, ne_eqb b letter_n n) at l)
 
-returns : tie.NeedReturns
+returns : tie.Need-returns
 unfolding code_of
 returns c = rw c.match.keys1 (refl, omega arith)
 
-returns_2 : tie.NeedReturns2
+returns_2 : tie.Need-returns-2
 unfolding code_of
 returns_2 c = rw c.match.keys2 (refl, omega arith)
 
-returns_3 : tie.NeedReturns3
+returns_3 : tie.Need-returns-3
 unfolding code_of
 returns_3 c = rw c.match.keys3 (refl, omega arith)
 
-returns_4 : tie.NeedReturns4
+returns_4 : tie.Need-returns-4
 unfolding code_of
 returns_4 c = rw c.match.keys4 (refl, omega arith)
 
-returns_5 : tie.NeedReturns5
+returns_5 : tie.Need-returns-5
 unfolding code_of
 returns_5 c = rw c.match.keys5 (refl, omega arith)
 
-returns_6 : tie.NeedReturns6
+returns_6 : tie.Need-returns-6
 unfolding code_of
 returns_6 c =
     let n = c.match.rest in

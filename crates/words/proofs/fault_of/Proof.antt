@@ -12,7 +12,7 @@ use borrow.Author.Rules.{rules}
 use Rattle.words.proofs.fault_of.Statement.{statement}
 use Rattle.words.proofs.fault_of.Tie as tie
 
-returns : tie.NeedReturns
+returns : tie.Need-returns
 unfolding fault_of
 returns c =
     let s = c.before.before.before in
@@ -20,7 +20,7 @@ returns c =
     let b : lt_z s.args.count (pos 0) ≡ true = rw (read s.ranges.count) at c.if2.true in
     rw (l, b)
 
-returns_2 : tie.NeedReturns2
+returns_2 : tie.Need-returns-2
 unfolding fault_of
 returns_2 c =
     let s = c.before.before.before.before in
@@ -29,7 +29,7 @@ returns_2 c =
     let m : lt_z (pos most_word_count) s.args.count ≡ true = rw (read s.ranges.count) at c.if3.true in
     rw (l, b, m)
 
-returns_3 : tie.NeedReturns3
+returns_3 : tie.Need-returns-3
 unfolding fault_of
 returns_3 c =
     let s = c.before.before.before.before in
@@ -38,7 +38,7 @@ returns_3 c =
     let m : lt_z (pos most_word_count) s.args.count ≡ false = rw (read s.ranges.count) at c.if3.false in
     rw (l, b, m)
 
-returns_4 : tie.NeedReturns4
+returns_4 : tie.Need-returns-4
 returns_4 c =
     let a = c.before.before.args in
     sym (fault_letter a.count a.letter (sym c.before.is-letter.ensures ∙ c.if1.false))

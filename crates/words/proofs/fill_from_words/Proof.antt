@@ -17,7 +17,7 @@ use borrow.Author.Rules.{rules}
 use Rattle.words.proofs.fill_from_words.Statement.{statement}
 use Rattle.words.proofs.fill_from_words.Tie as tie
 
-abbrev invariant_loop : tie.invariant_loop
+abbrev invariant_loop : tie.invariant-loop
 invariant_loop words counts₀ letters₀ i₀ counts letters i =
     (i ≤ length words) × (length counts ≡ length counts₀) × (length letters ≡ length letters₀)
     × Filled counts letters
@@ -25,19 +25,19 @@ invariant_loop words counts₀ letters₀ i₀ counts letters i =
     (sets letters₀ 0 (letters_of (map element_of_word words)))
     i (map element_of_word (drop i words))
 
-abbrev decreases_loop : tie.decreases_loop
+abbrev decreases_loop : tie.decreases-loop
 decreases_loop words counts₀ letters₀ i₀ counts letters i = length words - i
 
-loop_holds : tie.NeedLoopInit invariant_loop decreases_loop
+loop_holds : tie.Need-loop-init invariant_loop decreases_loop
 loop_holds c = (omega arith, refl, refl, record { counts_is = refl; letters_is = refl })
 
-slice_set_from_count : tie.NeedSliceSetFromCount invariant_loop decreases_loop
+slice_set_from_count : tie.Need-slice-set-from-count invariant_loop decreases_loop
 slice_set_from_count c = let r = c.before.before.before.before.before.before.before.before.requires.counts_room in omega arith
 
-slice_write_letters : tie.NeedSliceWriteLetters invariant_loop decreases_loop
+slice_write_letters : tie.Need-slice-write-letters invariant_loop decreases_loop
 slice_write_letters c = let r = c.before.before.before.before.before.before.before.before.requires.letters_room in omega arith
 
-loop_again : tie.NeedLoopPreserved invariant_loop decreases_loop
+loop_again : tie.Need-loop-preserved invariant_loop decreases_loop
 loop_again c =
     let l = c.before.before.before.before.before.loop in
     let inside = c.before.before.before.before.loop-test.true in
@@ -53,13 +53,13 @@ loop_again c =
       fill_one (subst (Filled _ _ _ _ l.i) (elements_more words l.i inside) l.invariant.3),
     )
 
-same_length : tie.NeedSameLength invariant_loop decreases_loop
+same_length : tie.Need-same-length invariant_loop decreases_loop
 same_length c = c.before.loop.invariant.1
 
-same_length_2 : tie.NeedSameLength2 invariant_loop decreases_loop
+same_length_2 : tie.Need-same-length-2 invariant_loop decreases_loop
 same_length_2 c = c.before.loop.invariant.2
 
-returns : tie.NeedReturns invariant_loop decreases_loop
+returns : tie.Need-returns invariant_loop decreases_loop
 returns c =
     let a = c.before.before.before.before.args in
     let l = c.before.loop in

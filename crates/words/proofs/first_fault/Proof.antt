@@ -12,14 +12,14 @@ use borrow.Author.Rules.{rules}
 use Rattle.words.proofs.first_fault.Statement.{statement}
 use Rattle.words.proofs.first_fault.Tie as tie
 
-abbrev invariant_loop : tie.invariant_loop
+abbrev invariant_loop : tie.invariant-loop
 invariant_loop number counts letters i₀ i = (i ≤ number) × (fault_from counts letters 0 number ≡ fault_from counts letters i (number - i))
 
-abbrev decreases_loop : tie.decreases_loop
+abbrev decreases_loop : tie.decreases-loop
 decreases_loop number counts letters i₀ i = number - i
 
 -- the element at the place, and its refusal
-module _ (c : tie.AfterFaultOf invariant_loop decreases_loop) where
+module _ (c : tie.After-fault-of invariant_loop decreases_loop) where
   abbrev start : tie.Start invariant_loop decreases_loop
   start = c.before.before.before.before.before.before
 
@@ -38,20 +38,20 @@ module _ (c : tie.AfterFaultOf invariant_loop decreases_loop) where
       ≡ fault_from start.args.counts.now start.args.letters.now place (start.args.number - place)
   left = c.before.before.before.before.loop.invariant.1
 
-loop_holds : tie.NeedLoopInit invariant_loop decreases_loop
+loop_holds : tie.Need-loop-init invariant_loop decreases_loop
 loop_holds c = let a = c.before.args in (omega arith, ap (fault_from a.counts.now a.letters.now 0) {x = a.number} {y = a.number - 0} (omega arith))
 
-loop_again : tie.NeedLoopPreserved invariant_loop decreases_loop
+loop_again : tie.Need-loop-preserved invariant_loop decreases_loop
 loop_again c =
     let e = c.before in
     (omega arith, left e ∙ fault_more _ _ _ (place e) (inside e) (sym (judged e) ∙ c.if1.true))
 
-returns : tie.NeedReturns invariant_loop decreases_loop
+returns : tie.Need-returns invariant_loop decreases_loop
 returns c =
     let e = c.before in
     judged e ∙ sym (left e ∙ fault_here _ _ _ (place e) (inside e) (λ z. c.if1.false (judged e ∙ z)))
 
-returns_2 : tie.NeedReturns2 invariant_loop decreases_loop
+returns_2 : tie.Need-returns-2 invariant_loop decreases_loop
 returns_2 c =
     let a = c.before.before.before.args in
     let l = c.before.loop in

@@ -5,7 +5,7 @@ use borrow.Author.Rules.{rules}
 use Rattle.words.proofs.is_known.Statement.{statement}
 use Rattle.words.proofs.is_known.Tie as tie
 
-returns : tie.NeedReturns
+returns : tie.Need-returns
 returns c = c.is-letter.ensures ∙ ap is_letter c.before.letter-in.ensures
 
 pub is_known_spec : {M : Type 1} → statement M

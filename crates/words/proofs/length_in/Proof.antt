@@ -9,10 +9,10 @@ use Rattle.words.specs.Words.{length_in}
 use Rattle.words.proofs.length_in.Statement.{statement}
 use Rattle.words.proofs.length_in.Tie as tie
 
-signed_requires : tie.NeedSignedRequires
+signed_requires : tie.Need-signed-requires
 signed_requires c κs = omega arith
 
-returns : tie.NeedReturns
+returns : tie.Need-returns
 returns c = (ap (λ (z : ℤ). to_z w32 (of_z w32 z)) c.signed.ensures ∙ to_z_pos w32 (length_in c.before.args.word) (omega arith), omega arith)
 
 pub length_in_spec : {M : Type 1} → statement M

@@ -5,11 +5,11 @@ use borrow.Author.Rules.{rules}
 use Rattle.words.proofs.letter_in.Statement.{statement}
 use Rattle.words.proofs.letter_in.Tie as tie
 
-returns : tie.NeedReturns
+returns : tie.Need-returns
 unfolding letter_of
 returns c = get_or-map exchanged bam_letters (code_in c.before.before.before.args.word) 0
 
-returns_2 : tie.NeedReturns2
+returns_2 : tie.Need-returns-2
 unfolding letter_of
 returns_2 c = rw (get_or-eq_default bam_letters 0 {n = code_in c.before.before.args.word} c.if1.false)
 

@@ -16,16 +16,16 @@ use borrow.Author.Rules.{rules}
 use Rattle.words.proofs.put_words.Statement.{statement}
 use Rattle.words.proofs.put_words.Tie as tie
 
-abbrev invariant_loop : tie.invariant_loop
+abbrev invariant_loop : tie.invariant-loop
 invariant_loop number counts letters words₀ i₀ words i =
     (i ≤ number) × (length words ≡ length words₀) × (fault_from counts letters i (number - i) ≡ 0)
     × (sets words i (map word_of (elements_at counts letters i (number - i))) ≡ sets words₀ 0 (map word_of (elements_at counts letters 0 number)))
 
-abbrev decreases_loop : tie.decreases_loop
+abbrev decreases_loop : tie.decreases-loop
 decreases_loop number counts letters words₀ i₀ words i = number - i
 
 -- the element at the place
-module _ (c : tie.InLoop invariant_loop decreases_loop) where
+module _ (c : tie.In-loop invariant_loop decreases_loop) where
   abbrev start : tie.Start invariant_loop decreases_loop
   start = c.before.before.before.before
 
@@ -41,19 +41,19 @@ module _ (c : tie.InLoop invariant_loop decreases_loop) where
   here : (fault_of count letter ≡ 0) × (fault_from start.args.counts.now start.args.letters.now (place + 1) (start.args.number - (place + 1)) ≡ 0)
   here = fault_left start.args.counts.now start.args.letters.now start.args.number place c.loop-test.true c.before.loop.invariant.2
 
-loop_holds : tie.NeedLoopInit invariant_loop decreases_loop
+loop_holds : tie.Need-loop-init invariant_loop decreases_loop
 loop_holds c =
     let s = c.before.before in
     let all : s.args.number - 0 ≡ s.args.number = omega arith in
     rw all (omega arith, refl, s.requires.1.0, refl)
 
-word_of_requires : tie.NeedWordOfRequires invariant_loop decreases_loop
+word_of_requires : tie.Need-word-of-requires invariant_loop decreases_loop
 word_of_requires c κs = let n = c.before.before in rw (told w32 (count n) c.before.word-of-arg.given) (here n).0
 
-slice_write_words : tie.NeedSliceWriteWords invariant_loop decreases_loop
+slice_write_words : tie.Need-slice-write-words invariant_loop decreases_loop
 slice_write_words c = let r = c.before.before.before.before.before.before.before.requires.1.1 in omega arith
 
-loop_again : tie.NeedLoopPreserved invariant_loop decreases_loop
+loop_again : tie.Need-loop-preserved invariant_loop decreases_loop
 loop_again c =
     let n = c.before.before.before in
     let l = n.before.loop in
@@ -66,10 +66,10 @@ loop_again c =
       rw (word, add-one l.i) (rw (words_more a.counts.now a.letters.now a.number l.i n.loop-test.true, add-one l.i) at l.invariant.3),
     )
 
-same_length : tie.NeedSameLength invariant_loop decreases_loop
+same_length : tie.Need-same-length invariant_loop decreases_loop
 same_length c = c.before.loop.invariant.1
 
-returns : tie.NeedReturns invariant_loop decreases_loop
+returns : tie.Need-returns invariant_loop decreases_loop
 returns c =
     let a = c.before.before.before.before.args in
     let l = c.before.loop in

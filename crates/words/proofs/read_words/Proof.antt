@@ -16,7 +16,7 @@ use Rattle.words.proofs.read_words.Statement.{statement}
 use Rattle.words.proofs.read_words.Tie as tie
 
 -- what was handed in, where the words were judged
-module _ (c : tie.AfterAllKnown) where
+module _ (c : tie.After-all-known) where
   abbrev words : List ℕ
   words = c.before.before.before.args.words.now
 
@@ -29,22 +29,22 @@ module _ (c : tie.AfterAllKnown) where
 known : (c : tie.Then1) → all_known (words c.before) ≡ true
 known c = sym c.before.all_Known.ensures ∙ c.if1.true
 
-returns : tie.NeedReturns
+returns : tie.Need-returns
 returns c =
     let a = c.before.before in
     rw (many_read (words a) (length (counts a)) (length (letters a)) (known c.before) c.if2.true) (refl, (refl, refl))
 
-returns_2 : tie.NeedReturns2
+returns_2 : tie.Need-returns-2
 returns_2 c =
     let a = c.before.before.before in
     rw (counts_full (words a) (length (counts a)) (length (letters a)) (known c.before.before) c.before.if2.false c.if3.true) (refl, (refl, refl))
 
-returns_3 : tie.NeedReturns3
+returns_3 : tie.Need-returns-3
 returns_3 c =
     let a = c.before.before.before.before in
     rw (letters_full (words a) (length (counts a)) (length (letters a)) (known c.before.before.before) c.before.before.if2.false c.before.if3.false c.if4.true) (refl, (refl, refl))
 
-returns_4 : tie.NeedReturns4
+returns_4 : tie.Need-returns-4
 returns_4 c =
     let e = c.before.before.before.before.before.before in
     let a = e.before.before.before.before in
@@ -59,7 +59,7 @@ returns_4 c =
       ),
     )
 
-returns_5 : tie.NeedReturns5
+returns_5 : tie.Need-returns-5
 returns_5 c =
     let a = c.before in
     rw (unknown_read (words a) (length (counts a)) (length (letters a)) (sym a.all_Known.ensures ∙ c.if1.false)) (refl, (refl, refl))

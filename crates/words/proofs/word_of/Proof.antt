@@ -14,26 +14,26 @@ use Rattle.words.proofs.word_of.Tie as tie
 held : (c : tie.Start) → Held c.args.count c.args.letter
 held c = fault_none c.args.count c.args.letter c.requires
 
-unsigned_requires : tie.NeedUnsignedRequires
+unsigned_requires : tie.Need-unsigned-requires
 unsigned_requires c κs = rw (read c.ranges.count) (held c).whole
 
-code_of_requires : tie.NeedCodeOfRequires
+code_of_requires : tie.Need-code-of-requires
 code_of_requires c κs = (held c.before).wordable.lettered
 
 -- the length that the word gets
-length_is : (c : tie.AfterCodeOf) → c.before.unsigned.result ≡ nat_abs c.before.before.args.count
+length_is : (c : tie.After-code-of) → c.before.unsigned.result ≡ nat_abs c.before.before.args.count
 length_is c = c.before.unsigned.ensures ∙ ap nat_abs (read c.before.before.ranges.count)
 
-short : (c : tie.AfterCodeOf) → c.before.unsigned.result ≤ most_word_count
+short : (c : tie.After-code-of) → c.before.unsigned.result ≤ most_word_count
 short c = subst (λ (n : ℕ). n ≤ most_word_count) (sym (length_is c)) (held c.before.before).wordable.small
 
-mul_result : tie.NeedOverflowMulResult
+mul_result : tie.Need-overflow-mul-result
 mul_result c = let s = short c in omega arith
 
-add_result : tie.NeedOverflowAddResult
+add_result : tie.Need-overflow-add-result
 add_result c = let s = short c in omega arith
 
-returns : tie.NeedReturns
+returns : tie.Need-returns
 returns c = ap₂ (λ (n k : ℕ). n * codes_of_word + k) (length_is c) c.code_of_lem.ensures.0
 
 pub word_of_spec : {M : Type 1} → statement M

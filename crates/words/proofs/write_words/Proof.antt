@@ -16,7 +16,7 @@ use Rattle.words.proofs.write_words.Statement.{statement}
 use Rattle.words.proofs.write_words.Tie as tie
 
 -- what was handed in, where the elements were judged, and their first refusal
-module _ (c : tie.AfterFirstFault) where
+module _ (c : tie.After-first-fault) where
   abbrev number : ℕ
   number = c.before.before.before.before.before.args.number
 
@@ -35,24 +35,24 @@ module _ (c : tie.AfterFirstFault) where
 none : (c : tie.Then1) → fault_from (counts c.before) (letters c.before) 0 (min (number c.before) most_segments) ≡ 0
 none c = sym (judged c.before) ∙ c.if1.true
 
-returns : tie.NeedReturns
+returns : tie.Need-returns
 returns c =
     let a = c.before.before in
     rw (many_words (number a) (counts a) (letters a) (length (words a)) (none c.before) c.if2.true) (refl, refl)
 
-returns_2 : tie.NeedReturns2
+returns_2 : tie.Need-returns-2
 returns_2 c =
     let a = c.before.before.before in
     rw (full_words (number a) (counts a) (letters a) (length (words a)) (none c.before.before) c.before.if2.false c.if3.true) (refl, refl)
 
-put_words_requires : tie.NeedPutWordsRequires
+put_words_requires : tie.Need-put-words-requires
 put_words_requires c κs =
     let e = c.before.before.before in
     let a = e.before.before.before in
     let few = e.before.if2.false in
     ((record { counts_long = omega arith; letters_long = omega arith }, few), (all_held (number a) (counts a) (letters a) (length (words a)) (none e.before.before) few, e.if3.false))
 
-returns_3 : tie.NeedReturns3
+returns_3 : tie.Need-returns-3
 returns_3 c =
     let e = c.before.before.before.before.before.before in
     let a = e.before.before.before in
@@ -61,7 +61,7 @@ returns_3 c =
     rw (all_written (number a) (counts a) (letters a) (length (words a)) (none e.before.before) e.before.if2.false e.if3.false)
     (ap counted.Count (sym long), c.before.before.put-words.ensures ∙ sets_front (map word_of es) (words a) (rw long e.if3.false))
 
-returns_4 : tie.NeedReturns4
+returns_4 : tie.Need-returns-4
 returns_4 c =
     let a = c.before in
     rw (fault_written (number a) (counts a) (letters a) (length (words a)) (λ z. c.if1.false (judged a ∙ z))) (ap counted.Refused (judged a), refl)

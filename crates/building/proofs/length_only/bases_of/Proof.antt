@@ -5,12 +5,12 @@ use Rattle.whole.specs.laws.Machine.{cast_asks}
 use Rattle.building.proofs.length_only.bases_of.Statement.{statement}
 use Rattle.building.proofs.length_only.bases_of.Tie as tie
 
-cast_result : tie.NeedOverflowCastResult
+cast_result : tie.Need-overflow-cast-result
 cast_result c =
     let (positive, small) = cast_asks c.args.length c.ranges.length (omega order) in
     simp (read c.ranges.length) (positive, omega (arith, small.fits))
 
-returns : tie.NeedReturns
+returns : tie.Need-returns
 returns c = simp (read c.ranges.length)
 
 pub bases_of_spec : {M : Type 1} → statement M

@@ -16,23 +16,23 @@ use borrow.Author.Rules.{rules}
 use Rattle.building.proofs.length_only.build_length.Statement.{statement}
 use Rattle.building.proofs.length_only.build_length.Tie as tie
 
-returns : tie.NeedReturns
+returns : tie.Need-returns
 returns c = let a = c.before.args in sym (ap length_answer (bits_unknown a.length a.cds a.start a.end c.if1.true))
 
-cast_length_fault : tie.NeedOverflowCastLengthFault
+cast_length_fault : tie.Need-overflow-cast-length-fault
 cast_length_fault c = let f = c.before.ranges.length in rw (read f) (fits_wider f)
 
 -- what 4 and 9 said of the length
-of_length : (c : tie.AfterLengthFault) → c.length-fault.result ≡ length_fault c.before.before.args.length
+of_length : (c : tie.After-length-fault) → c.length-fault.result ≡ length_fault c.before.before.args.length
 of_length c = rw (widened c.before.before.ranges.length) at c.length-fault.ensures
 
-returns_2 : tie.NeedReturns2
+returns_2 : tie.Need-returns-2
 returns_2 c =
     let a = c.before.before.before.args in
     sym (ap length_answer (length_refused a.length a.cds a.start a.end c.before.before.if1.false (of_length c.before) c.if2.true))
 
 -- what 11 said of the bounds
-module _ (c : tie.AfterHalfFault) where
+module _ (c : tie.After-half-fault) where
   abbrev begin : tie.Start
   begin = c.before.before.before.before.before.before
 
@@ -45,18 +45,18 @@ module _ (c : tie.AfterHalfFault) where
   of_bounds : c.half-fault.result ≡ half_fault (start_of begin.args.cds begin.args.start) (end_of begin.args.cds begin.args.end)
   of_bounds = rw (c.before.before.start_of_lem.ensures, c.before.end_of_lem.ensures, read begin.fits.start, read begin.fits.end) at c.half-fault.ensures
 
-returns_3 : tie.NeedReturns3
+returns_3 : tie.Need-returns-3
 returns_3 c =
     let k = c.before in
     let a = (begin k).args in
     sym (ap length_answer (half_refused a.length a.cds a.start a.end k.before.before.before.before.before.if1.false (long k) (of_bounds k) c.if3.true))
 
-bases_of_requires : tie.NeedBasesOfRequires
+bases_of_requires : tie.Need-bases-of-requires
 bases_of_requires c κs =
     let k = c.before in
     rw (read (begin k).ranges.length) (whole k).0
 
-cds_fault_requires : tie.NeedCdsFaultRequires
+cds_fault_requires : tie.Need-cds-fault-requires
 cds_fault_requires c κs =
     let k = c.before.before in
     rw (rw (read (begin k).ranges.length) at c.bases-of.ensures) (whole k).1
@@ -65,8 +65,8 @@ cds_fault_requires c κs =
 same_fault : {s s' e e' : Bound} {n n' : ℕ} → s ≡ s' → e ≡ e' → n ≡ n' → cds_fault s e n ≡ cds_fault s' e' n'
 same_fault p q r = rw (p, q, r)
 
-module _ (c : tie.AfterCdsFault) where
-  abbrev halves : tie.AfterHalfFault
+module _ (c : tie.After-cds-fault) where
+  abbrev halves : tie.After-half-fault
   halves = c.before.before.before
 
   half : let a = (begin halves).args in half_fault (start_of a.cds a.start) (end_of a.cds a.end) ≡ 0
@@ -81,16 +81,16 @@ module _ (c : tie.AfterCdsFault) where
       (rw (read f.end) at halves.before.end_of_lem.ensures)
       (rw (read f.length) at c.before.bases-of.ensures)
 
-returns_4 : tie.NeedReturns4
+returns_4 : tie.Need-returns-4
 returns_4 c =
     let k = c.before in
     let a = (begin (halves k)).args in
     sym (ap length_answer (cds_refused a.length a.cds a.start a.end (halves k).before.before.before.before.before.if1.false (long (halves k)) (half k) (of_range k) c.if4.true))
 
-with_cds_requires : tie.NeedWithCdsRequires
+with_cds_requires : tie.Need-with-cds-requires
 with_cds_requires c κs = c.before.before.before.before.before.before.before.before.before.if1.false
 
-returns_5 : tie.NeedReturns5
+returns_5 : tie.Need-returns-5
 returns_5 c =
     let k = c.before.before in
     let h = halves k in

@@ -5,15 +5,15 @@ use borrow.Author.Rules.{rules}
 use Rattle.building.proofs.length_only.length_fault.Statement.{statement}
 use Rattle.building.proofs.length_only.length_fault.Tie as tie
 
-returns : tie.NeedReturns
+returns : tie.Need-returns
 unfolding length_fault
 returns c = search whole
 
-returns_2 : tie.NeedReturns2
+returns_2 : tie.Need-returns-2
 unfolding length_fault
 returns_2 c = search whole
 
-returns_3 : tie.NeedReturns3
+returns_3 : tie.Need-returns-3
 unfolding length_fault
 returns_3 c = search whole
 

@@ -7,19 +7,19 @@ use borrow.Author.Rules.{rules}
 use Rattle.comparing.proofs.answers.of_answer.Statement.{statement}
 use Rattle.comparing.proofs.answers.of_answer.Tie as tie
 
-cast_t6 : tie.NeedOverflowCastT6
+cast_t6 : tie.Need-overflow-cast-t6
 cast_t6 c = let z : SFits w32 c.before.before.before.before.before.before.args.a.start.base = record { sfits = c.struct_told.given.0.1 } in simp (read z) (fits_wider z)
 
-cast_t7 : tie.NeedOverflowCastT7
+cast_t7 : tie.Need-overflow-cast-t7
 cast_t7 c = let z : SFits w32 c.before.before.before.before.before.before.before.before.args.a.start.offset = record { sfits = c.struct-told2.given.1.0.1 } in simp (read z) (fits_wider z)
 
-cast_t10 : tie.NeedOverflowCastT10
+cast_t10 : tie.Need-overflow-cast-t10
 cast_t10 c = let z : SFits w32 c.before.before.before.before.before.before.before.before.before.before.before.before.args.a.end.base = record { sfits = c.struct-told3.given.0.1 } in simp (read z) (fits_wider z)
 
-cast_t11 : tie.NeedOverflowCastT11
+cast_t11 : tie.Need-overflow-cast-t11
 cast_t11 c = let z : SFits w32 c.before.before.before.before.before.before.before.before.before.before.before.before.before.before.args.a.end.offset = record { sfits = c.struct-told4.given.1.0.1 } in simp (read z) (fits_wider z)
 
-returns : tie.NeedReturns
+returns : tie.Need-returns
 returns c =
     let a = c.before.before.before.before.before.before.before.before.before.before.before.before.before.before.before.before.args.a in
     let number : Fits w32 a.number = search rules in

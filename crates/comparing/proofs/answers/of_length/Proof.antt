@@ -8,7 +8,7 @@ use borrow.Author.Rules.{rules}
 use Rattle.comparing.proofs.answers.of_length.Statement.{statement}
 use Rattle.comparing.proofs.answers.of_length.Tie as tie
 
-returns : tie.NeedReturns
+returns : tie.Need-returns
 returns c =
     let a = c.before.before.before.args.a in
     let number : Fits w32 a.number = search rules in

@@ -8,7 +8,7 @@ use borrow.Author.Rules.{rules}
 use Rattle.comparing.proofs.answers.of_part.Statement.{statement}
 use Rattle.comparing.proofs.answers.of_part.Tie as tie
 
-returns : tie.NeedReturns
+returns : tie.Need-returns
 returns c =
     let a = c.before.before.before.before.args.part in
     let alternative : Fits w32 a.alternative = search rules in

@@ -4,7 +4,7 @@ use borrow.Author.Rules.{rules}
 use Rattle.comparing.proofs.answers.of_refusal.Statement.{statement}
 use Rattle.comparing.proofs.answers.of_refusal.Tie as tie
 
-returns : tie.NeedReturns
+returns : tie.Need-returns
 returns c = simp (entry c.before.ranges.number) at c.of-numbers.ensures
 
 pub of_refusal_spec : {M : Type 1} → statement M

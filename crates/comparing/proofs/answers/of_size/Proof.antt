@@ -8,13 +8,13 @@ use borrow.Author.Rules.{rules}
 use Rattle.comparing.proofs.answers.of_size.Statement.{statement}
 use Rattle.comparing.proofs.answers.of_size.Tie as tie
 
-returns : tie.NeedReturns
+returns : tie.Need-returns
 returns c =
     let n = c.before.args.n in
     let least : min n 4294967296 ≡ n = omega arith in
     rw least (to_z_pos w64 n (omega arith))
 
-returns_2 : tie.NeedReturns2
+returns_2 : tie.Need-returns-2
 returns_2 c = let least : min c.before.args.n 4294967296 ≡ 4294967296 = omega arith in rw least
 
 pub of_size_spec : {M : Type 1} → statement M

@@ -5,7 +5,7 @@ use borrow.Author.Rules.{rules}
 use Rattle.comparing.proofs.buffers.byte_at.Statement.{statement}
 use Rattle.comparing.proofs.buffers.byte_at.Tie as tie
 
-returns_2 : tie.NeedReturns2
+returns_2 : tie.Need-returns-2
 returns_2 c = sym (get_or-eq_default c.before.args.s.now 0 c.if1.false)
 
 pub byte_at_spec : {M : Type 1} → statement M

@@ -11,19 +11,19 @@ use borrow.Author.Rules.{rules}
 use Rattle.comparing.proofs.buffers.holds.Statement.{statement}
 use Rattle.comparing.proofs.buffers.holds.Tie as tie
 
-abbrev invariant_loop : tie.invariant_loop
+abbrev invariant_loop : tie.invariant-loop
 invariant_loop buffer text same₀ i₀ same i = (i ≤ length buffer) × (same ≡ all_below (λ (k : ℕ). eqb (get_or buffer k 0) (get_or text k 0)) i)
 
-abbrev decreases_loop : tie.decreases_loop
+abbrev decreases_loop : tie.decreases-loop
 decreases_loop buffer text same₀ i₀ same i = length buffer - i
 
-loop_holds : tie.NeedLoopInit invariant_loop decreases_loop
+loop_holds : tie.Need-loop-init invariant_loop decreases_loop
 loop_holds c = (search rules, all_none _)
 
-loop_again : tie.NeedLoopPreserved invariant_loop decreases_loop
+loop_again : tie.Need-loop-preserved invariant_loop decreases_loop
 loop_again c = (search rules, all_more _ _ c.before.before.before.loop.invariant.1 (ap (eqb _) c.byte_at.ensures))
 
-returns : tie.NeedReturns invariant_loop decreases_loop
+returns : tie.Need-returns invariant_loop decreases_loop
 unfolding holds_text
 returns c =
     let a = c.before.before.before.before.args in

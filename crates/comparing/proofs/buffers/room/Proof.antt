@@ -6,7 +6,7 @@ use Rattle.comparing.specs.Sizes.{most_room}
 use Rattle.comparing.proofs.buffers.room.Statement.{statement}
 use Rattle.comparing.proofs.buffers.room.Tie as tie
 
-returns : tie.NeedReturns
+returns : tie.Need-returns
 returns c = (refl, sym (length-replicate {A = ℕ} most_room 0))
 
 pub room_spec : {M : Type 1} → statement M

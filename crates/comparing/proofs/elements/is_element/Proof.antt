@@ -9,7 +9,7 @@ use borrow.Author.Rules.{rules}
 use Rattle.comparing.proofs.elements.is_element.Statement.{statement}
 use Rattle.comparing.proofs.elements.is_element.Tie as tie
 
-returns : tie.NeedReturns
+returns : tie.Need-returns
 unfolding is_element
 returns c =
     let k = c.before.before in
@@ -19,7 +19,7 @@ returns c =
     ∙ same_32 {a = k.count_at.result} {b = a.args.count} (record { sfits = k.count_at.type-inv }) a.ranges.count c.before.if1.true in
     rw (e, c.letter_at.ensures)
 
-returns_2 : tie.NeedReturns2
+returns_2 : tie.Need-returns-2
 unfolding is_element
 returns_2 c =
     let k = c.before in

@@ -13,17 +13,17 @@ use borrow.Author.Rules.{rules}
 use Rattle.comparing.proofs.elements.put_elements.Statement.{statement}
 use Rattle.comparing.proofs.elements.put_elements.Tie as tie
 
-abbrev invariant_loop : tie.invariant_loop
+abbrev invariant_loop : tie.invariant-loop
 invariant_loop elements counts₀ letters₀ number i₀ counts letters i = (i ≤ laid_out elements) × (counts ≡ counts_put elements counts₀ i) × (letters ≡ letters_put elements letters₀ i) × (length counts ≡ length counts₀) × (length letters ≡ length letters₀)
 
-abbrev decreases_loop : tie.decreases_loop
+abbrev decreases_loop : tie.decreases-loop
 decreases_loop elements counts₀ letters₀ number i₀ counts letters i = laid_out elements - i
 
-loop_holds : tie.NeedLoopInit invariant_loop decreases_loop
+loop_holds : tie.Need-loop-init invariant_loop decreases_loop
 unfolding counts_put letters_put
 loop_holds c = (search rules, refl, refl, refl, refl)
 
-loop_again : tie.NeedLoopPreserved invariant_loop decreases_loop
+loop_again : tie.Need-loop-preserved invariant_loop decreases_loop
 unfolding counts_put letters_put
 loop_again c =
     let l = c.before.before.before.loop in (
@@ -34,7 +34,7 @@ loop_again c =
       simp length-set l.invariant.4,
     )
 
-returns : tie.NeedReturns invariant_loop decreases_loop
+returns : tie.Need-returns invariant_loop decreases_loop
 returns c =
     let a = c.before.before.before.before.args in
     let l = c.before.loop in

@@ -11,7 +11,7 @@ use borrow.Author.Rules.{rules}
 use Rattle.comparing.proofs.lent.damage.Statement.{statement}
 use Rattle.comparing.proofs.lent.damage.Tie as tie
 
-returns : tie.NeedReturns
+returns : tie.Need-returns
 unfolding head_damaged starts_damaged letters_damaged exons_damaged
 returns c =
     let d = c.before.before.before.before in
@@ -19,7 +19,7 @@ returns c =
     let e = sym d.before.before.size.ensures ∙ c.before.before.before.if1.true in
     rw e (simp (told w32 c.before.number.result c.before.number.type-inv ∙ c.before.number.ensures, d.before.size2.ensures) at c.put-signed.ensures, (refl, refl))
 
-returns_2 : tie.NeedReturns2
+returns_2 : tie.Need-returns-2
 unfolding head_damaged starts_damaged letters_damaged exons_damaged
 returns_2 c =
     let d = c.before.before.before.before in
@@ -27,7 +27,7 @@ returns_2 c =
     let e = sym d.before.before.size.ensures ∙ c.before.before.if2.true in
     rw e (refl, (ap (λ (g : List ℕ). tables g a.transcript.now a.letters.now) (simp (d.before.size2.ensures, d.bits.ensures) at c.put-start.ensures), refl))
 
-returns_3 : tie.NeedReturns3
+returns_3 : tie.Need-returns-3
 unfolding head_damaged starts_damaged letters_damaged exons_damaged
 returns_3 c =
     let d = c.before.before.before.before.before in
@@ -35,7 +35,7 @@ returns_3 c =
     let e = sym d.before.before.size.ensures ∙ c.before.before.if3.true in
     rw e (refl, (ap (λ (t : List ℕ). tables a.genome.now t a.letters.now) (simp (d.before.size2.ensures, d.bits.ensures) at c.put-start2.ensures), refl))
 
-returns_4 : tie.NeedReturns4
+returns_4 : tie.Need-returns-4
 unfolding head_damaged starts_damaged letters_damaged exons_damaged
 returns_4 c =
     let d = c.before.before.before.before.before.before in
@@ -43,14 +43,14 @@ returns_4 c =
     let e = sym d.before.before.size.ensures ∙ c.before.before.if4.true in
     rw e (refl, (ap (λ (l : List ℕ). tables a.genome.now a.transcript.now l) (simp (d.before.size2.ensures, d.bits.ensures) at c.put-letter.ensures), refl))
 
-returns_5 : tie.NeedReturns5
+returns_5 : tie.Need-returns-5
 unfolding head_damaged starts_damaged letters_damaged exons_damaged
 returns_5 c =
     let d = c.before.before.before.before.before.before.before in
     let e = sym d.before.before.size.ensures ∙ c.before.before.if5.true in
     rw e (refl, (refl, simp (d.before.size2.ensures, d.bits.ensures) at c.put-exon.ensures))
 
-returns_6 : tie.NeedReturns6
+returns_6 : tie.Need-returns-6
 unfolding head_damaged starts_damaged letters_damaged exons_damaged
 returns_6 c =
     let d = c.before.before.before.before.before in

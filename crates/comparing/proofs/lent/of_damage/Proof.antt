@@ -5,14 +5,14 @@ use borrow.Author.Rules.{rules}
 use Rattle.comparing.proofs.lent.of_damage.Statement.{statement}
 use Rattle.comparing.proofs.lent.of_damage.Tie as tie
 
-returns : tie.NeedReturns
+returns : tie.Need-returns
 unfolding damage_words
 returns c =
     let p = c.before.before in
     let places_is = simp p.before.size2.ensures at p.places.ensures in
     rw (← p.before.before.size.ensures, ← places_is, lt-ltb _ _ c.before.if1.true) c.of-refusal.ensures
 
-returns_2 : tie.NeedReturns2
+returns_2 : tie.Need-returns-2
 unfolding damage_words
 returns_2 c =
     let p = c.before.before in

@@ -5,7 +5,7 @@ use borrow.Author.Rules.{rules}
 use Rattle.comparing.proofs.lent.put_letter.Statement.{statement}
 use Rattle.comparing.proofs.lent.put_letter.Tie as tie
 
-returns : tie.NeedReturns
+returns : tie.Need-returns
 returns c = sym (set_out _ _ _ c.if1.true)
 
 pub put_letter_spec : {M : Type 1} → statement M

@@ -6,13 +6,13 @@ use borrow.Author.Rules.{rules}
 use Rattle.comparing.proofs.lent.put_signed.Statement.{statement}
 use Rattle.comparing.proofs.lent.put_signed.Tie as tie
 
-returns : tie.NeedReturns
+returns : tie.Need-returns
 returns c = sym (set_out _ _ _ c.if1.true)
 
-slice_set_from_z : tie.NeedSliceSetFromZ
+slice_set_from_z : tie.Need-slice-set-from-z
 slice_set_from_z c = c.if1.false
 
-returns_2 : tie.NeedReturns2
+returns_2 : tie.Need-returns-2
 returns_2 c = simp (read c.before.ranges.z)
 
 pub put_signed_spec : {M : Type 1} → statement M

@@ -5,11 +5,11 @@ use borrow.Author.Rules.{rules}
 use Rattle.comparing.proofs.lent.total.Statement.{statement}
 use Rattle.comparing.proofs.lent.total.Tie as tie
 
-returns : tie.NeedReturns
+returns : tie.Need-returns
 unfolding total_of
 returns c = rw (← c.before.answer.ensures, le-leb _ _ c.if1.true)
 
-returns_2 : tie.NeedReturns2
+returns_2 : tie.Need-returns-2
 unfolding total_of
 returns_2 c = rw (← c.before.before.answer.ensures, lt-leb _ _ c.before.if1.false)
 

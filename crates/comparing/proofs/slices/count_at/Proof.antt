@@ -7,11 +7,11 @@ use borrow.Author.Rules.{rules}
 use Rattle.comparing.proofs.slices.count_at.Statement.{statement}
 use Rattle.comparing.proofs.slices.count_at.Tie as tie
 
-returns : tie.NeedReturns
+returns : tie.Need-returns
 unfolding count_or
 returns c = rw (lt-ltb _ _ c.before.if1.true) (read (record { sfits = c.count_at.type-inv }) ∙ c.count_at.ensures)
 
-returns_2 : tie.NeedReturns2
+returns_2 : tie.Need-returns-2
 unfolding count_or
 returns_2 c = rw (le-ltb _ _ c.if1.false)
 

@@ -6,7 +6,7 @@ use Rattle.comparing.specs.Sizes.{most_words}
 use Rattle.comparing.proofs.slices.count_room.Statement.{statement}
 use Rattle.comparing.proofs.slices.count_room.Tie as tie
 
-returns : tie.NeedReturns
+returns : tie.Need-returns
 returns c = (refl, sym (length-replicate {A = ℤ} most_words (pos 0)))
 
 pub count_room_spec : {M : Type 1} → statement M

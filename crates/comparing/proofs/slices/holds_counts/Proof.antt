@@ -15,23 +15,23 @@ use borrow.Author.Rules.{rules}
 use Rattle.comparing.proofs.slices.holds_counts.Statement.{statement}
 use Rattle.comparing.proofs.slices.holds_counts.Tie as tie
 
-abbrev invariant_loop : tie.invariant_loop
+abbrev invariant_loop : tie.invariant-loop
 invariant_loop counts elements same₀ i₀ same i = (i ≤ length counts) × (same ≡ all_below (λ (k : ℕ). is_count elements k (get_or counts k (pos 0))) i)
 
-abbrev decreases_loop : tie.decreases_loop
+abbrev decreases_loop : tie.decreases-loop
 decreases_loop counts elements same₀ i₀ same i = length counts - i
 
-loop_holds : tie.NeedLoopInit invariant_loop decreases_loop
+loop_holds : tie.Need-loop-init invariant_loop decreases_loop
 loop_holds c = (search rules, all_none _)
 
-loop_again : tie.NeedLoopPreserved invariant_loop decreases_loop
+loop_again : tie.Need-loop-preserved invariant_loop decreases_loop
 loop_again c =
     let a = c.before.before.before.before.before.args in
     let l = c.before.before.before.loop in
     let count = told w32 (get_or a.counts.now l.i (pos 0)) c.before.is-count-arg.given in
     (search rules, all_more _ _ l.invariant.1 (c.is-count.ensures ∙ ap (is_count a.elements.now l.i) count))
 
-returns : tie.NeedReturns invariant_loop decreases_loop
+returns : tie.Need-returns invariant_loop decreases_loop
 unfolding holds_counts
 returns c =
     let a = c.before.before.before.args in

@@ -12,19 +12,19 @@ use borrow.Author.Rules.{rules}
 use Rattle.comparing.proofs.slices.holds_letters.Statement.{statement}
 use Rattle.comparing.proofs.slices.holds_letters.Tie as tie
 
-abbrev invariant_loop : tie.invariant_loop
+abbrev invariant_loop : tie.invariant-loop
 invariant_loop letters elements same₀ i₀ same i = (i ≤ length letters) × (same ≡ all_below (λ (k : ℕ). eqb (get_or letters k 0) (letter_or elements k)) i)
 
-abbrev decreases_loop : tie.decreases_loop
+abbrev decreases_loop : tie.decreases-loop
 decreases_loop letters elements same₀ i₀ same i = length letters - i
 
-loop_holds : tie.NeedLoopInit invariant_loop decreases_loop
+loop_holds : tie.Need-loop-init invariant_loop decreases_loop
 loop_holds c = (search rules, all_none _)
 
-loop_again : tie.NeedLoopPreserved invariant_loop decreases_loop
+loop_again : tie.Need-loop-preserved invariant_loop decreases_loop
 loop_again c = (search rules, all_more _ _ c.before.before.before.loop.invariant.1 (ap (eqb _) c.letter_at.ensures))
 
-returns : tie.NeedReturns invariant_loop decreases_loop
+returns : tie.Need-returns invariant_loop decreases_loop
 unfolding holds_letters
 returns c =
     let a = c.before.before.before.before.args in

@@ -11,19 +11,19 @@ use borrow.Author.Rules.{rules}
 use Rattle.comparing.proofs.slices.holds_words.Statement.{statement}
 use Rattle.comparing.proofs.slices.holds_words.Tie as tie
 
-abbrev invariant_loop : tie.invariant_loop
+abbrev invariant_loop : tie.invariant-loop
 invariant_loop words layout same₀ i₀ same i = (i ≤ length words) × (same ≡ all_below (λ (k : ℕ). eqb (get_or words k 0) (word_or layout k)) i)
 
-abbrev decreases_loop : tie.decreases_loop
+abbrev decreases_loop : tie.decreases-loop
 decreases_loop words layout same₀ i₀ same i = length words - i
 
-loop_holds : tie.NeedLoopInit invariant_loop decreases_loop
+loop_holds : tie.Need-loop-init invariant_loop decreases_loop
 loop_holds c = (search rules, all_none _)
 
-loop_again : tie.NeedLoopPreserved invariant_loop decreases_loop
+loop_again : tie.Need-loop-preserved invariant_loop decreases_loop
 loop_again c = (search rules, all_more _ _ c.before.before.before.loop.invariant.1 (ap (eqb _) c.word_at.ensures))
 
-returns : tie.NeedReturns invariant_loop decreases_loop
+returns : tie.Need-returns invariant_loop decreases_loop
 unfolding holds_words
 returns c =
     let a = c.before.before.before.before.args in

@@ -8,7 +8,7 @@ use borrow.Author.Rules.{rules}
 use Rattle.comparing.proofs.slices.is_count.Statement.{statement}
 use Rattle.comparing.proofs.slices.is_count.Tie as tie
 
-returns : tie.NeedReturns
+returns : tie.Need-returns
 unfolding is_count
 returns c =
     let k = c.before in
@@ -17,7 +17,7 @@ returns c =
     (ap (λ (z : ℤ). eq_z z a.args.count) (sym k.count_at.ensures)
     ∙ same_32 {a = k.count_at.result} {b = a.args.count} (record { sfits = k.count_at.type-inv }) a.ranges.count c.if1.true)
 
-returns_2 : tie.NeedReturns2
+returns_2 : tie.Need-returns-2
 unfolding is_count
 returns_2 c =
     let k = c.before in

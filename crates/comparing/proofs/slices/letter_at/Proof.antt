@@ -5,11 +5,11 @@ use borrow.Author.Rules.{rules}
 use Rattle.comparing.proofs.slices.letter_at.Statement.{statement}
 use Rattle.comparing.proofs.slices.letter_at.Tie as tie
 
-returns : tie.NeedReturns
+returns : tie.Need-returns
 unfolding letter_or
 returns c = rw (lt-ltb _ _ c.before.if1.true) c.letter_at.ensures
 
-returns_2 : tie.NeedReturns2
+returns_2 : tie.Need-returns-2
 unfolding letter_or
 returns_2 c = rw (le-ltb _ _ c.if1.false)
 

@@ -10,23 +10,23 @@ use borrow.Author.Rules.{rules}
 use Rattle.comparing.proofs.slices.put_words.Statement.{statement}
 use Rattle.comparing.proofs.slices.put_words.Tie as tie
 
-abbrev invariant_loop : tie.invariant_loop
+abbrev invariant_loop : tie.invariant-loop
 invariant_loop layout words₀ i₀ words i = (i ≤ length words₀) × (words ≡ words_put layout words₀ i) × (length words ≡ length words₀)
 
-abbrev decreases_loop : tie.decreases_loop
+abbrev decreases_loop : tie.decreases-loop
 decreases_loop layout words₀ i₀ words i = length words₀ - i
 
-loop_holds : tie.NeedLoopInit invariant_loop decreases_loop
+loop_holds : tie.Need-loop-init invariant_loop decreases_loop
 unfolding words_put
 loop_holds c = (search rules, refl, refl)
 
-loop_again : tie.NeedLoopPreserved invariant_loop decreases_loop
+loop_again : tie.Need-loop-preserved invariant_loop decreases_loop
 unfolding words_put
 loop_again c =
     let l = c.before.before.loop in
     (search rules, rw add-one (ap₂ (λ (t : List ℕ) (w : ℕ). set t l.i w) l.invariant.1 c.word_at.ensures), simp length-set l.invariant.2)
 
-returns : tie.NeedReturns invariant_loop decreases_loop
+returns : tie.Need-returns invariant_loop decreases_loop
 returns c =
     let a = c.before.before.before.before.args in
     let l = c.before.loop in

@@ -5,11 +5,11 @@ use borrow.Author.Rules.{rules}
 use Rattle.comparing.proofs.slices.word_at.Statement.{statement}
 use Rattle.comparing.proofs.slices.word_at.Tie as tie
 
-returns : tie.NeedReturns
+returns : tie.Need-returns
 unfolding word_or
 returns c = rw (lt-ltb _ _ c.before.if1.true) c.u32-at.ensures
 
-returns_2 : tie.NeedReturns2
+returns_2 : tie.Need-returns-2
 unfolding word_or
 returns_2 c = rw (le-ltb _ _ c.if1.false)
 

@@ -4,7 +4,7 @@ use borrow.Author.Rules.{rules}
 use Rattle.entry.proofs.ask.txc_c_to_g.Statement.{statement}
 use Rattle.entry.proofs.ask.txc_c_to_g.Tie as tie
 
-returns : tie.NeedReturns
+returns : tie.Need-returns
 returns c =
     let a = c.before.before in
     simp (

@@ -4,7 +4,7 @@ use borrow.Author.Rules.{rules}
 use Rattle.entry.proofs.ask.txc_g_to_c.Statement.{statement}
 use Rattle.entry.proofs.ask.txc_g_to_c.Tie as tie
 
-returns : tie.NeedReturns
+returns : tie.Need-returns
 returns c =
     let a = c.before.before in
     simp (c.g_to_c.ensures, c.before.head_of.ensures, read a.ranges.start, read a.ranges.end)

@@ -4,7 +4,7 @@ use borrow.Author.Rules.{rules}
 use Rattle.entry.proofs.ask.txc_in_bounds.Statement.{statement}
 use Rattle.entry.proofs.ask.txc_in_bounds.Tie as tie
 
-returns : tie.NeedReturns
+returns : tie.Need-returns
 returns c =
     let a = c.before.before.before.before in
     simp (

@@ -3,7 +3,7 @@ use borrow.Author.Rules.{rules}
 use Rattle.entry.proofs.ask.txc_is_coding.Statement.{statement}
 use Rattle.entry.proofs.ask.txc_is_coding.Tie as tie
 
-returns : tie.NeedReturns
+returns : tie.Need-returns
 returns c =
     simp (
       c.lay-said.ensures,

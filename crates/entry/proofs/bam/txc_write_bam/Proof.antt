@@ -5,7 +5,7 @@ use borrow.Author.Rules.{rules}
 use Rattle.entry.proofs.bam.txc_write_bam.Statement.{statement}
 use Rattle.entry.proofs.bam.txc_write_bam.Tie as tie
 
-returns : tie.NeedReturns
+returns : tie.Need-returns
 returns c =
     let r = c.before.before.before.write-words in
     (c.counted-laid.ensures ∙ ap counted_laid r.ensures.0, r.ensures.1)

@@ -7,7 +7,7 @@ use borrow.Author.Rules.{rules}
 use Rattle.entry.proofs.build.txc_build.Statement.{statement}
 use Rattle.entry.proofs.build.txc_build.Tie as tie
 
-returns : tie.NeedReturns
+returns : tie.Need-returns
 returns c =
     let n = c.before.before.before.before.before.before.before in
     let a = n.before.before in

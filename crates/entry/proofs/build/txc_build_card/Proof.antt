@@ -6,7 +6,7 @@ use borrow.Author.Rules.{rules}
 use Rattle.entry.proofs.build.txc_build_card.Statement.{statement}
 use Rattle.entry.proofs.build.txc_build_card.Tie as tie
 
-returns : tie.NeedReturns
+returns : tie.Need-returns
 returns c =
     let a = c.before.before.before.before.before.before.before.before in
     let b = c.before.before.build_card.ensures in

@@ -7,7 +7,7 @@ use borrow.Author.Rules.{rules}
 use Rattle.entry.proofs.build.txc_build_length.Statement.{statement}
 use Rattle.entry.proofs.build.txc_build_length.Tie as tie
 
-returns : tie.NeedReturns
+returns : tie.Need-returns
 returns c =
     let a = c.before.before.before in
     let b = simp (read a.ranges.length, read a.ranges.cds-start, read a.ranges.cds-end) at c.before.before.build_length.ensures in

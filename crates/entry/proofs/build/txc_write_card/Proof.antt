@@ -8,14 +8,14 @@ use Rattle.entry.proofs.build.txc_write_card.Statement.{statement}
 use Rattle.entry.proofs.build.txc_write_card.Tie as tie
 
 -- the numbers are those that were handed over
-handed : (c : tie.AfterNumbersOf) →
+handed : (c : tie.After-numbers-of) →
     let a = c.before.before.before.args in
     c.Numbers-of.result ≡ numbers_of a.strand a.cds a.cds-start a.cds-end a.count
 handed c =
     let f = c.before.before.before.ranges in
     simp (read f.strand, read f.cds-start, read f.cds-end) at c.Numbers-of.ensures
 
-returns : tie.NeedReturns
+returns : tie.Need-returns
 returns c =
     let w = c.before.before.before in
     let r = simp (handed w.before.before) at w.write_card.ensures in

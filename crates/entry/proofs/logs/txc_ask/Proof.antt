@@ -3,7 +3,7 @@ use borrow.Author.Rules.{rules}
 use Rattle.entry.proofs.logs.txc_ask.Statement.{statement}
 use Rattle.entry.proofs.logs.txc_ask.Tie as tie
 
-returns : tie.NeedReturns
+returns : tie.Need-returns
 returns c = simp c.before.head_of.ensures at c.ask.ensures
 
 pub txc_ask_spec : {M : Type 1} → statement M

@@ -3,7 +3,7 @@ use borrow.Author.Rules.{rules}
 use Rattle.entry.proofs.logs.txc_record.Statement.{statement}
 use Rattle.entry.proofs.logs.txc_record.Tie as tie
 
-returns : tie.NeedReturns
+returns : tie.Need-returns
 returns c =
     let r = c.before.before in
     simp r.before.before.head_of.ensures at r.«record».ensures

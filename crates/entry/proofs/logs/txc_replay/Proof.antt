@@ -5,7 +5,7 @@ use borrow.Author.Rules.{rules}
 use Rattle.entry.proofs.logs.txc_replay.Statement.{statement}
 use Rattle.entry.proofs.logs.txc_replay.Tie as tie
 
-returns : tie.NeedReturns
+returns : tie.Need-returns
 returns c =
     let p = c.before.before.before in
     let r = simp p.before.before.head_of.ensures at p.replay.ensures in

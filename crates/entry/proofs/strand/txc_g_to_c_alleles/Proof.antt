@@ -10,7 +10,7 @@ use borrow.Author.Rules.{rules}
 use Rattle.entry.proofs.strand.txc_g_to_c_alleles.Statement.{statement}
 use Rattle.entry.proofs.strand.txc_g_to_c_alleles.Tie as tie
 
-returns : tie.NeedReturns
+returns : tie.Need-returns
 returns c =
     let j = c.before.before.before.before in
     let h = j.before.before.before in

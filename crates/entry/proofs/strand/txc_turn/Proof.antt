@@ -24,7 +24,7 @@ laid s room =
     ])
     (λ e. rw (turning_other s room e) refl)
 
-returns : tie.NeedReturns
+returns : tie.Need-returns
 returns c =
     let t = c.before.before.before in
     let a = t.before.before.before.before.args in (

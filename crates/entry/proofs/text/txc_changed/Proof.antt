@@ -5,7 +5,7 @@ use borrow.Author.Rules.{rules}
 use Rattle.entry.proofs.text.txc_changed.Statement.{statement}
 use Rattle.entry.proofs.text.txc_changed.Tie as tie
 
-returns : tie.NeedReturns
+returns : tie.Need-returns
 returns c = c.part-laid.ensures ∙ ap part_laid c.before.changed-part.ensures
 
 pub txc_changed_spec : {M : Type 1} → statement M

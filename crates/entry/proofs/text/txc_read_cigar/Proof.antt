@@ -5,7 +5,7 @@ use borrow.Author.Rules.{rules}
 use Rattle.entry.proofs.text.txc_read_cigar.Statement.{statement}
 use Rattle.entry.proofs.text.txc_read_cigar.Tie as tie
 
-returns : tie.NeedReturns
+returns : tie.Need-returns
 returns c =
     let r = c.before.read_cigar in
     (c.counted-laid.ensures ∙ ap counted_laid r.ensures.0, r.ensures.1)

@@ -5,7 +5,7 @@ use borrow.Author.Rules.{rules}
 use Rattle.entry.proofs.text.txc_write_cigar.Statement.{statement}
 use Rattle.entry.proofs.text.txc_write_cigar.Tie as tie
 
-returns : tie.NeedReturns
+returns : tie.Need-returns
 returns c =
     let r = c.before.before.before.write_cigar in
     (c.written-laid.ensures ∙ ap written_laid r.ensures.0, r.ensures.1)

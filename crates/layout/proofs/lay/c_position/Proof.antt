@@ -5,7 +5,7 @@ use Rattle.whole.specs.laws.Whole.{told}
 use Rattle.layout.proofs.lay.c_position.Statement.{statement}
 use Rattle.layout.proofs.lay.c_position.Tie as tie
 
-returns : tie.NeedReturns
+returns : tie.Need-returns
 returns c =
     let a = c.before.before.args.a in
     simp (told w32 a.base c.struct_told.given.0.1, told w32 a.offset c.struct_told.given.1.1.0.1, c.before.star-number.ensures)

@@ -3,7 +3,7 @@ use borrow.Author.Rules.{rules}
 use Rattle.layout.proofs.lay.lay_c_interval.Statement.{statement}
 use Rattle.layout.proofs.lay.lay_c_interval.Tie as tie
 
-returns : tie.NeedReturns
+returns : tie.Need-returns
 returns c = simp (c.before.c-position.ensures, c.c-position2.ensures)
 
 pub lay_c_interval_spec : {M : Type 1} → statement M

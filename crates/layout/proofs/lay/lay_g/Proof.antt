@@ -3,13 +3,13 @@ use borrow.Author.Rules.{rules}
 use Rattle.layout.proofs.lay.lay_g.Statement.{statement}
 use Rattle.layout.proofs.lay.lay_g.Tie as tie
 
-returns : tie.NeedReturns
+returns : tie.Need-returns
 returns c = simp (c.before.before.a.given.1, c.lay-g-interval.ensures)
 
-returns_2 : tie.NeedReturns2
+returns_2 : tie.Need-returns-2
 returns_2 c = simp (c.before.before.a2.given.1, c.lay-g-interval2.ensures)
 
-returns_3 : tie.NeedReturns3
+returns_3 : tie.Need-returns-3
 returns_3 c = simp (c.before.before.a3.given.1, c.refusal-of.ensures)
 
 pub lay_g_spec : {M : Type 1} → statement M

@@ -3,7 +3,7 @@ use borrow.Author.Rules.{rules}
 use Rattle.layout.proofs.lay.lay_n_interval.Statement.{statement}
 use Rattle.layout.proofs.lay.lay_n_interval.Tie as tie
 
-returns : tie.NeedReturns
+returns : tie.Need-returns
 returns c = simp (c.before.n-position.ensures, c.n-position2.ensures)
 
 pub lay_n_interval_spec : {M : Type 1} → statement M

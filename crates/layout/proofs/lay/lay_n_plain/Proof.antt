@@ -3,10 +3,10 @@ use borrow.Author.Rules.{rules}
 use Rattle.layout.proofs.lay.lay_n_plain.Statement.{statement}
 use Rattle.layout.proofs.lay.lay_n_plain.Tie as tie
 
-returns : tie.NeedReturns
+returns : tie.Need-returns
 returns c = simp (c.before.before.a.given.1, c.lay-n-interval.ensures)
 
-returns_2 : tie.NeedReturns2
+returns_2 : tie.Need-returns-2
 returns_2 c = simp (c.before.before.a2.given.1, c.refusal-of.ensures)
 
 pub lay_n_plain_spec : {M : Type 1} → statement M

@@ -3,7 +3,7 @@ use borrow.Author.Rules.{rules}
 use Rattle.layout.proofs.lay.lay_one_c.Statement.{statement}
 use Rattle.layout.proofs.lay.lay_one_c.Tie as tie
 
-returns : tie.NeedReturns
+returns : tie.Need-returns
 returns c = simp (c.twice.ensures, c.before.c-position.ensures)
 
 pub lay_one_c_spec : {M : Type 1} → statement M

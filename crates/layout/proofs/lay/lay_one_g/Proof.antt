@@ -3,7 +3,7 @@ use borrow.Author.Rules.{rules}
 use Rattle.layout.proofs.lay.lay_one_g.Statement.{statement}
 use Rattle.layout.proofs.lay.lay_one_g.Tie as tie
 
-returns : tie.NeedReturns
+returns : tie.Need-returns
 returns c = simp (c.twice.ensures, c.before.g-position.ensures)
 
 pub lay_one_g_spec : {M : Type 1} → statement M

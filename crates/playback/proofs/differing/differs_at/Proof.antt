@@ -12,7 +12,7 @@ use Rattle.playback.proofs.differing.differs_at.Statement.{statement}
 use Rattle.playback.proofs.differing.differs_at.Tie as tie
 
 -- what was compared
-module _ (c : tie.AfterIsSame) where
+module _ (c : tie.After-is-same) where
   abbrev start : tie.Start
   start = c.before.before.before.before.before.before
 
@@ -27,10 +27,10 @@ module _ (c : tie.AfterIsSame) where
       (c.before.ask.ensures
       ∙ ap (λ (e : Entry). asked (lent start.args.head start.args.genome.now start.args.transcript.now start.args.letters.now start.args.exons.now) e.question) entry))
 
-returns : tie.NeedReturns
+returns : tie.Need-returns
 returns c = rw (← compared c.before, c.if1.true)
 
-returns_2 : tie.NeedReturns2
+returns_2 : tie.Need-returns-2
 returns_2 c = rw (← compared c.before, c.if1.false)
 
 pub differs_at_spec : {M : Type 1} → statement M

@@ -5,7 +5,7 @@ use borrow.Author.Rules.{rules}
 use Rattle.playback.proofs.differing.is_same.Statement.{statement}
 use Rattle.playback.proofs.differing.is_same.Tie as tie
 
-returns : tie.NeedReturns
+returns : tie.Need-returns
 unfolding same_answer
 returns c = simp (c.before.before.before.before.before.is-same-position.ensures, c.before.before.before.before.is-same-position2.ensures)
 

@@ -7,7 +7,7 @@ use Rattle.playback.specs.Replay.{same_position}
 use Rattle.playback.proofs.differing.is_same_position.Statement.{statement}
 use Rattle.playback.proofs.differing.is_same_position.Tie as tie
 
-returns : tie.NeedReturns
+returns : tie.Need-returns
 unfolding same_position
 returns c =
     let told4 = c.before.before.before.before in

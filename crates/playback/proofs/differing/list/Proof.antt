@@ -21,8 +21,8 @@ use Rattle.playback.proofs.differing.list.Statement.{statement}
 use Rattle.playback.proofs.differing.list.Tie as tie
 
 -- what was measured
-module _ (c : tie.AfterLineLen) where
-  abbrev measured : tie.AfterMeasure
+module _ (c : tie.After-line-len) where
+  abbrev measured : tie.After-measure
   measured = c.before
 
   abbrev start : tie.Start
@@ -41,39 +41,39 @@ module _ (c : tie.AfterLineLen) where
   short : length (replay_text indices) ≤ most_replay
   short = replay_short _ _ (omega (arith, from_length start.args.count start.args.log.now entries_at))
 
-add_size : tie.NeedOverflowAddSize
+add_size : tie.Need-overflow-add-size
 add_size c = omega (arith, size_is c.before, short c.before)
 
-returns : tie.NeedReturns
+returns : tie.Need-returns
 returns c =
     let m = c.before.before in
     let long : length (start m).args.buffer.now < length (replay_text (indices m)) = omega (arith, size_is m) in
     rw (lt-ltb _ _ long) (refl, refl)
 
-put_lines_requires : tie.NeedPutLinesRequires
+put_lines_requires : tie.Need-put-lines-requires
 put_lines_requires c κs =
     let m = c.before.before.before in
     ((start m).requires, omega (arith, size_is m, text_length (indices m)))
 
-put_line_requires : tie.NeedPutLineRequires
+put_line_requires : tie.Need-put-line-requires
 put_line_requires c κs =
     let m = c.before.before.before.before.before.before.before in
     let p = c.before.before.before.put-lines.ensures in
     omega (arith, put_length p, p.past, size_is m, text_length (indices m), ap (λ (n : ℕ). length (line_of n)) (total_is m))
 
 -- what is stored in the end
-module _ (c : tie.AfterSliceKnown3) where
-  abbrev at_size : tie.AfterLineLen
+module _ (c : tie.After-slice-known3) where
+  abbrev at_size : tie.After-line-len
   at_size = c.before.before.before.before.before.before.before.before.before.before
 
   whole : Put (start at_size).args.buffer.now c.before.before.put-line.new.0 0 c.before.before.put-line.result (replay_text (indices at_size))
   unfolding replay_text
   whole = then_put c.before.before.before.before.before.before.put-lines.ensures (put_as (ap line_of (total_is at_size)) c.before.before.put-line.ensures)
 
-same_length : tie.NeedSameLength
+same_length : tie.Need-same-length
 same_length c = put_length (whole c)
 
-returns_2 : tie.NeedReturns2
+returns_2 : tie.Need-returns-2
 returns_2 c =
     let m = at_size c in
     let fits : length (replay_text (indices m)) ≤ length (start m).args.buffer.now = omega (arith, size_is m) in

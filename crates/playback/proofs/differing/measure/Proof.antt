@@ -13,31 +13,31 @@ use borrow.Author.Rules.{rules}
 use Rattle.playback.proofs.differing.measure.Statement.{statement}
 use Rattle.playback.proofs.differing.measure.Tie as tie
 
-abbrev invariant_loop : tie.invariant_loop
+abbrev invariant_loop : tie.invariant-loop
 invariant_loop head genome transcript letters exons log count total₀ size₀ i₀ total size i =
     (i ≤ count) × (total ≤ i) × (size ≤ most_line * i)
     × (total ≡ length (found (lent head genome transcript letters exons) log i))
     × (size ≡ length (lines_of (found (lent head genome transcript letters exons) log i)))
 
-abbrev decreases_loop : tie.decreases_loop
+abbrev decreases_loop : tie.decreases-loop
 decreases_loop head genome transcript letters exons log count total₀ size₀ i₀ total size i = count - i
 
 abbrev lent_at : tie.Start invariant_loop decreases_loop → Lent
 lent_at s = lent s.args.head s.args.genome.now s.args.transcript.now s.args.letters.now s.args.exons.now
 
-loop_holds : tie.NeedLoopInit invariant_loop decreases_loop
+loop_holds : tie.Need-loop-init invariant_loop decreases_loop
 loop_holds c =
     let x = lent_at c.before in
     let log = c.before.args.log.now in
     (omega arith, omega arith, omega arith, sym (ap length (none_found x log)), sym (ap length (lines_none x log)))
 
-add_total : tie.NeedOverflowAddTotal invariant_loop decreases_loop
+add_total : tie.Need-overflow-add-total invariant_loop decreases_loop
 add_total c = omega (arith, one_at_most c.before.differs_at.result)
 
-add_size : tie.NeedOverflowAddSize invariant_loop decreases_loop
+add_size : tie.Need-overflow-add-size invariant_loop decreases_loop
 add_size c = omega arith
 
-loop_again : tie.NeedLoopPreserved invariant_loop decreases_loop
+loop_again : tie.Need-loop-preserved invariant_loop decreases_loop
 loop_again c =
     let s = c.before.before.before.before.before.before in
     let l = c.before.before.before.before.loop in
@@ -54,7 +54,7 @@ loop_again c =
       omega (arith, size_more x log l.i),
     )
 
-returns : tie.NeedReturns invariant_loop decreases_loop
+returns : tie.Need-returns invariant_loop decreases_loop
 returns c =
     let all : c.before.loop.i ≡ c.before.before.before.args.count = omega arith in
     (rw all at c.before.loop.invariant.3, rw all at c.before.loop.invariant.4)

@@ -14,23 +14,23 @@ use borrow.Author.Rules.{rules}
 use Rattle.playback.proofs.differing.put_lines.Statement.{statement}
 use Rattle.playback.proofs.differing.put_lines.Tie as tie
 
-abbrev invariant_loop : tie.invariant_loop
+abbrev invariant_loop : tie.invariant-loop
 invariant_loop head genome transcript letters exons log count buffer₀ end₀ index₀ buffer end index =
     (index ≤ count) × Put buffer₀ buffer 0 end (lines_of (found (lent head genome transcript letters exons) log index))
 
-abbrev decreases_loop : tie.decreases_loop
+abbrev decreases_loop : tie.decreases-loop
 decreases_loop head genome transcript letters exons log count buffer₀ end₀ index₀ buffer end index = count - index
 
 abbrev lent_at : tie.Start invariant_loop decreases_loop → Lent
 lent_at s = lent s.args.head s.args.genome.now s.args.transcript.now s.args.letters.now s.args.exons.now
 
-loop_holds : tie.NeedLoopInit invariant_loop decreases_loop
+loop_holds : tie.Need-loop-init invariant_loop decreases_loop
 loop_holds c =
     let s = c.before.before in
     (omega arith, put_as (sym (lines_none (lent_at s) s.args.log.now)) (none_put s.args.buffer.now 0))
 
 -- of the lines of all there is room for those of the entries passed and the next
-put_if_requires : tie.NeedPutIfRequires invariant_loop decreases_loop
+put_if_requires : tie.Need-put-if-requires invariant_loop decreases_loop
 put_if_requires c κs =
     let s = c.before.before.before.before.before.before in
     let l = c.before.before.before.loop in
@@ -40,7 +40,7 @@ put_if_requires c κs =
     ap (λ (b : Bool). length (lines_of (index_if b l.index))) c.before.differs_at.ensures in
     omega (arith, put_length l.invariant.1, l.invariant.1.past, size_more x log l.index, lines_front x log (l.index + 1) s.args.count (omega arith), s.requires.1)
 
-loop_again : tie.NeedLoopPreserved invariant_loop decreases_loop
+loop_again : tie.Need-loop-preserved invariant_loop decreases_loop
 loop_again c =
     let s = c.before.before.before.before.before.before.before.before.before in
     let l = c.before.before.before.before.before.before.loop in
@@ -50,7 +50,7 @@ loop_again c =
     (omega arith, put_as (sym (lines_more x log l.index)) (then_put l.invariant.1 (put_as lines c.before.before.put_if.ensures)))
 
 -- after the last entry
-module _ (c : tie.AfterLoop invariant_loop decreases_loop) where
+module _ (c : tie.After-loop invariant_loop decreases_loop) where
   abbrev start : tie.Start invariant_loop decreases_loop
   start = c.before.before.before.before
 
@@ -59,10 +59,10 @@ module _ (c : tie.AfterLoop invariant_loop decreases_loop) where
       let all : c.before.loop.index ≡ start.args.count = omega arith in
       rw all at c.before.loop.invariant.1
 
-same_length : tie.NeedSameLength invariant_loop decreases_loop
+same_length : tie.Need-same-length invariant_loop decreases_loop
 same_length c = put_length (whole c)
 
-returns : tie.NeedReturns invariant_loop decreases_loop
+returns : tie.Need-returns invariant_loop decreases_loop
 returns c = whole c
 
 pub put_lines_spec : {M : Type 1} → statement M

@@ -5,10 +5,10 @@ use borrow.Author.Rules.{rules}
 use Rattle.playback.proofs.text.len_if.Statement.{statement}
 use Rattle.playback.proofs.text.len_if.Tie as tie
 
-returns : tie.NeedReturns
+returns : tie.Need-returns
 returns c = rw (c.before.if1.true, one_line c.before.before.args.i) c.line-len.ensures
 
-returns_2 : tie.NeedReturns2
+returns_2 : tie.Need-returns-2
 returns_2 c = rw (c.if1.false, no_line) (search rules)
 
 pub len_if_spec : {M : Type 1} → statement M

@@ -6,7 +6,7 @@ use borrow.Author.Rules.{rules}
 use Rattle.playback.proofs.text.line_len.Statement.{statement}
 use Rattle.playback.proofs.text.line_len.Tie as tie
 
-returns : tie.NeedReturns
+returns : tie.Need-returns
 returns c = (omega (arith, line_length c.before.args.n), omega arith)
 
 pub line_len_spec : {M : Type 1} → statement M

@@ -11,11 +11,11 @@ use Rattle.playback.specs.laws.Lines.{line_length}
 use Rattle.playback.proofs.text.put_line.Statement.{statement}
 use Rattle.playback.proofs.text.put_line.Tie as tie
 
-put_digits_requires : tie.NeedPutDigitsRequires
+put_digits_requires : tie.Need-put-digits-requires
 put_digits_requires c κs = omega (arith, line_length c.before.before.args.n)
 
 -- after the digits
-module _ (c : tie.AfterSliceKnown2) where
+module _ (c : tie.After-slice-known2) where
   abbrev start : tie.Start
   start = c.before.before.before.before.before
 
@@ -26,16 +26,16 @@ module _ (c : tie.AfterSliceKnown2) where
   unfolding line_of
   whole = then_put digits (byte_put _ _ 10)
 
-slice_write_buffer : tie.NeedSliceWriteBuffer
+slice_write_buffer : tie.Need-slice-write-buffer
 slice_write_buffer c = omega (arith, put_length (digits c), (digits c).past, line_length (start c).args.n)
 
-add_result : tie.NeedOverflowAddResult
+add_result : tie.Need-overflow-add-result
 add_result c = omega (arith, put_length (digits c), (digits c).past, line_length (start c).args.n)
 
-same_length : tie.NeedSameLength
+same_length : tie.Need-same-length
 same_length c = put_length (whole c)
 
-returns : tie.NeedReturns
+returns : tie.Need-returns
 returns c = whole c
 
 pub put_line_spec : {M : Type 1} → statement M

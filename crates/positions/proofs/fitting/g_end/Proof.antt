@@ -7,16 +7,16 @@ use Rattle.positions.proofs.Wide.{fit_number, fit_wide}
 use Rattle.positions.proofs.fitting.g_end.Statement.{statement}
 use Rattle.positions.proofs.fitting.g_end.Tie as tie
 
-fit_is : (c : tie.AfterFits2) → fit_of c.before.args.g ≡ c.fits2.result
+fit_is : (c : tie.After-fits2) → fit_of c.before.args.g ≡ c.fits2.result
 fit_is c = sym (simp (read c.before.ranges.g) at c.fits2.ensures)
 
-returns : tie.NeedReturns
+returns : tie.Need-returns
 returns c =
     let f = c.before.before.before in
     let n = fit_number _ _ (fit_is f ∙ c.before.base.given.1) in
     simp (n.0, n.1)
 
-returns_2 : tie.NeedReturns2
+returns_2 : tie.Need-returns-2
 returns_2 c = simp (fit_wide _ (fit_is c.before.before ∙ c.enum_told.given.1))
 
 pub g_end_spec : {M : Type 1} → statement M

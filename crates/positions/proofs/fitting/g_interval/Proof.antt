@@ -2,10 +2,10 @@
 use Rattle.positions.proofs.fitting.g_interval.Statement.{statement}
 use Rattle.positions.proofs.fitting.g_interval.Tie as tie
 
-returns : tie.NeedReturns
+returns : tie.Need-returns
 returns c = simp c.if1.true
 
-returns_2 : tie.NeedReturns2
+returns_2 : tie.Need-returns-2
 returns_2 c = simp c.if1.false
 
 pub g_interval_spec : {M : Type 1} → statement M

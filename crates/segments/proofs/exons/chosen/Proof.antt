@@ -4,7 +4,7 @@ use Rattle.segments.specs.Exons.{exon_chosen}
 use Rattle.segments.proofs.exons.chosen.Statement.{statement}
 use Rattle.segments.proofs.exons.chosen.Tie as tie
 
-returns : tie.NeedReturns
+returns : tie.Need-returns
 unfolding exon_chosen
 returns c = simp (c.number_at.ensures, c.before.upstream-of.ensures)
 

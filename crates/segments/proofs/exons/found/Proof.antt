@@ -4,7 +4,7 @@ use Rattle.segments.specs.Exons.{exon_found}
 use Rattle.segments.proofs.exons.found.Statement.{statement}
 use Rattle.segments.proofs.exons.found.Tie as tie
 
-returns : tie.NeedReturns
+returns : tie.Need-returns
 unfolding exon_found
 returns c = simp (c.number_at.ensures, c.before.numbered-from.ensures)
 

@@ -4,10 +4,10 @@ use borrow.Author.Tests.{lt-ltb, le-ltb}
 use Rattle.segments.proofs.exons.number_at.Statement.{statement}
 use Rattle.segments.proofs.exons.number_at.Tie as tie
 
-returns : tie.NeedReturns
+returns : tie.Need-returns
 returns c = rw (lt-ltb _ _ c.before.if1.true)
 
-returns_2 : tie.NeedReturns2
+returns_2 : tie.Need-returns-2
 returns_2 c = rw (le-ltb _ _ c.if1.false)
 
 pub number_at_spec : {M : Type 1} → statement M

@@ -3,7 +3,7 @@ use borrow.Author.Rules.{rules}
 use Rattle.segments.proofs.exons.numbered_from.Statement.{statement}
 use Rattle.segments.proofs.exons.numbered_from.Tie as tie
 
-returns : tie.NeedReturns
+returns : tie.Need-returns
 returns c = simp c.enum_told.given.1
 
 pub numbered_from_spec : {M : Type 1} → statement M

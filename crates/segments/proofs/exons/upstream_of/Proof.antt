@@ -3,10 +3,10 @@ use borrow.Author.Rules.{rules}
 use Rattle.segments.proofs.exons.upstream_of.Statement.{statement}
 use Rattle.segments.proofs.exons.upstream_of.Tie as tie
 
-returns_2 : tie.NeedReturns2
+returns_2 : tie.Need-returns-2
 returns_2 c = simp (c.enum-told2.given.1, c.before.before.upstream-side.ensures)
 
-returns_3 : tie.NeedReturns3
+returns_3 : tie.Need-returns-3
 returns_3 c = simp (c.enum-told3.given.1, c.before.before.upstream-side.ensures)
 
 pub upstream_of_spec : {M : Type 1} → statement M

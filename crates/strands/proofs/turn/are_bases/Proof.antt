@@ -14,10 +14,10 @@ use borrow.Author.Rules.{rules}
 use Rattle.strands.proofs.turn.are_bases.Statement.{statement}
 use Rattle.strands.proofs.turn.are_bases.Tie as tie
 
-abbrev invariant_loop : tie.invariant_loop
+abbrev invariant_loop : tie.invariant-loop
 invariant_loop allele i₀ i = (i ≤ length allele) × (are_bases allele ≡ are_bases (drop i allele))
 
-abbrev decreases_loop : tie.decreases_loop
+abbrev decreases_loop : tie.decreases-loop
 decreases_loop allele i₀ i = length allele - i
 
 -- one letter and those behind it
@@ -37,13 +37,13 @@ a_base : (b p : ℕ) → p ≡ partner b → (p ≡ 0 → ⊥) → is_base b ≡
 unfolding is_base
 a_base b p e n = rw (ne_eqb (partner b) 0 (λ z. n (e ∙ z)))
 
-returns : tie.NeedReturns invariant_loop decreases_loop
+returns : tie.Need-returns invariant_loop decreases_loop
 returns c =
     let s = c.before.before.before.before.before.before.args.allele.now in
     let l = c.before.before.before.before.loop in
     sym (l.invariant.1 ∙ from s l.i (omega arith) ∙ ap (λ (t : Bool). t && are_bases (drop (l.i + 1) s)) (no_base (get_or s l.i 0) _ c.before.partner.ensures c.if1.true))
 
-loop_again : tie.NeedLoopPreserved invariant_loop decreases_loop
+loop_again : tie.Need-loop-preserved invariant_loop decreases_loop
 loop_again c =
     let s = c.before.before.before.before.before.before.args.allele.now in
     let l = c.before.before.before.before.loop in (
@@ -51,7 +51,7 @@ loop_again c =
       l.invariant.1 ∙ from s l.i (omega arith) ∙ ap (λ (t : Bool). t && are_bases (drop (l.i + 1) s)) (a_base (get_or s l.i 0) _ c.before.partner.ensures c.if1.false),
     )
 
-returns_2 : tie.NeedReturns2 invariant_loop decreases_loop
+returns_2 : tie.Need-returns-2 invariant_loop decreases_loop
 returns_2 c =
     let l = c.before.loop in
     sym (l.invariant.1 ∙ none_left c.before.before.before.args.allele.now l.i c.loop-test.false)

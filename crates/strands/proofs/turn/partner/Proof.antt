@@ -44,7 +44,7 @@ unpaired b xs n (p ∷ ps) h =
     rw (ne_eqb b p.one (differs b xs n p.one one.0), ne_eqb b p.other (differs b xs n p.other other.0))
     (unpaired b xs n ps other.1)
 
-returns_31 : tie.NeedReturns31
+returns_31 : tie.Need-returns-31
 unfolding partner
 returns_31 c = sym (unpaired c.before.args.letter armed c.match.rest pairs refl)
 

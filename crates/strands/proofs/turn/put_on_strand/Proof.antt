@@ -14,11 +14,11 @@ use borrow.Author.Rules.{rules}
 use Rattle.strands.proofs.turn.put_on_strand.Statement.{statement}
 use Rattle.strands.proofs.turn.put_on_strand.Tie as tie
 
-abbrev invariant_loop : tie.invariant_loop
+abbrev invariant_loop : tie.invariant-loop
 invariant_loop allele back buffer₀ i₀ buffer i =
     (i ≤ length allele) × (length buffer ≡ length buffer₀) × (buffer ≡ paste buffer₀ 0 (on_strand back allele) i)
 
-abbrev decreases_loop : tie.decreases_loop
+abbrev decreases_loop : tie.decreases-loop
 decreases_loop allele back buffer₀ i₀ buffer i = length allele - i
 
 -- one letter more is stored
@@ -28,12 +28,12 @@ more d s i hd hs = rw (add-one i) (ap (λ (k : ℕ). set (paste d 0 s i) k (get_
 all : (d s : List ℕ) (n : ℕ) → length s ≤ n → paste d 0 s n ≡ s ++ drop n d
 all d s n h = rw (take_all n s h, zero-add n)
 
-loop_holds : tie.NeedLoopInit invariant_loop decreases_loop
+loop_holds : tie.Need-loop-init invariant_loop decreases_loop
 loop_holds c =
     let a = c.before.before.args in
     (omega arith, refl, paste-zero a.buffer.now 0 (on_strand a.back a.allele.now))
 
-loop_again : tie.NeedLoopPreserved invariant_loop decreases_loop
+loop_again : tie.Need-loop-preserved invariant_loop decreases_loop
 loop_again c =
     let e = c.before.before.before.before.before in
     let l = c.before.before.loop in
@@ -44,10 +44,10 @@ loop_again c =
       ap₂ (λ (b : List ℕ) (x : ℕ). set b l.i x) l.invariant.2 c.letter-on-strand.ensures ∙ more e.args.buffer.now s l.i (omega arith) here,
     )
 
-same_length : tie.NeedSameLength invariant_loop decreases_loop
+same_length : tie.Need-same-length invariant_loop decreases_loop
 same_length c = c.before.loop.invariant.1
 
-returns : tie.NeedReturns invariant_loop decreases_loop
+returns : tie.Need-returns invariant_loop decreases_loop
 returns c =
     let a = c.before.before.before.before.args in
     let l = c.before.loop in

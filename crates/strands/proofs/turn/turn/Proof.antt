@@ -15,15 +15,15 @@ use Rattle.strands.proofs.turn.turn.Tie as tie
 judged : (c : tie.Then1) → are_bases c.before.before.before.before.args.allele.now ≡ true
 judged c = sym c.before.are-bases.ensures ∙ c.if1.true
 
-returns : tie.NeedReturns
+returns : tie.Need-returns
 returns c =
     let a = c.before.before.before.before.before.args in
     rw (turning_long a.allele.now (length a.buffer.now) (judged c.before) c.if2.true) (refl, refl)
 
-put_on_strand_requires : tie.NeedPutOnStrandRequires
+put_on_strand_requires : tie.Need-put-on-strand-requires
 put_on_strand_requires c κs = (judged c.before.before, c.before.if2.false)
 
-returns_2 : tie.NeedReturns2
+returns_2 : tie.Need-returns-2
 returns_2 c =
     let e = c.before.before.before.before in
     let a = e.before.before.before.before.before.args in
@@ -31,7 +31,7 @@ returns_2 c =
     rw (turning_fits s (length a.buffer.now) (judged e.before) e.if2.false)
     (refl, c.before.before.put-on-strand.ensures ∙ ap (λ (n : ℕ). turned s ++ drop n a.buffer.now) (sym (turned_length s)))
 
-returns_3 : tie.NeedReturns3
+returns_3 : tie.Need-returns-3
 returns_3 c =
     let a = c.before.before.before.before.args in
     rw (turning_other a.allele.now (length a.buffer.now) (sym c.before.are-bases.ensures ∙ c.if1.false)) (refl, refl)

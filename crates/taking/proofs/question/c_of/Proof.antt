@@ -6,7 +6,7 @@ use Rattle.taking.specs.Questions.{c_of}
 use Rattle.taking.proofs.question.c_of.Statement.{statement}
 use Rattle.taking.proofs.question.c_of.Tie as tie
 
-returns : tie.NeedReturns
+returns : tie.Need-returns
 unfolding c_of
 returns c =
     let b = c.before in

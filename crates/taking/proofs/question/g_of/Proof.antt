@@ -6,7 +6,7 @@ use Rattle.taking.specs.Questions.{g_of}
 use Rattle.taking.proofs.question.g_of.Statement.{statement}
 use Rattle.taking.proofs.question.g_of.Tie as tie
 
-returns : tie.NeedReturns
+returns : tie.Need-returns
 unfolding g_of
 returns c =
     let b = c.before in

@@ -6,7 +6,7 @@ use Rattle.taking.specs.Questions.{n_of}
 use Rattle.taking.proofs.question.n_of.Statement.{statement}
 use Rattle.taking.proofs.question.n_of.Tie as tie
 
-returns : tie.NeedReturns
+returns : tie.Need-returns
 unfolding n_of
 returns c =
     let b = c.before in

@@ -4,15 +4,15 @@ use Rattle.comparing.specs.Bam.{bam_row_agrees}
 use Rattle.vectors.proofs.bam.agrees.Statement.{statement}
 use Rattle.vectors.proofs.bam.agrees.Tie as tie
 
-returns : tie.NeedReturns
+returns : tie.Need-returns
 unfolding bam_row_agrees
 returns c = let e = sym c.before.before.call.ensures ∙ c.before.if1.true in rw e c.read_bam.ensures
 
-returns_2 : tie.NeedReturns2
+returns_2 : tie.Need-returns-2
 unfolding bam_row_agrees
 returns_2 c = let e = sym c.before.before.before.call.ensures ∙ c.before.if2.true in rw e c.write_bam.ensures
 
-returns_3 : tie.NeedReturns3
+returns_3 : tie.Need-returns-3
 unfolding bam_row_agrees
 returns_3 c = rw (← c.before.before.call.ensures, ne_eqb _ _ c.before.if1.false, ne_eqb _ _ c.if2.false)
 

@@ -8,19 +8,19 @@ use Rattle.comparing.specs.Bam.{read_bam_agrees}
 use Rattle.vectors.proofs.bam.read_bam.Statement.{statement}
 use Rattle.vectors.proofs.bam.read_bam.Tie as tie
 
-returns : tie.NeedReturns
+returns : tie.Need-returns
 unfolding read_bam_agrees
 returns c = rw (← c.before.before.before.size.ensures, lt-ltb _ _ c.if1.true)
 
-returns_2 : tie.NeedReturns2
+returns_2 : tie.Need-returns-2
 unfolding read_bam_agrees
 returns_2 c = rw (← c.before.before.before.before.size.ensures, le-ltb _ _ c.before.if1.false, ← c.before.before.before.size2.ensures, lt-ltb _ _ c.if2.true)
 
-returns_3 : tie.NeedReturns3
+returns_3 : tie.Need-returns-3
 unfolding read_bam_agrees
 returns_3 c = rw (← c.before.before.before.before.before.size.ensures, le-ltb _ _ c.before.before.if1.false, ← c.before.before.before.before.size2.ensures, le-ltb _ _ c.before.if2.false, ← c.before.before.before.size3.ensures, lt-ltb _ _ c.if3.true)
 
-returns_4 : tie.NeedReturns4
+returns_4 : tie.Need-returns-4
 unfolding read_bam_agrees
 returns_4 c =
     let p = c.before.before.before.before.before.before.before.before.before.before.before.before in

@@ -6,7 +6,7 @@ use Rattle.comparing.specs.Bam.{holds_counts, holds_letters, elements_agree}
 use Rattle.vectors.proofs.bam.reads.Statement.{statement}
 use Rattle.vectors.proofs.bam.reads.Tie as tie
 
-returns : tie.NeedReturns
+returns : tie.Need-returns
 unfolding elements_agree
 returns c =
     let r = c.before.before.before.before.before.before.before.before.before in

@@ -6,7 +6,7 @@ use Rattle.comparing.specs.Bam.{holds_words, words_agree}
 use Rattle.vectors.proofs.bam.writes.Statement.{statement}
 use Rattle.vectors.proofs.bam.writes.Tie as tie
 
-returns : tie.NeedReturns
+returns : tie.Need-returns
 unfolding words_agree
 returns c =
     let w = c.before.before.before.before.before.before in

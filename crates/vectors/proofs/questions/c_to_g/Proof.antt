@@ -4,7 +4,7 @@ use Rattle.whole.specs.laws.Whole.{told}
 use Rattle.vectors.proofs.questions.c_to_g.Statement.{statement}
 use Rattle.vectors.proofs.questions.c_to_g.Tie as tie
 
-returns : tie.NeedReturns
+returns : tie.Need-returns
 returns c =
     let past_end = told w32 c.before.before.before.number4.result c.before.before.before.number4.type-inv ∙ c.before.before.before.number4.ensures in
     let end = told w32 c.before.before.before.before.number3.result c.before.before.before.before.number3.type-inv ∙ c.before.before.before.before.number3.ensures in

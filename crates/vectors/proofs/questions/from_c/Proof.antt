@@ -4,11 +4,11 @@ use Rattle.vectors.specs.Questions.{from_c}
 use Rattle.vectors.proofs.questions.from_c.Statement.{statement}
 use Rattle.vectors.proofs.questions.from_c.Tie as tie
 
-returns : tie.NeedReturns
+returns : tie.Need-returns
 unfolding from_c
 returns c = rw (eq-eqb _ _ (sym c.before.before.call.ensures ∙ c.before.if1.true)) c.c_to_n.ensures
 
-returns_2 : tie.NeedReturns2
+returns_2 : tie.Need-returns-2
 unfolding from_c
 returns_2 c = rw (ne_eqb _ _ (λ e. c.before.if1.false (c.before.before.call.ensures ∙ e))) c.c_to_g.ensures
 

@@ -5,7 +5,7 @@ use Rattle.vectors.specs.Questions.{from_n}
 use Rattle.vectors.proofs.questions.from_n.Statement.{statement}
 use Rattle.vectors.proofs.questions.from_n.Tie as tie
 
-returns : tie.NeedReturns
+returns : tie.Need-returns
 unfolding from_n
 returns c =
     let past_end = told w32 c.before.before.number4.result c.before.before.number4.type-inv ∙ c.before.before.number4.ensures in
@@ -14,7 +14,7 @@ returns c =
     let start = told w32 c.before.before.before.before.before.number.result c.before.before.before.before.before.number.type-inv ∙ c.before.before.before.before.before.number.ensures in
     rw (eq-eqb _ _ (sym c.before.before.before.before.before.before.before.call.ensures ∙ c.before.before.before.before.before.before.if1.true)) (simp (c.before.is-strict.ensures, past_end, end, past_start, start) at c.txc-n-to-c.ensures)
 
-returns_2 : tie.NeedReturns2
+returns_2 : tie.Need-returns-2
 unfolding from_n
 returns_2 c =
     let past_end = told w32 c.before.before.number8.result c.before.before.number8.type-inv ∙ c.before.before.number8.ensures in

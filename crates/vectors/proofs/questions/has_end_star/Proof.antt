@@ -3,7 +3,7 @@ use Rattle.std.proofs.Common.{rules}
 use Rattle.vectors.proofs.questions.has_end_star.Statement.{statement}
 use Rattle.vectors.proofs.questions.has_end_star.Tie as tie
 
-returns : tie.NeedReturns
+returns : tie.Need-returns
 returns c = rw c.flags.ensures
 
 pub has_end_star_spec : {M : Type 1} → statement M

@@ -5,7 +5,7 @@ use Rattle.vectors.specs.Questions.{said_to}
 use Rattle.vectors.proofs.questions.said.Statement.{statement}
 use Rattle.vectors.proofs.questions.said.Tie as tie
 
-returns : tie.NeedReturns
+returns : tie.Need-returns
 unfolding said_to
 returns c =
     let l = c.before.before in
@@ -13,7 +13,7 @@ returns c =
     let start = told w32 l.before.before.before.number.result l.before.before.before.number.type-inv ∙ l.before.before.before.number.ensures in
     rw (eq-eqb _ _ (sym l.call.ensures ∙ c.before.if1.true)) (simp (l.before.missing.ensures, end, start) at c.txc-in-bounds.ensures)
 
-returns_2 : tie.NeedReturns2
+returns_2 : tie.Need-returns-2
 unfolding said_to
 returns_2 c =
     let l = c.before.before in

@@ -3,13 +3,13 @@ use Rattle.std.proofs.Common.{◌-◌, ◌≤◌, length, ⊎_elim, arith, rules
 use Rattle.vectors.proofs.say.line.Statement.{statement}
 use Rattle.vectors.proofs.say.line.Tie as tie
 
-abbrev invariant_loop : tie.invariant_loop
+abbrev invariant_loop : tie.invariant-loop
 invariant_loop lines n passed₀ i₀ passed i = (i ≤ length lines) × (passed ≤ i)
 
-abbrev decreases_loop : tie.decreases_loop
+abbrev decreases_loop : tie.decreases-loop
 decreases_loop lines n passed₀ i₀ passed i = length lines - i
 
-loop_again : tie.NeedLoopPreserved invariant_loop decreases_loop
+loop_again : tie.Need-loop-preserved invariant_loop decreases_loop
 loop_again c = ⊎_elim (λ w. omega arith) (λ w. ⊎_elim (λ v. omega arith) (λ v. omega arith) w) c.if1.branch
 
 pub line_spec : {M : Type 1} → statement M

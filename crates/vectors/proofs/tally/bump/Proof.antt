@@ -5,15 +5,15 @@ use Rattle.vectors.specs.Tally.{bumped}
 use Rattle.vectors.proofs.tally.bump.Statement.{statement}
 use Rattle.vectors.proofs.tally.bump.Tie as tie
 
-returns : tie.NeedReturns
+returns : tie.Need-returns
 unfolding bumped
 returns c = rw (le-ltb _ _ c.if1.true)
 
-returns_2 : tie.NeedReturns2
+returns_2 : tie.Need-returns-2
 unfolding bumped
 returns_2 c = rw (lt-ltb _ _ c.before.if1.false) (sym (set_out _ _ _ c.if2.true))
 
-returns_3 : tie.NeedReturns3
+returns_3 : tie.Need-returns-3
 unfolding bumped
 returns_3 c = rw (lt-ltb _ _ c.before.before.before.if1.false, c.wrapping-add-u64.ensures)
 

@@ -3,10 +3,10 @@ use Rattle.std.proofs.Common.{◌-◌, rules}
 use Rattle.vectors.proofs.tally.tell_numbers.Statement.{statement}
 use Rattle.vectors.proofs.tally.tell_numbers.Tie as tie
 
-abbrev invariant_loop : tie.invariant_loop
+abbrev invariant_loop : tie.invariant-loop
 invariant_loop tally number₀ number = Unit {0}
 
-abbrev decreases_loop : tie.decreases_loop
+abbrev decreases_loop : tie.decreases-loop
 decreases_loop tally number₀ number = 33 - number
 
 pub tell_numbers_spec : {M : Type 1} → statement M

@@ -3,10 +3,10 @@ use Rattle.std.proofs.Common.{◌-◌, rules}
 use Rattle.vectors.proofs.tally.tell_origins.Statement.{statement}
 use Rattle.vectors.proofs.tally.tell_origins.Tie as tie
 
-abbrev invariant_loop : tie.invariant_loop
+abbrev invariant_loop : tie.invariant-loop
 invariant_loop tally origin₀ origin = Unit {0}
 
-abbrev decreases_loop : tie.decreases_loop
+abbrev decreases_loop : tie.decreases-loop
 decreases_loop tally origin₀ origin = 7 - origin
 
 pub tell_origins_spec : {M : Type 1} → statement M

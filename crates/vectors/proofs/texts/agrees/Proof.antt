@@ -4,19 +4,19 @@ use Rattle.comparing.specs.Texts.{text_row_agrees}
 use Rattle.vectors.proofs.texts.agrees.Statement.{statement}
 use Rattle.vectors.proofs.texts.agrees.Tie as tie
 
-returns : tie.NeedReturns
+returns : tie.Need-returns
 unfolding text_row_agrees
 returns c = let e = sym c.before.before.call.ensures ∙ c.before.if1.true in rw e c.read_cigar.ensures
 
-returns_2 : tie.NeedReturns2
+returns_2 : tie.Need-returns-2
 unfolding text_row_agrees
 returns_2 c = let e = sym c.before.before.before.call.ensures ∙ c.before.if2.true in rw e c.write_cigar.ensures
 
-returns_3 : tie.NeedReturns3
+returns_3 : tie.Need-returns-3
 unfolding text_row_agrees
 returns_3 c = let e = sym c.before.before.before.before.call.ensures ∙ c.before.if3.true in rw e c.write_card.ensures
 
-returns_4 : tie.NeedReturns4
+returns_4 : tie.Need-returns-4
 unfolding text_row_agrees
 returns_4 c =
     let call = c.before.before.before.before.call in

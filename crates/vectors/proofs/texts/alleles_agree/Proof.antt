@@ -5,7 +5,7 @@ use Rattle.rows.specs.Rows.{expected}
 use Rattle.vectors.proofs.texts.alleles_agree.Statement.{statement}
 use Rattle.vectors.proofs.texts.alleles_agree.Tie as tie
 
-returns : tie.NeedReturns
+returns : tie.Need-returns
 returns c =
     let p = c.before.before.before.before.before in
     let words =

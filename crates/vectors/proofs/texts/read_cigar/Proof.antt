@@ -8,13 +8,13 @@ use Rattle.comparing.specs.Texts.{laid_out, read_agrees}
 use Rattle.vectors.proofs.texts.read_cigar.Statement.{statement}
 use Rattle.vectors.proofs.texts.read_cigar.Tie as tie
 
-returns : tie.NeedReturns
+returns : tie.Need-returns
 unfolding read_agrees
 returns c =
     let r = c.before.before.before.before.before in
     rw (lt-ltb _ _ (rw (simp (r.before.payload.ensures, r.before.before.size.ensures) at (ap (λ (s : Slice). s.bytes) r.rest.ensures)) at c.if1.true))
 
-returns_2 : tie.NeedReturns2
+returns_2 : tie.Need-returns-2
 unfolding read_agrees
 returns_2 c =
     let r = c.before.before.before.before.before.before.before.before.before.before.before in

@@ -7,11 +7,11 @@ use Rattle.comparing.specs.Texts.{write_card_agrees}
 use Rattle.vectors.proofs.texts.write_card.Statement.{statement}
 use Rattle.vectors.proofs.texts.write_card.Tie as tie
 
-returns : tie.NeedReturns
+returns : tie.Need-returns
 unfolding write_card_agrees
 returns c = rw (← c.before.size.ensures, lt-ltb _ _ c.if1.true)
 
-returns_2 : tie.NeedReturns2
+returns_2 : tie.Need-returns-2
 unfolding write_card_agrees
 returns_2 c =
     let s = c.before.before.before.before.before.before in

@@ -8,17 +8,17 @@ use Rattle.comparing.specs.Texts.{write_agrees}
 use Rattle.vectors.proofs.texts.write_cigar.Statement.{statement}
 use Rattle.vectors.proofs.texts.write_cigar.Tie as tie
 
-returns : tie.NeedReturns
+returns : tie.Need-returns
 unfolding write_agrees
 returns c = let f = c.before in rw (lt-ltb _ _ (rw (simp (f.before.payload.ensures, f.before.before.before.bits.ensures) at f.first.ensures) at c.if1.true))
 
-returns_2 : tie.NeedReturns2
+returns_2 : tie.Need-returns-2
 unfolding write_agrees
 returns_2 c =
     let f = c.before.before in
     rw (le-ltb _ _ (rw (simp (f.before.payload.ensures, f.before.before.before.bits.ensures) at f.first.ensures) at c.before.if1.false), lt-ltb _ _ (rw f.before.before.size.ensures at c.if2.true))
 
-returns_3 : tie.NeedReturns3
+returns_3 : tie.Need-returns-3
 unfolding write_agrees
 returns_3 c =
     let f = c.before.before.before.before.before.before.before.before.before.before.before.before.before.before in

@@ -15,7 +15,7 @@ use Rattle.vectors.proofs.texts.writes_card.Statement.{statement}
 use Rattle.vectors.proofs.texts.writes_card.Tie as tie
 
 -- what the row's input is written as
-written : (c : tie.AfterTxcWriteCard) →
+written : (c : tie.After-txc-write-card) →
     let a = c.before.before.before.before.before.before.before.before.before.before.args in
     let w = card_writing (recorded_numbers a.row.now) a.records.now (length a.buffer.now) in
     (c.txc-write-card.result ≡ written_laid (written_answer w)) × (c.txc-write-card.new.1.1.1.1.1.1.0 ≡ buffer_after a.buffer.now w)
@@ -27,7 +27,7 @@ written c =
     simp (c.before.before.size.ensures, end, start, n.before.before.flags.ensures, strand)
     at c.txc-write-card.ensures
 
-returns : tie.NeedReturns
+returns : tie.Need-returns
 unfolding card_agrees
 returns c =
     let w = c.before.before.before.before.before.before.before.before.before in
@@ -38,7 +38,7 @@ returns c =
     rw (eq-eqb _ _ (sym (ap (λ (l : Length). l.number) e.0) ∙ c.before.before.before.if1.true))
     (ap₂ ◌&&◌ words (c.holds.ensures ∙ ap (λ (b : List ℕ). holds_text b a.records.now) behind_head), e.1)
 
-returns_2 : tie.NeedReturns2
+returns_2 : tie.Need-returns-2
 unfolding card_agrees
 returns_2 c =
     let w = c.before.before.before.before.before.before.before.before.before in

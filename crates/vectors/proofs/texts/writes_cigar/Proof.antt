@@ -6,7 +6,7 @@ use Rattle.comparing.specs.Texts.{holds_text, text_agrees}
 use Rattle.vectors.proofs.texts.writes_cigar.Statement.{statement}
 use Rattle.vectors.proofs.texts.writes_cigar.Tie as tie
 
-returns : tie.NeedReturns
+returns : tie.Need-returns
 unfolding text_agrees
 returns c =
     let w = c.before.before.before.before.before.before in

@@ -4,7 +4,7 @@ use Rattle.whole.specs.laws.Whole.{told}
 use Rattle.vectors.proofs.transcripts.build.Statement.{statement}
 use Rattle.vectors.proofs.transcripts.build.Tie as tie
 
-returns : tie.NeedReturns
+returns : tie.Need-returns
 returns c =
     let b = c.before.before.before.before in
     let p = b.before.before.before.before.before.before in

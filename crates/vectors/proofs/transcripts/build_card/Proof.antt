@@ -3,7 +3,7 @@ use Rattle.std.proofs.Common.{rules}
 use Rattle.vectors.proofs.transcripts.build_card.Statement.{statement}
 use Rattle.vectors.proofs.transcripts.build_card.Tie as tie
 
-returns : tie.NeedReturns
+returns : tie.Need-returns
 returns c =
     let b = c.before.before.before.before in
     let e = simp b.before.before.before.before.before.before.payload.ensures at b.txc-build-card.ensures in

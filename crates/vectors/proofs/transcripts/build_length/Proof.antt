@@ -4,7 +4,7 @@ use Rattle.whole.specs.laws.Whole.{told}
 use Rattle.vectors.proofs.transcripts.build_length.Statement.{statement}
 use Rattle.vectors.proofs.transcripts.build_length.Tie as tie
 
-returns : tie.NeedReturns
+returns : tie.Need-returns
 returns c =
     let b = c.before.before in
     let n = b.before.before in

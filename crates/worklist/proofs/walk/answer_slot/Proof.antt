@@ -5,7 +5,7 @@ use borrow.Author.Rules.{rules}
 use Rattle.worklist.proofs.walk.answer_slot.Statement.{statement}
 use Rattle.worklist.proofs.walk.answer_slot.Tie as tie
 
-returns : tie.NeedReturns
+returns : tie.Need-returns
 returns c =
     let s = c.before.before.before in
     let g = told w32 s.args.s.position c.before.before.struct_told.given.0.1 in

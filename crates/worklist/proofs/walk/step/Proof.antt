@@ -9,13 +9,13 @@ use borrow.Author.Rules.{rules}
 use Rattle.worklist.proofs.walk.step.Statement.{statement}
 use Rattle.worklist.proofs.walk.step.Tie as tie
 
-placed : (c : tie.AfterPlaceOfG) → let a = c.before.before.args in c.place-of-g.result.0 ≡ place_on (track_by a.at a.genome.now) a.s.position
+placed : (c : tie.After-place-of-g) → let a = c.before.before.args in c.place-of-g.result.0 ≡ place_on (track_by a.at a.genome.now) a.s.position
 placed c = simp (told w32 c.before.before.args.s.position c.before.struct_told.given.0.1) at c.place-of-g.ensures.0
 
-tested : (c : tie.AfterIsInside) → let a = c.before.before.before.before.args in within (track_by a.at a.genome.now) (place_on (track_by a.at a.genome.now) a.s.position) ≡ c.is-inside.result
+tested : (c : tie.After-is-inside) → let a = c.before.before.before.before.args in within (track_by a.at a.genome.now) (place_on (track_by a.at a.genome.now) a.s.position) ≡ c.is-inside.result
 tested c = sym (simp (c.before.last.ensures, placed c.before.before) at c.is-inside.ensures)
 
-find_from_requires : tie.NeedFindFromRequires
+find_from_requires : tie.Need-find-from-requires
 find_from_requires c κs =
     let i = c.before.before in
     let p = i.before.before in
@@ -24,7 +24,7 @@ find_from_requires c κs =
     let place = told w64 p.place-of-g.result.0 c.struct-told2.given.0.1 ∙ placed p in
     ((omega (arith, ready.on), s.requires.0), rw place (ready.before (tested i ∙ c.before.if1.true)))
 
-returns : tie.NeedReturns
+returns : tie.Need-returns
 returns c =
     let t = c.before in
     let i = t.before.before in
@@ -32,7 +32,7 @@ returns c =
     let place = told w64 p.place-of-g.result.0 t.struct-told2.given.0.1 ∙ placed p in
     rw (tested i ∙ t.before.if1.true) (rw place at c.find-from.ensures)
 
-returns_2 : tie.NeedReturns2
+returns_2 : tie.Need-returns-2
 returns_2 c = rw (tested c.before ∙ c.if1.false)
 
 pub step_spec : {M : Type 1} → statement M
