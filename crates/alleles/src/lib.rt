@@ -1,4 +1,6 @@
 // A g. interval with two alleles: the plain mapping's c. interval, and both alleles as the transcript reads them, trimmed, in two lent buffers. Nothing is written until all of it is answered.
+#![tactic(auto)]
+
 ghost use Rattle.std.specs.Prelude.{◌≡◌, ◌&&◌, length};
 ghost use Rattle.refusals.specs.Outcome.{number_of, Outcome.refused};
 ghost use Rattle.holding.specs.Holding.{lent};
@@ -16,7 +18,7 @@ use transcript::{Head, OF_RECORDS};
 
 // The plain mapping's answer, how many bytes of both alleles went at the front and at the back, and how many of each stand in its buffer.
 #[repr(C)]
-#[derive(Drop)]
+#[derive(Clone, Copy)]
 pub struct Joined {
     pub answer: Answer,
     pub prefix: usize,

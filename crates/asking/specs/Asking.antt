@@ -10,10 +10,10 @@ use Rattle.taking.specs.Questions.{map_g_to_n, map_n_to_g, map_n_to_c, map_c_to_
 use Rattle.layout.specs.declared.lay.Answer.{Answer}
 use Rattle.taking.specs.declared.question.Question.{Question}
 use Rattle.canonical.specs.Canonical.{holdable}
-use Rattle.log.specs.Logs.{appending}
+use Rattle.journal.specs.Logs.{appending}
 use Rattle.entries.specs.declared.Entry.{Entry}
-use Rattle.log.specs.declared.Appended.{Appended}
-use Rattle.log.specs.declared.Appended.TheVariants as appended
+use Rattle.journal.specs.declared.Appended.{Appended}
+use Rattle.journal.specs.declared.Appended.TheVariants as appended
 use Rattle.asking.specs.declared.Recorded.{Recorded}
 
 module _ (x : Lent) where

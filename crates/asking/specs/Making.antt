@@ -5,7 +5,7 @@ use Rattle.fields.specs.laws.RoundTrips.{Bytes}
 use Rattle.holding.specs.Holding.{Lent}
 use Rattle.taking.specs.declared.question.Question.{Question}
 use Rattle.entries.specs.Entries.{QuestionFits}
-use Rattle.log.specs.Logs.{log_after}
+use Rattle.journal.specs.Logs.{log_after}
 use Rattle.entries.specs.declared.Entry.{Entry}
 use Rattle.asking.specs.Asking.{recorded, recording}
 

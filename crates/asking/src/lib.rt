@@ -1,13 +1,15 @@
 // A question of one of the six mappings as one value: what is said to it, and the entry of a log that says so.
+#![tactic(auto)]
+
 ghost use Rattle.std.specs.Prelude.{◌≡◌};
 ghost use Rattle.holding.specs.Holding.{lent};
-ghost use Rattle.log.specs.Logs.{appended_of, log_after};
+ghost use Rattle.journal.specs.Logs.{appended_of, log_after};
 ghost use Rattle.asking.specs.Asking.{named, asked, recording, recorded_laid};
 
 use entries::Entry;
 use layout::lay;
 use layout::lay::Answer;
-use log::Appended;
+use journal::Appended;
 use refusals::{MOST_SEGMENTS, MOST_STARTS, NO_LOG};
 use taking::question;
 use taking::question::{C_TO_N, G_TO_C, G_TO_N, N_TO_C, N_TO_G, Question};
@@ -15,7 +17,7 @@ use transcript::Head;
 
 // What was said to a question, and how long the log is with it; all but the number is 0 where it is refused.
 #[repr(C)]
-#[derive(Drop)]
+#[derive(Clone, Copy)]
 pub struct Recorded {
     pub number: u32,
     pub length: usize,
@@ -119,7 +121,7 @@ pub fn record(
             question: q,
             answer,
         };
-        return lay_recorded(answer, log::append(log, used, entry));
+        return lay_recorded(answer, journal::append(log, used, entry));
     }
     lay_recorded(lay::refusal_of(0), Appended::Refused(NO_LOG))
 }

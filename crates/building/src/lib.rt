@@ -1,4 +1,6 @@
 // Building: the tables of a transcript from its records. All is judged first, and then the lent tables are filled.
+#![tactic(auto)]
+
 ghost use Rattle.std.specs.Prelude.{◌≡◌, ◌≤◌, length};
 ghost use Rattle.refusals.specs.Numbers.{most_records, most_segments};
 ghost use Rattle.records.specs.Layout.{alt_start_at, cigar_text};

@@ -1,4 +1,6 @@
 // The questions and answers that an entry can hold: 35 stands or falls by this.
+#![tactic(auto)]
+
 ghost use Rattle.std.specs.Prelude.{◌≡◌};
 ghost use Rattle.refusals.specs.Refusing.{one_of};
 ghost use Rattle.taking.specs.Questions.{from_g, from_c, to_g, to_c, is_plain};

@@ -1,4 +1,6 @@
 // A card: building's input as bytes. Reading, and then building; and writing into a lent buffer.
+#![tactic(auto)]
+
 ghost use Rattle.std.specs.Prelude.{◌≡◌, ◌+◌, ◌≤◌, true, [], ◌∷◌, ◌++◌, eqb, length};
 ghost use Rattle.std.proofs.lemmas.List.Edits.{sets};
 ghost use Rattle.refusals.specs.Numbers.{most_records, most_card};
@@ -37,7 +39,7 @@ const COUNT_AT: usize = 15;
 pub const RECORDS_AT: usize = 17;
 
 // What bytes read as: the numbers of building's input, whose records are the card's bytes from RECORDS_AT on.
-#[derive(Drop)]
+#[derive(Clone, Copy)]
 pub enum ReadCard {
     Card(Numbers),
     // 3, 21 or 22.

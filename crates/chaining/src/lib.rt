@@ -1,4 +1,6 @@
 // The steps of the questions, over what is known of a transcript: 19, 13, the mappings, and the second step of a chain.
+#![tactic(auto)]
+
 ghost use Rattle.std.specs.Prelude.{◌≡◌, ◌≤◌, get_or};
 ghost use Rattle.refusals.specs.Numbers.{no_genome, most_segments};
 ghost use Rattle.refusals.specs.Outcome.{and_then, through, Outcome.answered, Outcome.refused};
@@ -21,7 +23,7 @@ use refusals::{MISSING_END, MOST_SEGMENTS, MOST_STARTS, NO_GENOME, NOT_CODING};
 use spots::Alignment;
 
 // The two ends of a g. interval that are given, or the word that one is missing.
-#[derive(Drop)]
+#[derive(Clone, Copy)]
 pub enum Given {
     Ends(i32, i32),
     Missing,

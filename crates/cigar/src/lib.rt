@@ -1,5 +1,7 @@
 // CIGAR text, read by a byte cursor: the element at a place, the whole text counted or read into two lent tables. And how far an
 // element goes along the genome and the transcript.
+#![tactic(auto)]
+
 ghost use Rattle.std.specs.Prelude.{◌≡◌, true, ◌+◌, ◌*◌, ◌-◌, ◌≤◌, min, pos};
 ghost use Rattle.refusals.specs.Numbers.{most_count, most_segments};
 ghost use Rattle.cigar.specs.Elements.{is_letter, kind_of, along_genome, along_transcript};
@@ -10,7 +12,7 @@ ghost use Rattle.cigar.specs.Read.{read_text, counts_after, letters_after, FullL
 use refusals::{BAD_COUNT, MOST_COUNT, MOST_SEGMENTS, MOST_TEXT, NO_ELEMENT, TOO_MUCH};
 
 // What reading at a place finds.
-#[derive(Drop)]
+#[derive(Clone, Copy)]
 pub enum Step {
     // A whole element: its count, its letter and the place after it.
     Element(u32, u8, usize),
@@ -21,7 +23,7 @@ pub enum Step {
 }
 
 // How many elements a text has, or the number of its refusal.
-#[derive(Drop)]
+#[derive(Clone, Copy)]
 pub enum Counted {
     Count(usize),
     Refused(u8),

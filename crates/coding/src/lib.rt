@@ -1,4 +1,6 @@
 // Between n. and c., with the transcript's length and the CDS's start s and end e: numbers, then positions, then intervals.
+#![tactic(auto)]
+
 ghost use Rattle.std.specs.Prelude.{◌≡◌, pos};
 ghost use Rattle.whole.specs.Whole.{Within};
 ghost use Rattle.numbering.specs.Numbers.{n_of_c};

@@ -1,4 +1,6 @@
 // An entry of a log as bytes, read and written where it lies.
+#![tactic(auto)]
+
 ghost use Rattle.std.specs.Prelude.{◌≡◌, ◌+◌, ◌≤◌, length};
 ghost use Rattle.std.proofs.lemmas.List.Edits.{sets};
 ghost use Rattle.entries.specs.Layout.{entry_size, question_size, answer_size};
@@ -40,7 +42,7 @@ const START_EXON_AT: usize = 20;
 const END_EXON_AT: usize = 22;
 
 // A question of one of the six mappings, and its answer or refusal as the boundary lays it out.
-#[derive(Drop)]
+#[derive(Clone, Copy)]
 pub struct Entry {
     pub question: Question,
     pub answer: Answer,

@@ -2,7 +2,7 @@
 ghost use Rattle.std.specs.Prelude.{◌≡◌, length};
 ghost use Rattle.spelling.specs.Write.{written_answer, buffer_after};
 ghost use Rattle.lending.specs.Lending.{lent_at};
-ghost use Rattle.log.specs.Logs.{appended_of, log_after};
+ghost use Rattle.journal.specs.Logs.{appended_of, log_after};
 ghost use Rattle.asking.specs.Asking.{asked, recording, recorded_laid};
 ghost use Rattle.playback.specs.Replay.{replaying};
 ghost use Rattle.results.specs.Results.{written_laid};

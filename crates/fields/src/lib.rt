@@ -1,4 +1,6 @@
 // The numbers of cards and logs, read and written where they lie: a byte, 16 and 32 bits with the least significant byte first, and signed numbers of 32 bits.
+#![tactic(auto)]
+
 ghost use Rattle.std.specs.Prelude.{◌≡◌, ◌+◌, ◌%◌, ◌≤◌, ◌<◌, length, get_or};
 ghost use Rattle.std.proofs.lemmas.List.Edits.{sets};
 ghost use Rattle.fields.specs.Fields.{bytes, le16, le32, bytes16, bytes32, signed32, bits32};

@@ -1,4 +1,6 @@
 // Filling: the elements of records that passed every test are put into the lent tables.
+#![tactic(auto)]
+
 ghost use Rattle.std.specs.Prelude.{◌∷◌, ◌≡◌, ◌+◌, ◌-◌, ◌≤◌, ◌<◌, length, replicate};
 ghost use Rattle.std.proofs.lemmas.List.Edits.{sets};
 ghost use Rattle.refusals.specs.Numbers.{most_records, most_segments, most_starts, most_bases};

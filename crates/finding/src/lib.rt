@@ -1,5 +1,7 @@
 // The finder: which segment of a table of starts a place lies in.
 // Segment i begins at entry i of the table and ends at entry i + 1. A place is a whole number and may lie outside the table on either side.
+#![tactic(auto)]
+
 ghost use Rattle.std.specs.Prelude.{◌≡◌, true, cond, ◌≤◌, ◌<◌, ltb, pos};
 ghost use Rattle.std.specs.Int.Signed.{lt_z, le_z};
 ghost use Rattle.refusals.specs.Numbers.{most_segments};

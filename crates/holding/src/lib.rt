@@ -1,4 +1,6 @@
 // Refusal 23: whether a transcript that a host lends holds together. Every number may be wrong, so the head is looked at before the tables are.
+#![tactic(auto)]
+
 ghost use Rattle.std.specs.Prelude.{◌≡◌, true, ◌≤◌, pos, nat_abs};
 ghost use Rattle.std.specs.Int.Signed.{le_z};
 ghost use Rattle.refusals.specs.Numbers.{most_segments};
@@ -89,7 +91,7 @@ fn totals_hold(first: u32, genome: u32, transcript: u32) -> bool
 }
 
 // How many bases a transcript has, which is known only where the head's own tests pass.
-#[derive(Drop)]
+#[derive(Clone, Copy)]
 pub enum Bases {
     Known(u32),
     Unknown,

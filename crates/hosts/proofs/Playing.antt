@@ -15,7 +15,7 @@ use Rattle.refusals.specs.laws.Outcomes.{clash, same}
 use Rattle.whole.specs.laws.Whole.{by_test}
 use Rattle.holding.specs.Holding.{Lent, holds}
 use Rattle.taking.specs.declared.question.Question.{Question}
-use Rattle.log.specs.Logs.{read_log}
+use Rattle.journal.specs.Logs.{read_log}
 use Rattle.entries.specs.declared.Entry.{Entry}
 use Rattle.asking.specs.Asking.{recorded}
 use Rattle.asking.specs.laws.Making.{made_is}

@@ -6,7 +6,7 @@ use Rattle.refusals.specs.Outcome.{answered}
 use Rattle.refusals.specs.Refusing.{one_of}
 use Rattle.holding.specs.Holding.{Lent, holds}
 use Rattle.taking.specs.declared.question.Question.{Question}
-use Rattle.log.specs.Logs.{read_log}
+use Rattle.journal.specs.Logs.{read_log}
 use Rattle.entries.specs.declared.Entry.{Entry}
 use Rattle.asking.specs.Asking.{asked}
 use Rattle.asking.specs.Making.{Made}

@@ -1,4 +1,6 @@
 // Building's judgment: every refusal of document 01's build order is found here, before anything is written.
+#![tactic(auto)]
+
 ghost use Rattle.std.specs.Prelude.{◌≡◌, true, ◌≤◌, ◌<◌, pos};
 ghost use Rattle.refusals.specs.Numbers.{most_bases};
 ghost use Rattle.records.specs.Records.{exactly};

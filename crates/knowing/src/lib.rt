@@ -1,4 +1,6 @@
 // What a host lends, known once: how it lies on the genome, its length alone, or that it does not hold together (23).
+#![tactic(auto)]
+
 ghost use Rattle.std.specs.Prelude.{◌≡◌, true, ◌≤◌};
 ghost use Rattle.refusals.specs.Numbers.{most_segments};
 ghost use Rattle.segments.specs.Tables.{tables};
@@ -12,14 +14,14 @@ use spots::Alignment;
 use transcript::{BOTH_GIVEN, Head, OF_RECORDS};
 
 // The CDS's start and end, or the word that there is none.
-#[derive(Drop)]
+#[derive(Clone, Copy)]
 pub enum Coding {
     Cds(u32, u32),
     Missing,
 }
 
 // A transcript that was built from records, one that is known by its length alone, or neither; and the CDS of the two.
-#[derive(Drop)]
+#[derive(Clone, Copy)]
 pub enum Known {
     Aligned(Alignment, Coding),
     OfLength(u32, Coding),

@@ -1,4 +1,6 @@
 // What all segments of lent tables show whose letters are common, one of = M N X: of few segments by two blocks, of many by lanes, which the compiler takes at once.
+#![tactic(auto)]
+
 ghost use Rattle.std.specs.Prelude.{◌≡◌, ℕ, ◌+◌, ◌≤◌, ◌&&◌, length, if◌then◌else◌, nat_lt};
 ghost use Rattle.refusals.specs.Numbers.{most_segments};
 ghost use Rattle.segments.specs.Tables.{tables, all_below};
@@ -14,7 +16,7 @@ const LANES: usize = 8;
 
 // What one lane has gathered: bits that are 0 where each segment's steps are the same as far as its letter lets the sides see them, and
 // all bits of the genome's steps together.
-#[derive(Drop)]
+#[derive(Clone, Copy)]
 struct Lane {
     apart: u32,
     bits: u32,

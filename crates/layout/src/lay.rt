@@ -11,7 +11,7 @@ use positions::{
 
 // `exon` is 0 where the mapping carries no exon's number.
 #[repr(C)]
-#[derive(Drop)]
+#[derive(Clone, Copy)]
 pub struct Position {
     pub base: i32,
     pub offset: i32,
@@ -21,7 +21,7 @@ pub struct Position {
 
 // `mark` is 1 for a certain answer, 2 for an uncertain one, 3 where it bears none.
 #[repr(C)]
-#[derive(Drop)]
+#[derive(Clone, Copy)]
 pub struct Answer {
     pub number: u32,
     pub mark: u32,
@@ -30,14 +30,14 @@ pub struct Answer {
 }
 
 #[repr(C)]
-#[derive(Drop)]
+#[derive(Clone, Copy)]
 pub struct Said {
     pub number: u32,
     pub yes: u32,
 }
 
 #[repr(C)]
-#[derive(Drop)]
+#[derive(Clone, Copy)]
 pub struct Length {
     pub number: u32,
     pub length: usize,

@@ -1,4 +1,6 @@
 // What a host lends, taken apart: a head of nine numbers, beside the tables.
+#![tactic(auto)]
+
 ghost use Rattle.std.specs.Prelude.{◌≡◌};
 ghost use Rattle.lending.specs.Lending.{head_at};
 

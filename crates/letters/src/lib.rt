@@ -1,4 +1,6 @@
 // Whether the letters of lent tables are known, one of = D I M N X, and whether they are common, one of = M N X: each in one pass with no early way out, which is vectorised.
+#![tactic(auto)]
+
 ghost use Rattle.std.specs.Prelude.{◌≡◌, ◌≤◌, ◌&&◌, if◌then◌else◌, nat_le};
 ghost use Rattle.refusals.specs.Numbers.{most_segments};
 ghost use Rattle.cigar.specs.Elements.{is_letter};

@@ -1,4 +1,6 @@
 // Reads a card from standard input and writes its listing, or the line of its refusal.
+#![tactic(auto)]
+
 use libc::{STDIN_FILENO, STDOUT_FILENO};
 use lines::MOST_LISTING;
 use refusals::{MOST_CARD, MOST_SEGMENTS, MOST_STARTS};

@@ -1,5 +1,7 @@
 // Reads cards from standard input, one after the other, each with its size before it, and writes the listing or the line of the
 // refusal of each.
+#![tactic(auto)]
+
 ghost use Rattle.std.specs.Prelude.{◌≡◌, ◌≤◌, length};
 ghost use Rattle.segments.specs.Tables.{tables};
 ghost use Rattle.lines.specs.Lengths.{most_listing};

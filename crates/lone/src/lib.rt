@@ -1,4 +1,6 @@
 // One base by itself between g. and n., start and end of its interval alike: its spot, and the answer that follows from it.
+#![tactic(auto)]
+
 ghost use Rattle.std.specs.Prelude.{◌≡◌, true, ◌≤◌, ◌<◌};
 ghost use Rattle.refusals.specs.Numbers.{most_segments};
 ghost use Rattle.whole.specs.Whole.{Within};
@@ -19,7 +21,7 @@ use segments::{Edge, End, Spot, exons};
 use spots::Alignment;
 
 // A base by itself, sought before its tables were looked at: its place, which lies inside, and the number of the segment that it lies in if they hold. What it is answered with follows from that; any other question goes the long way.
-#[derive(Drop)]
+#[derive(Clone, Copy)]
 pub enum Sought {
     Inside(Place, usize),
     Other,

@@ -1,4 +1,6 @@
 // The g., n. and c. questions to a transcript that a host lends. What is lent is known once, and each question is one match over it.
+#![tactic(auto)]
+
 ghost use Rattle.std.specs.Prelude.{◌≡◌};
 ghost use Rattle.holding.specs.Holding.{lent, checked};
 ghost use Rattle.positions.specs.Paper.{paper_g_question, paper_n_question, paper_c_question, paper_g, paper_n, paper_c, paper_n_plain, paper_c_plain, paper_said};

@@ -1,6 +1,8 @@
 // Whether the exon numbers of lent tables hold, which every question asks too. A step is taken as a difference that may wrap: where the numbers begin and end
 // as they are to and no step is above 1, none comes near to wrapping. So one pass gathers how far steps are above what the letter lets them be, or of few whether any is, with no
 // early way out, and is vectorised; where none is above, both ends decide. From which of two neighbours a step is taken is a matter of the strand: the loop is told by two numbers, 0 and 1.
+#![tactic(auto)]
+
 ghost use Rattle.std.specs.Prelude.{◌≡◌, ◌+◌, ◌-◌, ◌<◌, ◌≤◌, ◌&&◌, if◌then◌else◌, ◌==◌};
 ghost use Rattle.refusals.specs.Numbers.{most_segments};
 ghost use Rattle.segments.specs.Tables.{all_below};

@@ -1,20 +1,22 @@
 // Three units that must not be mixed, and the routines that own the crossings between them: only here is the 1 of the missing zero added or taken off.
 // Every number is a whole number held as an i64; each routine asks that what it is handed is below 2^40 in size, so that no sum wraps.
 // Each sum has a name, so that its need in the proof has that name and not a temporary's number.
+#![tactic(auto)]
+
 ghost use Rattle.std.specs.Prelude.{◌≡◌};
 ghost use Rattle.whole.specs.Whole.{Within};
 ghost use Rattle.numbering.specs.Numbers.{n_of_place, place_of_n, c_of_n, skip_zero, n_of_c};
 
 // A zero-based place.
-#[derive(Drop)]
+#[derive(Clone, Copy)]
 pub struct Place(pub i64);
 
 // An n. number.
-#[derive(Drop)]
+#[derive(Clone, Copy)]
 pub struct NNumber(pub i64);
 
 // A c. number: its base, and whether it bears a star and counts from the CDS's end.
-#[derive(Drop)]
+#[derive(Clone, Copy)]
 pub struct CNumber(pub i64, pub bool);
 
 // A place as an n. number (`zbc_to_hgvs`): at 0 or above add 1, below 0 keep.

@@ -1,4 +1,6 @@
 // Between g. and n. of a transcript that lies on the genome: whole intervals.
+#![tactic(auto)]
+
 ghost use Rattle.std.specs.Prelude.{◌≡◌, ◌≤◌, ◌<◌, get_or};
 ghost use Rattle.refusals.specs.Numbers.{most_segments};
 ghost use Rattle.segments.specs.Tables.{tables};

@@ -6,12 +6,12 @@ use Prim.Native.Nat.{ℕ, ◌+◌, ◌*◌, ◌≤◌}
 use native.Mathlib.Omega.{arith}
 use lib.ListN.{length}
 use Rattle.refusals.specs.Outcome.{Outcome, answered, refused}
-use Rattle.log.specs.Layout.{entries_at}
+use Rattle.journal.specs.Layout.{entries_at}
 use Rattle.entries.specs.Layout.{entry_size}
-use Rattle.log.specs.Logs.{entries_from, count_of, read_log, answer_of}
-use Rattle.log.specs.laws.LogTrips.{from_length, read_means}
+use Rattle.journal.specs.Logs.{entries_from, count_of, read_log, answer_of}
+use Rattle.journal.specs.laws.LogTrips.{from_length, read_means}
 use Rattle.entries.specs.declared.Entry.{Entry}
-use Rattle.log.specs.declared.ReadLog.TheVariants as read
+use Rattle.journal.specs.declared.ReadLog.TheVariants as read
 use Rattle.playback.specs.Lines.{most_entries}
 
 pub record Reads (log : List ℕ) (count : ℕ) : Type 0 where

@@ -13,11 +13,11 @@ use native.Mathlib.Omega.{arith}
 use lib.ListN.{length, length-append}
 use Rattle.holding.specs.Holding.{Lent}
 use Rattle.layout.specs.Layout.{star_of}
-use Rattle.log.specs.Layout.{entries_at}
+use Rattle.journal.specs.Layout.{entries_at}
 use Rattle.entries.specs.Layout.{entry_size}
 use Rattle.entries.specs.Entries.{entry_at}
-use Rattle.log.specs.Logs.{entries_from}
-use Rattle.log.specs.laws.LogTrips.{from_length}
+use Rattle.journal.specs.Logs.{entries_from}
+use Rattle.journal.specs.laws.LogTrips.{from_length}
 use Rattle.playback.specs.Lines.{lines_of, index_if}
 use Rattle.playback.specs.Replay.{differs, indices_from, differing}
 use Rattle.playback.specs.laws.Lines.{lines_append, no_line}

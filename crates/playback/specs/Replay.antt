@@ -7,7 +7,7 @@ use Rattle.transcript.specs.Transcript.{Source}
 use Rattle.holding.specs.Holding.{Lent, checked}
 use Rattle.layout.specs.declared.lay.Position.{Position}
 use Rattle.layout.specs.declared.lay.Answer.{Answer}
-use Rattle.log.specs.Logs.{read_log}
+use Rattle.journal.specs.Logs.{read_log}
 use Rattle.entries.specs.declared.Entry.{Entry}
 use Rattle.asking.specs.Asking.{asked}
 use Rattle.playback.specs.Lines.{line_of, lines_of, index_if}

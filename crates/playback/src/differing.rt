@@ -3,10 +3,10 @@ ghost use Rattle.std.specs.Prelude.{◌≡◌, ◌+◌, ◌*◌, ◌≤◌, leng
 ghost use Rattle.spelling.specs.Write.{written_answer, buffer_after};
 ghost use Rattle.holding.specs.Holding.{lent};
 ghost use Rattle.card.specs.Putting.{Put};
-ghost use Rattle.log.specs.Layout.{entries_at};
+ghost use Rattle.journal.specs.Layout.{entries_at};
 ghost use Rattle.entries.specs.Layout.{entry_size};
 ghost use Rattle.entries.specs.Entries.{entry_at};
-ghost use Rattle.log.specs.Logs.{entries_from};
+ghost use Rattle.journal.specs.Logs.{entries_from};
 ghost use Rattle.playback.specs.Lines.{lines_of, most_entries};
 ghost use Rattle.playback.specs.Replay.{same_position, same_answer, differs, differing, roomed, replay_text};
 
@@ -14,13 +14,13 @@ use crate::text;
 use entries::ENTRY_SIZE;
 use layout::lay;
 use layout::lay::{Answer, Position};
-use log::ENTRIES_AT;
+use journal::ENTRIES_AT;
 use refusals::{MOST_SEGMENTS, MOST_STARTS, NO_ROOM};
 use spelling::Written;
 use transcript::Head;
 
 // How many entries differ, and how many bytes the lines of their indices take.
-#[derive(Drop)]
+#[derive(Clone, Copy)]
 pub struct Measured {
     pub total: u32,
     pub size: usize,

@@ -1,10 +1,12 @@
 // A log replayed: which of its questions a transcript answers otherwise than is recorded.
+#![tactic(auto)]
+
 ghost use Rattle.std.specs.Prelude.{◌≡◌, length};
 ghost use Rattle.spelling.specs.Write.{written_answer, buffer_after};
 ghost use Rattle.holding.specs.Holding.{lent};
 ghost use Rattle.playback.specs.Replay.{replaying};
 
-use log::ReadLog;
+use journal::ReadLog;
 use refusals::{MOST_SEGMENTS, MOST_STARTS, NOT_TOGETHER};
 use spelling::Written;
 use transcript::Head;
@@ -27,7 +29,7 @@ pub fn replay<'a>(
     ensures buffer_after { buffer.new ≡ buffer_after buffer.old (replaying (lent head genome.now transcript.now letters.now exons.now) log.now (length buffer.old)) }
 {
     if knowing::is_held(head, genome, transcript, letters, exons) {
-        match log::read_log(log) {
+        match journal::read_log(log) {
             ReadLog::Entries(count) => {
                 differing::list(head, genome, transcript, letters, exons, log, count, buffer)
             }

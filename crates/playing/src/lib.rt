@@ -1,4 +1,6 @@
 // A log replayed on the transcript that a card makes, as text; and a card and a log as one input of bytes.
+#![tactic(auto)]
+
 ghost use Rattle.std.specs.Prelude.{◌≡◌, ◌≤◌, length};
 ghost use Rattle.cigar.specs.Lent.{at_front};
 ghost use Rattle.segments.specs.Tables.{tables};
@@ -15,7 +17,7 @@ use transcript::Built;
 pub const SIZE: usize = 4;
 
 // Where the card of an input ends, or 3 or 21.
-#[derive(Drop)]
+#[derive(Clone, Copy)]
 pub enum CardEnd {
     At(usize),
     Refused(u8),

@@ -13,21 +13,21 @@ use numbering::{CNumber, NNumber};
 use whole::Fit;
 
 // A g. position, or why there is none.
-#[derive(Drop)]
+#[derive(Clone, Copy)]
 pub enum GEnd {
     At(GPosition),
     Refused(u8),
 }
 
 // An n. position, or why there is none.
-#[derive(Drop)]
+#[derive(Clone, Copy)]
 pub enum NEnd {
     At(NPosition),
     Refused(u8),
 }
 
 // A c. position, or why there is none.
-#[derive(Drop)]
+#[derive(Clone, Copy)]
 pub enum CEnd {
     At(CPosition),
     Refused(u8),

@@ -1,5 +1,7 @@
 // The pass over the CIGARs of all records, which refuses 3, 7, 8 and 32 and sums how far the elements go. Sums are of 64 bits: a total
 // passes 32 bits before 9 is due.
+#![tactic(auto)]
+
 ghost use Rattle.std.specs.Prelude.{◌≡◌, false, ◌+◌, ◌-◌, ◌*◌, ◌≤◌, ◌<◌, pos, nat_abs, length};
 ghost use Rattle.std.specs.Int.Signed.{lt_z};
 ghost use Rattle.refusals.specs.Numbers.{most_segments};
@@ -15,7 +17,7 @@ use records::{ALT_END, ALT_START, CIGAR_TEXT};
 use refusals::{MOST_SEGMENTS, MOST_TEXT, NOT_SPANNING, TOO_MUCH};
 
 // How many segments there are, and how far they go along the genome and the transcript.
-#[derive(Drop)]
+#[derive(Clone, Copy)]
 pub struct Sums {
     pub count: usize,
     pub genome: u64,
@@ -23,7 +25,7 @@ pub struct Sums {
 }
 
 // The sums of some elements, or the number of a refusal.
-#[derive(Drop)]
+#[derive(Clone, Copy)]
 pub enum Tally {
     Sums(Sums),
     Refused(u8),

@@ -1,5 +1,7 @@
 // Records as a card lays them out: reading one at a place, walking all of them, and refusals 21, 4, 5 and 6. A record is known by the
 // place at which it begins, so that the loops hold unsigned numbers alone.
+#![tactic(auto)]
+
 ghost use Rattle.std.specs.Prelude.{◌≡◌, true, ◌+◌, ◌≤◌, length};
 ghost use Rattle.records.specs.Layout.{cigar_text};
 ghost use Rattle.records.specs.Records.{field_at, next_at, record_at, exactly, records_from};

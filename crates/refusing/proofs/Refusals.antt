@@ -50,7 +50,7 @@ use Rattle.alleles.specs.laws.Refusing.{plain_refusals, plain_only}
 use Rattle.taking.specs.declared.question.Question.{Question}
 use Rattle.canonical.specs.Canonical.{holdable}
 use Rattle.entries.specs.Entries.{entry_bytes}
-use Rattle.log.specs.Logs.{header_bytes, is_headed, all_canonical, entries_in, read_log, fitted as behind, appending}
+use Rattle.journal.specs.Logs.{header_bytes, is_headed, all_canonical, entries_in, read_log, fitted as behind, appending}
 use Rattle.entries.specs.declared.Entry.{Entry}
 use Rattle.asking.specs.Asking.{recorded, recording}
 use Rattle.playback.specs.Replay.{replayed, roomed, replaying}

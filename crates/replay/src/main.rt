@@ -1,4 +1,6 @@
 // Reads a card with its size before it, and behind it a log, from standard input, and writes which of the log's answers differ, or the line of a refusal.
+#![tactic(auto)]
+
 use libc::{STDIN_FILENO, STDOUT_FILENO};
 use playback::text::MOST_REPLAY;
 use playing::SIZE;

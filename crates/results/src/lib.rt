@@ -1,4 +1,6 @@
 // What the boundary returns beside the mappings' answers, laid out as the host has it: lengths of texts and of lists, parts of alleles, and what building tells with its head.
+#![tactic(auto)]
+
 ghost use Rattle.std.specs.Prelude.{◌≡◌};
 ghost use Rattle.lending.specs.Lending.{head_row};
 ghost use Rattle.results.specs.Results.{counted_laid, written_laid, number_laid, part_laid, built_number, built_head};
@@ -10,7 +12,7 @@ use transcript::{Built, Head};
 
 // Where the changed part stands: of the reference (0) or of the alternative (1).
 #[repr(C)]
-#[derive(Drop)]
+#[derive(Clone, Copy)]
 pub struct Part {
     pub alternative: u32,
     pub from: usize,

@@ -1,6 +1,8 @@
 // The file of recorded answers, as host/compare/README.md lays it out. A row is a block and as many more as its own bytes fill. A block is
 // eighteen words of 32 bits: call, flags and origin in one, how many bytes follow, six numbers of the call, and ten words to expect, the
 // refusal's number first. What a row lacks reads as 0.
+#![tactic(auto)]
+
 ghost use Rattle.std.specs.Prelude.{◌≡◌, ◌≤◌, ◌<◌, length, replicate};
 ghost use Rattle.rows.specs.Sizes.{most_file};
 ghost use Rattle.rows.specs.Rows.{block_words, answer_size, first_of, word_at, signed_at, call_of, flags_of, origin_of, recorded_size, recorded_number, payload_of, recorded_answer, is_word, expected, has_head, row_size};

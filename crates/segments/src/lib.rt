@@ -1,5 +1,7 @@
 // The tables of a transcript: the mapping of a place, once for both directions.
 // Segment i begins at entry i of the two tables of starts and ends at entry i + 1. A place is a whole number and may lie outside the tables on either side.
+#![tactic(auto)]
+
 ghost use Rattle.std.specs.Prelude.{◌≡◌, true, ◌≤◌, ◌<◌};
 ghost use Rattle.refusals.specs.Numbers.{most_segments};
 ghost use Rattle.whole.specs.Whole.{Within};
@@ -14,14 +16,14 @@ use refusals::{MOST_SEGMENTS, MOST_STARTS};
 pub mod exons;
 
 // An interval's end.
-#[derive(Drop)]
+#[derive(Clone, Copy)]
 pub enum End {
     Start,
     Stop,
 }
 
 // The edge of an N that a place of it counts from; a place of any other segment counts from none.
-#[derive(Drop)]
+#[derive(Clone, Copy)]
 pub enum Edge {
     None,
     Left,
@@ -30,7 +32,7 @@ pub enum Edge {
 
 // A place on the other side, with its offset; it is not sure if it fell in an I or a D; the number of the segment that it fell in, and the edge
 // that it counts from.
-#[derive(Drop)]
+#[derive(Clone, Copy)]
 pub struct Spot {
     pub place: Place,
     pub offset: i64,

@@ -1,4 +1,6 @@
 // Two alleles: their common prefix and suffix, what is left without them, and the part that changed. Any bytes are taken.
+#![tactic(auto)]
+
 ghost use Rattle.std.specs.Prelude.{◌≡◌, ◌<◌, ◌≤◌, length, get_or};
 ghost use Rattle.sequences.specs.Alleles.{prefix_len, suffix_len, along, changed_part};
 ghost use Rattle.sequences.specs.Slices.{slice_of, part_between, rest_of, front_of, part_of};
@@ -74,7 +76,7 @@ pub fn front(s: &[u8], q: usize) -> &[u8]
 }
 
 // A part of one of two alleles: of the alternative or of the reference, and its bounds.
-#[derive(Drop)]
+#[derive(Clone, Copy)]
 pub struct Part {
     pub alternative: bool,
     pub from: usize,

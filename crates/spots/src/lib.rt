@@ -1,4 +1,6 @@
 // How a transcript lies on the genome, and one place of it between g. and n.: the place of a number, its spot, its exon's number, and two spots as the ends of an answer.
+#![tactic(auto)]
+
 ghost use Rattle.std.specs.Prelude.{◌≡◌, ◌&&◌, ◌≤◌, ◌<◌, get_or};
 ghost use Rattle.refusals.specs.Numbers.{most_segments};
 ghost use Rattle.whole.specs.Whole.{Within};
@@ -18,7 +20,7 @@ use refusals::{MOST_SEGMENTS, MOST_STARTS};
 use segments::{End, Spot, exons};
 
 // How a transcript lies on the genome, beside its tables: whether its strand is 1, its first start, how many segments it has, and of how many records.
-#[derive(Drop)]
+#[derive(Clone, Copy)]
 pub struct Alignment {
     pub forward: bool,
     pub first: u32,

@@ -1,5 +1,7 @@
 // What a stretch of segments of lent tables shows: whether the two sides' steps are the same, as far as each letter lets the sides see them, and how many bits the steps have. A step is taken as a
 // difference that may wrap. One pass gathers bits and compares steps, with no early way out, and is vectorised. Letters = M N X alone have a shorter pass.
+#![tactic(auto)]
+
 ghost use Rattle.std.specs.Prelude.{◌≡◌, ℕ, ◌≤◌, ◌&&◌, if◌then◌else◌};
 ghost use Rattle.refusals.specs.Numbers.{most_segments};
 ghost use Rattle.segments.specs.Tables.{tables, all_below};
@@ -10,7 +12,7 @@ use refusals::{MOST_SEGMENTS, MOST_STARTS};
 
 // What a stretch of segments showed: whether each one's steps are the same as far as its letter lets the sides see them, and
 // all bits of the steps together.
-#[derive(Drop)]
+#[derive(Clone, Copy)]
 pub struct Seen {
     pub same: bool,
     pub bits: u32,

@@ -1,4 +1,6 @@
 // Two alleles of the genome trimmed as a transcript reads them, prefix first and then suffix. Nothing is turned for it: on strand -1 what they end with is what the transcript reads first.
+#![tactic(auto)]
+
 ghost use Rattle.std.specs.Prelude.{◌≡◌};
 ghost use Rattle.sequences.specs.Slices.{slice_of};
 ghost use Rattle.strands.specs.Turned.{on_strand};
@@ -7,7 +9,7 @@ ghost use Rattle.strands.specs.Trimmed.{removed_of, left_at};
 pub mod turn;
 
 // How many bytes of both alleles go, at the front and at the back, as the transcript reads them.
-#[derive(Drop)]
+#[derive(Clone, Copy)]
 pub struct Removed {
     pub prefix: usize,
     pub suffix: usize,

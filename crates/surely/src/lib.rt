@@ -1,4 +1,6 @@
 // The short way of a question about one base: whether an interval is one, where it is sought by its name, and what a host is told of a sure base by its spot, laid out.
+#![tactic(auto)]
+
 ghost use Rattle.std.specs.Prelude.{◌≡◌, ◌≤◌, ◌<◌};
 ghost use Rattle.refusals.specs.Numbers.{most_segments};
 ghost use Rattle.whole.specs.Whole.{eq_z};

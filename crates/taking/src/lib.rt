@@ -1,4 +1,6 @@
 // What a host asks, taken apart: the ends of an interval.
+#![tactic(auto)]
+
 ghost use Rattle.std.specs.Prelude.{◌≡◌};
 ghost use Rattle.positions.specs.Paper.{paper_g_asked, paper_g_question, paper_n_question, paper_c_question};
 ghost use Rattle.taking.specs.Taking.{g_end, g_asked, n_asked, c_asked};

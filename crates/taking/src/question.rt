@@ -20,7 +20,7 @@ pub const C_TO_G: u32 = 5;
 
 // `strict` is 0 or 1. Of an end's marks bit 0 says star and bit 1 says missing.
 #[repr(C)]
-#[derive(Drop)]
+#[derive(Clone, Copy)]
 pub struct Question {
     pub kind: u32,
     pub strict: u32,

@@ -1,5 +1,7 @@
 // What a host is told of the three questions that it asks most, laid out. One base that is sure goes a short way, which asks for no more than it needs; one that is not is answered by where it lies, and every other question goes the way that logs and alleles go too.
 // An answer is laid out where it is found: one that is handed on as it is would be copied in other pieces than it was stored in, and wait for them.
+#![tactic(auto)]
+
 ghost use Rattle.std.specs.Prelude.{◌≡◌, get_or, ◌≤◌, ◌<◌};
 ghost use Rattle.refusals.specs.Numbers.{most_segments};
 ghost use Rattle.whole.specs.Whole.{Within};

@@ -2,6 +2,8 @@
 // A step is taken as a difference that may wrap. Where all steps are short, 2,048 of them do not come as far as to wrap. Where one is not, the entries are looked at too: where no step and
 // no entry has the highest bit of 32, none has wrapped; and where the last entries lack it, any entry that has it makes a table fall later. So one pass that gathers
 // bits and compares steps (`stepping`, and of common letters `lanes`) decides, with no early way out, and is vectorised.
+#![tactic(auto)]
+
 ghost use Rattle.std.specs.Prelude.{◌≡◌, true, ◌&&◌, ◌||◌, ℕ, ◌≤◌};
 ghost use Rattle.refusals.specs.Numbers.{most_segments};
 ghost use Rattle.segments.specs.Tables.{tables, all_below, known_at, segments_hold};

@@ -1,4 +1,6 @@
 // What is known of a transcript: its head, and the CDS bounds that are handed over.
+#![tactic(auto)]
+
 ghost use Rattle.std.specs.Prelude.{◌≡◌, ◌≤◌};
 ghost use Rattle.transcript.specs.Heads.{both_bits, bound_of, start_of, end_of, number_of, with_cds};
 
@@ -15,7 +17,7 @@ pub const BOTH_BITS: u32 = BOTH_GIVEN as u32;
 
 // A transcript beside its four tables: kind (0 built from records, 1 from a length), strand, first start, segment count, CDS bits
 // (1 start given, 2 end given), CDS start, CDS end, the length of a length-only one, and the record count. The numbers are the host's own, and any may be wrong.
-#[derive(Drop)]
+#[derive(Clone, Copy)]
 pub struct Head {
     pub kind: i32,
     pub strand: i32,
@@ -29,7 +31,7 @@ pub struct Head {
 }
 
 // What building is handed beside the records' bytes, by a host or by a card: strand, CDS bits (1 start given, 2 end given), CDS start, CDS end, and how many records there are. Any number may be wrong.
-#[derive(Drop)]
+#[derive(Clone, Copy)]
 pub struct Numbers {
     pub strand: i32,
     pub cds: u32,
@@ -39,14 +41,14 @@ pub struct Numbers {
 }
 
 // A CDS bound.
-#[derive(Drop)]
+#[derive(Clone, Copy)]
 pub enum Bound {
     Given(i32),
     Absent,
 }
 
 // What building answers: a transcript's head, or the number of a refusal.
-#[derive(Drop)]
+#[derive(Clone, Copy)]
 pub enum Built {
     Transcript(Head),
     Refused(u8),

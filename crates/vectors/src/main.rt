@@ -1,5 +1,7 @@
 // Replays recorded answers: a file of calls of the host's boundary, with what each must answer, is read from standard input. Each call is
 // made over memory kept here, its answer compared, and the counts are told.
+#![tactic(auto)]
+
 ghost use Rattle.std.specs.Prelude.{◌≡◌};
 ghost use Rattle.segments.specs.Tables.{tables};
 ghost use Rattle.vectors.specs.Tally.{counted};

@@ -1,5 +1,7 @@
 // CIGAR words of BAM, read into two lent tables and written from two tables. Words and elements keep their order: BAM's run along the genome and a record's along the
 // transcript, so on strand -1 the caller turns them round.
+#![tactic(auto)]
+
 ghost use Rattle.std.specs.Prelude.{◌≡◌, true, map, ◌≤◌, min, pos, nat_abs, length};
 ghost use Rattle.std.proofs.lemmas.List.Edits.{sets};
 ghost use Rattle.refusals.specs.Numbers.{most_word_count, most_segments};

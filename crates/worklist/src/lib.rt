@@ -1,4 +1,6 @@
 // A sorted worklist: the g. positions of a list are answered as g. to n. answers one base in strict mode, in one walk along the segments that never steps back.
+#![tactic(auto)]
+
 ghost use Rattle.std.specs.Prelude.{◌≡◌};
 ghost use Rattle.holding.specs.Holding.{lent};
 ghost use Rattle.worklist.specs.Worklist.{listed, steps_laid, slots_after};
@@ -15,7 +17,7 @@ pub mod walk;
 
 // A g. position, and room for its answer.
 #[repr(C)]
-#[derive(Drop)]
+#[derive(Clone, Copy)]
 pub struct Slot {
     pub position: i32,
     pub answer: Answer,
@@ -23,7 +25,7 @@ pub struct Slot {
 
 // How many segments were stepped over, or the number of the refusal.
 #[repr(C)]
-#[derive(Drop)]
+#[derive(Clone, Copy)]
 pub struct Steps {
     pub number: u32,
     pub steps: u32,

@@ -9,12 +9,12 @@ use Rattle.whole.specs.laws.Whole.{by_test}
 use Rattle.fields.specs.laws.RoundTrips.{Bytes}
 use Rattle.holding.specs.Holding.{Lent}
 use Rattle.taking.specs.declared.question.Question.{Question}
-use Rattle.log.specs.Layout.{entries_at}
+use Rattle.journal.specs.Layout.{entries_at}
 use Rattle.entries.specs.Layout.{entry_size}
 use Rattle.entries.specs.Entries.{entry_bytes, QuestionFits}
 use Rattle.canonical.specs.Canonical.{holdable}
-use Rattle.log.specs.Logs.{header_bytes, log_bytes, read_log, appending, Holds, not_begun, begun}
-use Rattle.log.specs.laws.Appending.{grown, grown_reads, takes_first, takes_next}
+use Rattle.journal.specs.Logs.{header_bytes, log_bytes, read_log, appending, Holds, not_begun, begun}
+use Rattle.journal.specs.laws.Appending.{grown, grown_reads, takes_first, takes_next}
 use Rattle.entries.specs.declared.Entry.{Entry}
 use Rattle.asking.specs.Asking.{recorded, recording}
 use Rattle.asking.specs.Making.{all_recorded, Made, none_yet, one_more}

@@ -7,8 +7,8 @@ use Prim.Native.Nat.{ℕ}
 use lib.ListN.{length}
 use Rattle.spelling.specs.Write.{written_answer, buffer_after}
 use Rattle.holding.specs.Holding.{Lent, lent, holds}
-use Rattle.log.specs.Layout.{entries_at}
-use Rattle.log.specs.Logs.{entries_from}
+use Rattle.journal.specs.Layout.{entries_at}
+use Rattle.journal.specs.Logs.{entries_from}
 use Rattle.playback.specs.laws.Replay.{replay_broken, replay_answered, replay_refused}
 use Rattle.playback.proofs.Reading.{Reads, reads, refuses}
 use borrow.Author.Rules.{rules}

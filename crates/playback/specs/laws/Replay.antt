@@ -27,9 +27,9 @@ use Rattle.spelling.specs.Write.{digits_by, decimal}
 use Rattle.holding.specs.Holding.{Lent, holds, checked}
 use Rattle.layout.specs.declared.lay.Position.{Position}
 use Rattle.layout.specs.declared.lay.Answer.{Answer}
-use Rattle.log.specs.Layout.{entries_at}
-use Rattle.log.specs.Logs.{read_log}
-use Rattle.log.specs.laws.LogTrips.{from_length, read_means}
+use Rattle.journal.specs.Layout.{entries_at}
+use Rattle.journal.specs.Logs.{read_log}
+use Rattle.journal.specs.laws.LogTrips.{from_length, read_means}
 use Rattle.entries.specs.declared.Entry.{Entry}
 use Rattle.asking.specs.Asking.{asked, recorded}
 use Rattle.playback.specs.Lines.{line_of, lines_of, most_entries, all_lines, most_replay}

@@ -12,7 +12,7 @@ use Rattle.judging.specs.Judging.{Made}
 use Rattle.building.specs.laws.Standing.{built_holds}
 use Rattle.card.specs.Writing.{judge_card}
 use Rattle.card.specs.laws.Taken.{card_sane}
-use Rattle.log.specs.Logs.{read_log}
+use Rattle.journal.specs.Logs.{read_log}
 use Rattle.entries.specs.declared.Entry.{Entry}
 use Rattle.playback.specs.Replay.{replayed}
 use Rattle.playing.specs.Played.{lent_by, played, card_end, card_to, input_made, input_played}

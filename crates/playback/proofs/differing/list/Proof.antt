@@ -10,8 +10,8 @@ use Rattle.spelling.specs.declared.Written.TheVariants as answer
 use Rattle.holding.specs.Holding.{lent}
 use Rattle.card.specs.Putting.{Put}
 use Rattle.card.specs.laws.Putting.{then_put, put_length, put_as, put_front}
-use Rattle.log.specs.laws.LogTrips.{from_length}
-use Rattle.log.specs.Layout.{entries_at}
+use Rattle.journal.specs.laws.LogTrips.{from_length}
+use Rattle.journal.specs.Layout.{entries_at}
 use Rattle.playback.specs.Lines.{line_of, most_replay}
 use Rattle.playback.specs.Replay.{replay_text}
 use Rattle.playback.specs.laws.Replay.{text_length, replay_short}

@@ -17,11 +17,11 @@ use Rattle.refusals.specs.laws.Outcomes.{clash, same}
 use Rattle.whole.specs.laws.Whole.{by_test, both}
 use Rattle.fields.specs.Fields.{le16, bytes16}
 use Rattle.fields.specs.laws.RoundTrips.{Bytes, bytes16_le, beside}
-use Rattle.log.specs.Layout.{mark, version, version_at, entries_at}
+use Rattle.journal.specs.Layout.{mark, version, version_at, entries_at}
 use Rattle.entries.specs.Layout.{entry_size}
 use Rattle.entries.specs.Entries.{entry_bytes}
 use Rattle.entries.specs.laws.RoundTrips.{entry_length, entry_back, bytes_back, entry_fits}
-use Rattle.log.specs.Logs.{header_bytes, entries_bytes, log_bytes, is_marked, is_headed, entries_from, count_of, entries_in, all_canonical, read_log, AllFit, none, more}
+use Rattle.journal.specs.Logs.{header_bytes, entries_bytes, log_bytes, is_marked, is_headed, entries_from, count_of, entries_in, all_canonical, read_log, AllFit, none, more}
 use Rattle.entries.specs.declared.Entry.{Entry}
 
 -- ---- a header

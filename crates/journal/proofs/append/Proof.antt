@@ -1,11 +1,11 @@
--- `log::append` meets its contract: the tests that led to each `return` are those of `appending`, in order. Assumes nothing.
+-- `journal::append` meets its contract: the tests that led to each `return` are those of `appending`, in order. Assumes nothing.
 use mathlib.Core.Path.{refl, sym, ◌∙◌}
 use native.Mathlib.Omega.{arith}
 use borrow.Author.Tests.{lt-ltb, le-ltb, ne_eqb}
 use borrow.Author.Rules.{rules}
-use Rattle.log.specs.Logs.{appending}
-use Rattle.log.proofs.append.Statement.{statement}
-use Rattle.log.proofs.append.Tie as tie
+use Rattle.journal.specs.Logs.{appending}
+use Rattle.journal.proofs.append.Statement.{statement}
+use Rattle.journal.proofs.append.Tie as tie
 
 returns : tie.Need-returns
 unfolding appending

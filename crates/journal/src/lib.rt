@@ -1,10 +1,12 @@
 // A log: a mark, a version, and entries of a fixed size. Reading all of it, and putting an entry behind it.
+#![tactic(auto)]
+
 ghost use Rattle.std.specs.Prelude.{◌≡◌, ◌+◌, ◌*◌, ◌≤◌, length, ◌++◌};
 ghost use Rattle.std.proofs.lemmas.List.Edits.{sets};
-ghost use Rattle.log.specs.Layout.{entries_at};
+ghost use Rattle.journal.specs.Layout.{entries_at};
 ghost use Rattle.entries.specs.Layout.{entry_size};
 ghost use Rattle.entries.specs.Entries.{entry_bytes};
-ghost use Rattle.log.specs.Logs.{header_bytes, is_marked, is_headed, entries_from, all_canonical, read_log, answer_of, fitted, appending, appended_of, log_after};
+ghost use Rattle.journal.specs.Logs.{header_bytes, is_marked, is_headed, entries_from, all_canonical, read_log, answer_of, fitted, appending, appended_of, log_after};
 
 use entries::{ENTRY_SIZE, Entry};
 use refusals::{MOST_LOG, NO_LOG, NO_ROOM, TOO_MUCH};
@@ -17,7 +19,7 @@ const VERSION_AT: usize = 3;
 pub const ENTRIES_AT: usize = 5;
 
 // How many entries bytes are, or a refusal.
-#[derive(Drop)]
+#[derive(Clone, Copy)]
 pub enum ReadLog {
     Entries(usize),
     // 3 or 35.
@@ -25,7 +27,7 @@ pub enum ReadLog {
 }
 
 // How many bytes a log has with one entry more, or a refusal.
-#[derive(Drop)]
+#[derive(Clone, Copy)]
 pub enum Appended {
     Length(usize),
     // 35, 3 or 20.

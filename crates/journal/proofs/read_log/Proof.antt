@@ -1,4 +1,4 @@
--- `log::read_log` meets its contract: the tests that led to each `return` are those of `read_log`, in order. Assumes nothing.
+-- `journal::read_log` meets its contract: the tests that led to each `return` are those of `read_log`, in order. Assumes nothing.
 use mathlib.Core.Path.{◌≡◌, sym, ap, ◌∙◌}
 use mathlib.Core.Bool.{true}
 use mathlib.Core.List.{List}
@@ -7,12 +7,12 @@ use native.Mathlib.Omega.{arith}
 use borrow.Author.Tests.{lt-ltb, le-ltb}
 use borrow.Author.Rules.{rules}
 use lib.ListN.{length}
-use Rattle.log.specs.Layout.{entries_at}
-use Rattle.log.specs.Logs.{is_headed, count_of, read_log}
-use Rattle.log.specs.laws.LogTrips.{Headed, headed_means, from_length}
-use Rattle.log.specs.declared.ReadLog.TheVariants as read
-use Rattle.log.proofs.read_log.Statement.{statement}
-use Rattle.log.proofs.read_log.Tie as tie
+use Rattle.journal.specs.Layout.{entries_at}
+use Rattle.journal.specs.Logs.{is_headed, count_of, read_log}
+use Rattle.journal.specs.laws.LogTrips.{Headed, headed_means, from_length}
+use Rattle.journal.specs.declared.ReadLog.TheVariants as read
+use Rattle.journal.proofs.read_log.Statement.{statement}
+use Rattle.journal.proofs.read_log.Tie as tie
 
 returns : tie.Need-returns
 unfolding read_log

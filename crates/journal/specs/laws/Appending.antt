@@ -20,13 +20,13 @@ use Rattle.refusals.specs.laws.Outcomes.{clash, same}
 use Rattle.whole.specs.laws.Whole.{by_test, both}
 use Rattle.fields.specs.Fields.{little, le16}
 use Rattle.fields.specs.laws.RoundTrips.{Bytes, take_bytes}
-use Rattle.log.specs.Layout.{version_at, entries_at}
+use Rattle.journal.specs.Layout.{version_at, entries_at}
 use Rattle.entries.specs.Layout.{entry_size}
 use Rattle.entries.specs.Entries.{entry_bytes, EntryFits}
 use Rattle.canonical.specs.Canonical.{canonical}
 use Rattle.entries.specs.laws.RoundTrips.{entry_length}
-use Rattle.log.specs.Logs.{header_bytes, entries_bytes, log_bytes, is_marked, is_headed, all_canonical, read_log, fitted, appending, AllFit, none, more, Holds, not_begun, begun}
-use Rattle.log.specs.laws.LogTrips.{reads_back_lem, read_means, is_log, read_fits}
+use Rattle.journal.specs.Logs.{header_bytes, entries_bytes, log_bytes, is_marked, is_headed, all_canonical, read_log, fitted, appending, AllFit, none, more, Holds, not_begun, begun}
+use Rattle.journal.specs.laws.LogTrips.{reads_back_lem, read_means, is_log, read_fits}
 use Rattle.entries.specs.declared.Entry.{Entry}
 
 -- ---- what is known where an entry is put

@@ -1,4 +1,4 @@
--- `log::put_next` meets its contract: the size is known first, so that a refusal stores nothing. Assumes nothing.
+-- `journal::put_next` meets its contract: the size is known first, so that a refusal stores nothing. Assumes nothing.
 use mathlib.Core.Path.{refl, sym, ap}
 use Prim.Native.Nat.{ℕ, ◌+◌, ◌≤◌, ◌<◌}
 use native.Mathlib.Omega.{arith}
@@ -7,9 +7,9 @@ use borrow.Author.Rules.{rules}
 use Rattle.refusals.specs.Numbers.{most_log}
 use Rattle.entries.specs.Layout.{entry_size}
 use Rattle.entries.specs.laws.RoundTrips.{entry_length}
-use Rattle.log.specs.declared.Appended.TheVariants as appended
-use Rattle.log.proofs.put_next.Statement.{statement}
-use Rattle.log.proofs.put_next.Tie as tie
+use Rattle.journal.specs.declared.Appended.TheVariants as appended
+use Rattle.journal.proofs.put_next.Statement.{statement}
+use Rattle.journal.proofs.put_next.Tie as tie
 
 returns : tie.Need-returns
 returns c =

@@ -10,7 +10,7 @@ use native.Mathlib.Omega.{arith}
 use Rattle.entries.specs.Layout.{entry_size}
 use Rattle.entries.specs.Entries.{entry_at}
 use Rattle.canonical.specs.Canonical.{canonical}
-use Rattle.log.specs.Logs.{entries_from, all_canonical}
+use Rattle.journal.specs.Logs.{entries_from, all_canonical}
 
 pred : (n : ℕ) → suc n - 1 ≡ n
 pred n = omega arith

@@ -1,12 +1,12 @@
--- `log::put_header` meets its contract: each byte is stored once, in order. Assumes nothing.
+-- `journal::put_header` meets its contract: each byte is stored once, in order. Assumes nothing.
 use mathlib.Core.Path.{ap, ◌∙◌}
 use native.Mathlib.Omega.{arith}
 use borrow.Author.Rules.{rules}
 use lib.ListN.{length, length-set}
 use lib.Seq.{length-sets}
-use Rattle.log.specs.Logs.{header_bytes}
-use Rattle.log.proofs.put_header.Statement.{statement}
-use Rattle.log.proofs.put_header.Tie as tie
+use Rattle.journal.specs.Logs.{header_bytes}
+use Rattle.journal.proofs.put_header.Statement.{statement}
+use Rattle.journal.proofs.put_header.Tie as tie
 
 slice_write_log_2 : tie.Need-slice-write-log-2
 slice_write_log_2 c = simp length-set (omega arith)

@@ -10,7 +10,7 @@ use Rattle.layout.specs.declared.lay.Position.{Position}
 use Rattle.layout.specs.declared.lay.Answer.{Answer}
 use Rattle.entries.specs.Entries.{four_bytes, four_numbers, question_bytes, answer_bytes, entry_bytes, question_at, answer_at, entry_at}
 use Rattle.canonical.specs.Canonical.{end_holdable, holdable, refusals_of, tag_of_kind, exon_of_kind, end_sayable, is_nowhere, sayable, canonical}
-use Rattle.log.specs.Logs.{entries_bytes, log_bytes, is_marked, is_headed, entries_from, all_canonical, read_log, appending}
+use Rattle.journal.specs.Logs.{entries_bytes, log_bytes, is_marked, is_headed, entries_from, all_canonical, read_log, appending}
 use Rattle.entries.specs.declared.Entry.{Entry}
 
 -- the numbers of a question, an end of an answer and an answer in their order

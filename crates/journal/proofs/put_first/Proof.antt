@@ -1,4 +1,4 @@
--- `log::put_first` meets its contract: the header is stored, and the entry behind it. Assumes nothing.
+-- `journal::put_first` meets its contract: the header is stored, and the entry behind it. Assumes nothing.
 use mathlib.Core.Path.{◌≡◌, refl, sym, ap}
 use mathlib.Core.List.{◌++◌}
 use Prim.Native.Nat.{◌+◌}
@@ -6,16 +6,16 @@ use native.Mathlib.Omega.{arith}
 use borrow.Author.Tests.{lt-ltb, le-ltb}
 use borrow.Author.Rules.{rules}
 use lib.ListN.{length}
-use Rattle.log.specs.Layout.{entries_at}
+use Rattle.journal.specs.Layout.{entries_at}
 use Rattle.entries.specs.Layout.{entry_size}
 use Rattle.entries.specs.Entries.{entry_bytes}
-use Rattle.log.specs.Logs.{header_bytes}
+use Rattle.journal.specs.Logs.{header_bytes}
 use Rattle.entries.specs.laws.RoundTrips.{entry_length}
 use Rattle.entries.specs.declared.Entry.{Entry}
-use Rattle.log.specs.declared.Appended.TheVariants as appended
+use Rattle.journal.specs.declared.Appended.TheVariants as appended
 use Rattle.entries.proofs.Stores.{then_stored}
-use Rattle.log.proofs.put_first.Statement.{statement}
-use Rattle.log.proofs.put_first.Tie as tie
+use Rattle.journal.proofs.put_first.Statement.{statement}
+use Rattle.journal.proofs.put_first.Tie as tie
 
 first_length : (e : Entry) → 0 + length (header_bytes ++ entry_bytes e) ≡ entries_at + entry_size
 first_length e = rw (entry_length e)

@@ -5,15 +5,15 @@ use Rattle.refusals.specs.Numbers.{too_much, no_room, no_log, most_log}
 use Rattle.refusals.specs.Outcome.{Outcome, answered, refused}
 use Rattle.whole.specs.Whole.{if◌then◌else◌}
 use Rattle.fields.specs.Fields.{le16, bytes16}
-use Rattle.log.specs.Layout.{mark, version, version_at, entries_at}
+use Rattle.journal.specs.Layout.{mark, version, version_at, entries_at}
 use Rattle.entries.specs.Layout.{entry_size}
 use Rattle.entries.specs.Entries.{entry_bytes, entry_at, EntryFits}
 use Rattle.canonical.specs.Canonical.{canonical}
 use Rattle.entries.specs.declared.Entry.{Entry}
-use Rattle.log.specs.declared.ReadLog.{ReadLog}
-use Rattle.log.specs.declared.ReadLog.TheVariants as read
-use Rattle.log.specs.declared.Appended.{Appended}
-use Rattle.log.specs.declared.Appended.TheVariants as appended
+use Rattle.journal.specs.declared.ReadLog.{ReadLog}
+use Rattle.journal.specs.declared.ReadLog.TheVariants as read
+use Rattle.journal.specs.declared.Appended.{Appended}
+use Rattle.journal.specs.declared.Appended.TheVariants as appended
 
 -- ---- writing
 

@@ -1,9 +1,9 @@
--- `log::is_marked` meets its contract: the tests are those of `is_marked`. Assumes nothing.
+-- `journal::is_marked` meets its contract: the tests are those of `is_marked`. Assumes nothing.
 use mathlib.Core.Path.{refl}
 use native.Mathlib.Omega.{arith}
-use Rattle.log.specs.Logs.{is_marked}
-use Rattle.log.proofs.is_marked.Statement.{statement}
-use Rattle.log.proofs.is_marked.Tie as tie
+use Rattle.journal.specs.Logs.{is_marked}
+use Rattle.journal.proofs.is_marked.Statement.{statement}
+use Rattle.journal.proofs.is_marked.Tie as tie
 
 returns : tie.Need-returns
 unfolding is_marked

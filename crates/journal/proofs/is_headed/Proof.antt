@@ -1,9 +1,9 @@
--- `log::is_headed` meets its contract: the tests are those of `is_headed`. Assumes nothing.
+-- `journal::is_headed` meets its contract: the tests are those of `is_headed`. Assumes nothing.
 use borrow.Author.Tests.{lt-ltb, le-ltb}
 use borrow.Author.Rules.{rules}
-use Rattle.log.specs.Logs.{is_headed}
-use Rattle.log.proofs.is_headed.Statement.{statement}
-use Rattle.log.proofs.is_headed.Tie as tie
+use Rattle.journal.specs.Logs.{is_headed}
+use Rattle.journal.proofs.is_headed.Statement.{statement}
+use Rattle.journal.proofs.is_headed.Tie as tie
 
 returns : tie.Need-returns
 unfolding is_headed
