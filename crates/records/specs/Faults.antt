@@ -6,8 +6,8 @@ use Rattle.whole.specs.Whole.{if◌then◌else◌, eq_z}
 use Rattle.records.specs.Records.{Record}
 
 -- the first refusal counts
-infixr 6 ◌orElse◌
-abbrev pub ◌orElse◌ : ℕ → ℕ → ℕ
+infixr 6 ◌or_else◌
+abbrev pub ◌or_else◌ : ℕ → ℕ → ℕ
 k or_else l = cond (eqb k 0) l k
 
 -- 4: a bound is negative, or the end is below the start

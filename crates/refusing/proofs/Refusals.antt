@@ -22,7 +22,7 @@ use Rattle.cigar.specs.Read.{read_text}
 use Rattle.spelling.specs.Write.{elements_text, given_from, elements_given, fitted, text_of, writing}
 use Rattle.words.specs.Words.{all_known, read_words, fault_of, fault_from, write_words}
 use Rattle.records.specs.Records.{Record, exactly}
-use Rattle.records.specs.Faults.{◌orElse◌, span_fault, start_fault, rise_fault, join_fault, own_fault, follow_fault, pair_fault, faults_after, faults}
+use Rattle.records.specs.Faults.{◌or_else◌, span_fault, start_fault, rise_fault, join_fault, own_fault, follow_fault, pair_fault, faults_after, faults}
 use Rattle.transcript.specs.Heads.{both_bits, start_of, end_of, strand_of}
 use Rattle.transcript.specs.laws.Heads.{plus_is}
 use Rattle.transcript.specs.declared.Bound.{Bound}

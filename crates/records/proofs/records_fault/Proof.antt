@@ -7,7 +7,7 @@ use native.Mathlib.Omega.{arith}
 use lib.ListN.{length}
 use Rattle.records.specs.Layout.{cigar_text}
 use Rattle.records.specs.Records.{next_at, record_at, records_from, exactly}
-use Rattle.records.specs.Faults.{◌orElse◌, own_fault, pair_fault, faults_after, faults}
+use Rattle.records.specs.Faults.{◌or_else◌, own_fault, pair_fault, faults_after, faults}
 use Rattle.records.specs.laws.Chain.{refuses, passes}
 use Rattle.records.specs.Walk.{Begins}
 use Rattle.records.specs.laws.Walk.{begins, faults_first, faults_one, faults_none, no_faults}

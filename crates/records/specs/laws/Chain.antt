@@ -3,7 +3,7 @@ use Rattle.std.specs.Prelude.{ℕ, ◌≡◌, eqb}
 use Rattle.std.proofs.Common.{eqb-true, eq-eqb, ne_eqb}
 use Rattle.std.proofs.lemmas.Bool.{eqb-false}
 use Rattle.whole.specs.laws.Whole.{by_test}
-use Rattle.records.specs.Faults.{◌orElse◌}
+use Rattle.records.specs.Faults.{◌or_else◌}
 
 -- a refusal counts
 pub refuses : {k x : ℕ} (l : ℕ) → k ≡ x → (k ≡ 0 → ⊥) → k ≡ x or_else l

@@ -8,7 +8,7 @@ use Rattle.whole.specs.Whole.{if◌then◌else◌}
 use Rattle.whole.specs.laws.Whole.{both}
 use Rattle.records.specs.Layout.{cigar_text}
 use Rattle.records.specs.Records.{Record, next_at, record_at, exactly, records_from}
-use Rattle.records.specs.Faults.{◌orElse◌, span_fault, start_fault, own_fault, pair_fault, faults_after, faults}
+use Rattle.records.specs.Faults.{◌or_else◌, span_fault, start_fault, own_fault, pair_fault, faults_after, faults}
 use Rattle.records.specs.laws.Chain.{clear}
 use Rattle.records.specs.Walk.{Begins, Placed, Beside, Ordered, Walk, Turn, Ready}
 
