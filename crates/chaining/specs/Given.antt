@@ -6,7 +6,7 @@ use Rattle.transcript.specs.Transcript.{Cds}
 use Rattle.transcript.specs.Transcript.Cds.{no_cds, cds}
 use Rattle.positions.specs.Positions.{Interval, GAsked, at, missing}
 use Rattle.chaining.specs.declared.Given.{Given}
-use Rattle.chaining.specs.declared.Given.TheVariants as given-case
+use Rattle.chaining.specs.declared.Given.TheVariants as given_case
 
 -- the two ends of a g. interval, or 19 where one is missing
 abbrev pub given_ends : GAsked → GAsked → Outcome (Interval ℤ)

@@ -3,28 +3,28 @@ use Rattle.std.specs.Prelude.{ℕ, Bool, true, false}
 use Rattle.refusals.specs.Outcome.{Outcome, answered, refused}
 use Rattle.positions.specs.Positions.{Interval, GAsked, at, missing, NAsked, CAsked, GPosition, NPosition, CPosition}
 use Rattle.positions.specs.Answers.{Answer, certainly, uncertainly, plainly}
-use Rattle.positions.specs.declared.GAsked as code-g-asked
-use Rattle.positions.specs.declared.GQuestion as code-g-question
-use Rattle.positions.specs.declared.NAsked as code-n-asked
-use Rattle.positions.specs.declared.NQuestion as code-n-question
-use Rattle.positions.specs.declared.CAsked as code-c-asked
-use Rattle.positions.specs.declared.CQuestion as code-c-question
-use Rattle.positions.specs.declared.GPosition as code-g
-use Rattle.positions.specs.declared.GInterval as code-g-interval
-use Rattle.positions.specs.declared.NPosition as code-n
-use Rattle.positions.specs.declared.NInterval as code-n-interval
-use Rattle.positions.specs.declared.CPosition as code-c
-use Rattle.positions.specs.declared.CInterval as code-c-interval
-use Rattle.positions.specs.declared.Exons as code-exons
-use Rattle.positions.specs.declared.GAnswer as code-g-answer
-use Rattle.positions.specs.declared.NAnswer as code-n-answer
-use Rattle.positions.specs.declared.CAnswer as code-c-answer
-use Rattle.positions.specs.declared.NPlain as code-n-plain
-use Rattle.positions.specs.declared.CPlain as code-c-plain
-use Rattle.positions.specs.declared.Said as code-said
-use Rattle.positions.specs.declared.fitting.GEnd as code-g-end
-use Rattle.positions.specs.declared.fitting.NEnd as code-n-end
-use Rattle.positions.specs.declared.fitting.CEnd as code-c-end
+use Rattle.positions.specs.declared.GAsked as code_g_asked
+use Rattle.positions.specs.declared.GQuestion as code_g_question
+use Rattle.positions.specs.declared.NAsked as code_n_asked
+use Rattle.positions.specs.declared.NQuestion as code_n_question
+use Rattle.positions.specs.declared.CAsked as code_c_asked
+use Rattle.positions.specs.declared.CQuestion as code_c_question
+use Rattle.positions.specs.declared.GPosition as code_g
+use Rattle.positions.specs.declared.GInterval as code_g_interval
+use Rattle.positions.specs.declared.NPosition as code_n
+use Rattle.positions.specs.declared.NInterval as code_n_interval
+use Rattle.positions.specs.declared.CPosition as code_c
+use Rattle.positions.specs.declared.CInterval as code_c_interval
+use Rattle.positions.specs.declared.Exons as code_exons
+use Rattle.positions.specs.declared.GAnswer as code_g_answer
+use Rattle.positions.specs.declared.NAnswer as code_n_answer
+use Rattle.positions.specs.declared.CAnswer as code_c_answer
+use Rattle.positions.specs.declared.NPlain as code_n_plain
+use Rattle.positions.specs.declared.CPlain as code_c_plain
+use Rattle.positions.specs.declared.Said as code_said
+use Rattle.positions.specs.declared.fitting.GEnd as code_g_end
+use Rattle.positions.specs.declared.fitting.NEnd as code_n_end
+use Rattle.positions.specs.declared.fitting.CEnd as code_c_end
 
 -- ---- what is asked
 

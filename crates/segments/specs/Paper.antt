@@ -6,9 +6,9 @@ use Rattle.segments.specs.Tables.{Tables, read}
 use Rattle.segments.specs.Places.{Spot, Edge, End, map_place}
 use Rattle.segments.specs.Places.End.{start, stop}
 use Rattle.segments.specs.declared.Spot as code
-use Rattle.segments.specs.declared.End as code-end
+use Rattle.segments.specs.declared.End as code_end
 use Rattle.segments.specs.declared.End.TheVariants.{Start, Stop}
-use Rattle.segments.specs.declared.Edge as code-edge
+use Rattle.segments.specs.declared.Edge as code_edge
 
 -- an interval's end
 abbrev pub end_said : code_end.End → End

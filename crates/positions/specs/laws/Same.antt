@@ -5,16 +5,16 @@ use Rattle.refusals.specs.Outcome.{Outcome, answered, refused}
 use Rattle.positions.specs.Positions.{Interval, GPosition, NPosition, CPosition}
 use Rattle.positions.specs.Answers.{Mark, certain, uncertain, unmarked, Answer}
 use Rattle.positions.specs.Paper.{paper_g, paper_n, paper_c, paper_n_plain, paper_c_plain, paper_said}
-use Rattle.positions.specs.declared.Exons as code-exons
-use Rattle.positions.specs.declared.GInterval as code-g
-use Rattle.positions.specs.declared.NInterval as code-n
-use Rattle.positions.specs.declared.CInterval as code-c
-use Rattle.positions.specs.declared.GAnswer as code-g-answer
-use Rattle.positions.specs.declared.NAnswer as code-n-answer
-use Rattle.positions.specs.declared.CAnswer as code-c-answer
-use Rattle.positions.specs.declared.NPlain as code-n-plain
-use Rattle.positions.specs.declared.CPlain as code-c-plain
-use Rattle.positions.specs.declared.Said as code-said
+use Rattle.positions.specs.declared.Exons as code_exons
+use Rattle.positions.specs.declared.GInterval as code_g
+use Rattle.positions.specs.declared.NInterval as code_n
+use Rattle.positions.specs.declared.CInterval as code_c
+use Rattle.positions.specs.declared.GAnswer as code_g_answer
+use Rattle.positions.specs.declared.NAnswer as code_n_answer
+use Rattle.positions.specs.declared.CAnswer as code_c_answer
+use Rattle.positions.specs.declared.NPlain as code_n_plain
+use Rattle.positions.specs.declared.CPlain as code_c_plain
+use Rattle.positions.specs.declared.Said as code_said
 
 -- a reading that can be undone reads no two values alike
 undone : {A B : Type 0} (read : A → B) (back : B → A) → ((a : A) → back (read a) ≡ a) → (x : B) (a b : A) → read a ≡ x → read b ≡ x → a ≡ b

@@ -51,13 +51,13 @@ use Rattle.worklist.specs.contracts.Steps as S
 use Rattle.worklist.proofs.Steps.TheLaws as S'
 use Rattle.entry.specs.Told.{told_steps, told_slots}
 use Rattle.lending.specs.contracts.head_of as reads
-use Rattle.lending.proofs.head_of.Symbol as reads-def
+use Rattle.lending.proofs.head_of.Symbol as reads_def
 use Rattle.lending.proofs.head_of.Symbol.{name as #reads}
-use Rattle.lending.proofs.head_of.Met as reads-thm
+use Rattle.lending.proofs.head_of.Met as reads_thm
 use Rattle.worklist.specs.contracts.answer_list as answers
-use Rattle.worklist.proofs.answer_list.Symbol as answers-def
+use Rattle.worklist.proofs.answer_list.Symbol as answers_def
 use Rattle.worklist.proofs.answer_list.Symbol.{name as #answers}
-use Rattle.worklist.proofs.answer_list.Met as answers-thm
+use Rattle.worklist.proofs.answer_list.Met as answers_thm
 use Rattle.entry.specs.contracts.slots.txc_worklist.Key.{name as #txc_worklist}
 use Rattle.entry.specs.contracts.slots.txc_worklist as f
 use Rattle.entry.proofs.slots.txc_worklist.Statement as stated

@@ -58,9 +58,9 @@ use Rattle.worklist.proofs.Values.{slot_size, none, only}
 use Rattle.worklist.specs.contracts.Slot as T
 use Rattle.worklist.proofs.Slot.TheLaws as T'
 use Rattle.worklist.specs.contracts.order.goes_on as goes_on
-use Rattle.worklist.proofs.order.goes_on.Symbol as goes-on-def
+use Rattle.worklist.proofs.order.goes_on.Symbol as goes_on_def
 use Rattle.worklist.proofs.order.goes_on.Symbol.{name as #goes_on}
-use Rattle.worklist.proofs.order.goes_on.Met as goes-on-thm
+use Rattle.worklist.proofs.order.goes_on.Met as goes_on_thm
 use Rattle.worklist.specs.contracts.order.never_falls.Key.{name as #never_falls}
 use Rattle.worklist.specs.contracts.order.never_falls as f
 use Rattle.worklist.proofs.order.never_falls.Statement as stated
