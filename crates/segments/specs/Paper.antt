@@ -18,8 +18,8 @@ end_said Stop = stop
 -- the edge of an N
 abbrev pub edge_said : code_edge.Edge → Edge
 edge_said code_edge.TheVariants.None = Edge.no_edge
-edge_said code_edge.TheVariants.Left = Edge.leftEdge
-edge_said code_edge.TheVariants.Right = Edge.rightEdge
+edge_said code_edge.TheVariants.Left = Edge.left_edge
+edge_said code_edge.TheVariants.Right = Edge.right_edge
 
 -- a spot
 abbrev pub spot_said : code.Spot → Spot
