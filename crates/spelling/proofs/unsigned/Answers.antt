@@ -8,18 +8,14 @@ use lib.Signed.{lt_z, non_neg}
 use mir.Syntax.{w32}
 use mir.Val.{Fits, SFits}
 use Rattle.whole.specs.laws.Whole.{read}
-use Rattle.spelling.proofs.unsigned.Statement.{statement}
-use Rattle.spelling.proofs.unsigned.Tie as tie
+use Rattle.spelling.proofs.unsigned.Goals as goal
 
 not_negative : (z : ℤ) → lt_z z (pos 0) ≡ false → SFits w32 z → T (non_neg z) × Fits w32 (nat_abs z)
 not_negative (pos n) h f = (tt, omega (arith, f.sfits))
 not_negative (negsuc n) h f = absurd (true≢false h)
 
-cast_result : tie.Need-overflow-cast-result
-cast_result c = rw (read c.ranges.count) (not_negative c.args.count c.requires c.ranges.count)
+pub overflow_cast-result : goal.overflow_cast-result
+overflow_cast-result c = rw (read c.ranges.count) (not_negative c.args.count c.requires c.ranges.count)
 
-returns : tie.Need-returns
+pub returns : goal.returns
 returns c = ap nat_abs (read c.ranges.count)
-
-pub unsigned_spec : {M : Type 1} → statement M
-unsigned_spec = tie.close (tie.spec cast_result returns)
