@@ -3,11 +3,7 @@ use native.Mathlib.Omega.{arith}
 use mir.Syntax.{w64}
 use mir.ValLaws.{to_z_pos}
 use borrow.Author.Rules.{rules}
-use Rattle.judging.proofs.signed.Statement.{statement}
-use Rattle.judging.proofs.signed.Tie as tie
+use Rattle.judging.proofs.signed.Goals as goal
 
-returns : tie.Need-returns
+pub returns : goal.returns
 returns c = to_z_pos w64 c.args.n (omega arith)
-
-pub signed_spec : {M : Type 1} → statement M
-signed_spec = tie.close (tie.spec (λ c. search rules) returns)
