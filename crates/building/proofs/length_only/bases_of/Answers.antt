@@ -2,16 +2,12 @@
 use native.Mathlib.Omega.{arith}
 use Rattle.whole.specs.laws.Whole.{order, read}
 use Rattle.whole.specs.laws.Machine.{cast_asks}
-use Rattle.building.proofs.length_only.bases_of.Statement.{statement}
-use Rattle.building.proofs.length_only.bases_of.Tie as tie
+use Rattle.building.proofs.length_only.bases_of.Goals as goal
 
-cast_result : tie.Need-overflow-cast-result
-cast_result c =
+pub overflow_cast-result : goal.overflow_cast-result
+overflow_cast-result c =
     let (positive, small) = cast_asks c.args.length c.ranges.length (omega order) in
     simp (read c.ranges.length) (positive, omega (arith, small.fits))
 
-returns : tie.Need-returns
+pub returns : goal.returns
 returns c = simp (read c.ranges.length)
-
-pub bases_of_spec : {M : Type 1} → statement M
-bases_of_spec = tie.close (tie.spec cast_result returns)
