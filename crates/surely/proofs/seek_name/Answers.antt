@@ -21,8 +21,7 @@ use Rattle.lone.specs.Lone.{SoughtAt}
 use Rattle.lone.specs.declared.Sought as code
 use Rattle.surely.specs.Surely.{Named, SoughtName}
 use borrow.Author.Rules.{rules}
-use Rattle.surely.proofs.seek_name.Statement.{statement}
-use Rattle.surely.proofs.seek_name.Tie as tie
+use Rattle.surely.proofs.seek_name.Goals as goal
 
 module _ (strict : Bool) (a : Alignment) (starts : List ℕ) where
   abbrev long : ℕ
@@ -37,34 +36,11 @@ module _ (strict : Bool) (a : Alignment) (starts : List ℕ) where
   by_name coding q p n (code.TheVariants.Inside r number) (e, seen) = (rw e n, seen)
   by_name coding q p n code.TheVariants.Other h = tt
 
-returns : tie.Need-returns
-returns c =
-    let l = c.before in
-    let n = l.before.before.before in
-    let e = n.before.before in
-    let t = e.before.before in
-    let d = t.before.before.before in
-    let same = sym t.before.is_same.ensures ∙ t.if1.true in
-    let position = sym (simp e.before.last.ensures at e.n-position.ensures) ∙ ap paper_n_end n.n.given.1 in
-    let place = simp (told w32 n.n.given.0.0.base l.before.struct_told.given.0.1, e.before.last.ensures) at l.place-of-n.ensures.0 in
-    let a = d.before.before.args in
-    let called = named a.strict a.at a.transcript.now d.cds.given.0.0 d.cds.given.0.1.0 _ _ _ same position in
-    rw d.cds.given.1 (by_name a.strict a.at a.transcript.now _ _ _ called c.seek.result (rw place at c.seek.ensures))
-
-pub seek_name_spec : {M : Type 1} → statement M
-seek_name_spec =
-    tie.close
-    (tie.spec
-    (λ c. search rules)
-    (λ c κs. search rules)
-    (λ c κs. search rules)
-    (λ c κs. search rules)
-    (λ c. search rules)
-    (λ c κs. search rules)
-    (λ c κs. search rules)
-    returns
-    (λ c. search rules)
-    (λ c. search rules)
-    (λ c. search rules)
-    (λ c. search rules)
-    (λ c. search rules))
+pub returns-in-At : goal.returns-in-At
+returns-in-At c =
+    let same = sym c.is_same.ensures ∙ c.if-is_same.true in
+    let position = sym (simp c.last-len.ensures at c.n_position.ensures) ∙ ap paper_n_end c.in-At.is in
+    let place = simp (told w32 c.in-At.n.base c.struct_told-1.given.0.1, c.last-len.ensures) at c.place_of_n.ensures.0 in
+    let a = c.args in
+    let called = named a.strict a.at a.transcript.now c.in-Cds.s c.in-Cds.e _ _ _ same position in
+    rw c.in-Cds.is (by_name a.strict a.at a.transcript.now _ _ _ called c.seek.result (rw place at c.seek.ensures))
