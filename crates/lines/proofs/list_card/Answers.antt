@@ -94,7 +94,7 @@ module _ (c : lts.After-count_in tie.the-claims tie.handed_pre tie.handed_post t
 
 pub put_listing-requires : goal.put_listing-requires
 put_listing-requires c =
-    let n = c.before.before.before in
+    let n = c.before.before in
     let h = known n in
     record { count_le_most_segments = (omega (arith, number_is n, (sane h).few), omega arith); holds = made_holds (thing h) (tables_are h) (number_is n) (sane h) }
 
@@ -106,7 +106,7 @@ shape_of-buffer-in-Transcript c = put_length c.put_listing.ensures.put
 
 pub returns-in-Transcript : goal.returns-in-Transcript
 returns-in-Transcript c =
-    let n = c.before.before.before.before.before.before in
+    let n = c.before.before.before.before.before in
     let h = known n in
     let e = made_listed (thing h) (tables_are h) (number_is n) (forward_is n) ∙ sym (ap judgment_text (makes_head h).judged) in
     let b = (call h).build_card.ensures in
