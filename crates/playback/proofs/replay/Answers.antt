@@ -11,7 +11,6 @@ use Rattle.journal.specs.Layout.{entries_at}
 use Rattle.journal.specs.Logs.{entries_from}
 use Rattle.playback.specs.laws.Replay.{replay_broken, replay_answered, replay_refused}
 use Rattle.playback.proofs.Reading.{Reads, reads, refuses}
-use borrow.Author.Rules.{rules}
 use Rattle.playback.proofs.replay.Goals as goal
 use Rattle.playback.proofs.replay.Tie as tie
 use Rattle.playback.proofs.replay.Lts as lts

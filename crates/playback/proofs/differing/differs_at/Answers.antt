@@ -7,7 +7,6 @@ use Rattle.entries.specs.Entries.{entry_at}
 use Rattle.entries.specs.declared.Entry.{Entry}
 use Rattle.asking.specs.Asking.{asked}
 use Rattle.playback.specs.Replay.{same_answer, differs}
-use borrow.Author.Rules.{rules}
 use Rattle.playback.proofs.differing.differs_at.Goals as goal
 use Rattle.playback.proofs.differing.differs_at.Goals.{After-is_same}
 

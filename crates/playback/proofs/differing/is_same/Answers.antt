@@ -1,7 +1,6 @@
 -- `playback::differing::is_same` meets its contract: the tests are those of the definition.
 -- Assumes nothing.
 use Rattle.playback.specs.Replay.{same_answer}
-use borrow.Author.Rules.{rules}
 use Rattle.playback.proofs.differing.is_same.Goals as goal
 
 pub returns : goal.returns

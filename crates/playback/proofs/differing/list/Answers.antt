@@ -16,7 +16,6 @@ use Rattle.playback.specs.Lines.{line_of, most_replay}
 use Rattle.playback.specs.Replay.{replay_text}
 use Rattle.playback.specs.laws.Replay.{text_length, replay_short}
 use Rattle.playback.proofs.Walk.{found}
-use borrow.Author.Rules.{rules}
 use Rattle.playback.proofs.differing.list.Goals as goal
 use Rattle.playback.proofs.differing.list.Tie as tie
 use Rattle.playback.proofs.differing.list.Lts as lts

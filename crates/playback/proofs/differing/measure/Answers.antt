@@ -2,14 +2,12 @@
 -- Assumes nothing.
 use mathlib.Core.Path.{◌≡◌, sym, ap, ◌∙◌}
 use mathlib.Core.Bool.{Bool}
-use Prim.Native.Nat.{◌*◌, ◌-◌, ◌≤◌}
 use native.Mathlib.Omega.{arith}
 use lib.ListN.{length}
 use Rattle.holding.specs.Holding.{Lent, lent}
 use Rattle.layout.specs.Layout.{star_of}
-use Rattle.playback.specs.Lines.{lines_of, index_if, most_line}
-use Rattle.playback.proofs.Walk.{found, differs_at, none_found, lines_none, total_more, size_more, one_at_most}
-use borrow.Author.Rules.{rules}
+use Rattle.playback.specs.Lines.{lines_of, index_if}
+use Rattle.playback.proofs.Walk.{differs_at, none_found, lines_none, total_more, size_more, one_at_most}
 use Rattle.playback.proofs.differing.measure.Goals as goal
 use Rattle.playback.proofs.differing.measure.Goals.{Start}
 

@@ -1,15 +1,11 @@
 -- `playback::differing::measure` meets its contract. The loop's invariant: the total and the size are those of the entries passed.
 -- Assumes nothing.
-use mathlib.Core.Path.{◌≡◌, sym, ap, ◌∙◌}
-use mathlib.Core.Bool.{Bool}
+use mathlib.Core.Path.{◌≡◌}
 use Prim.Native.Nat.{◌*◌, ◌-◌, ◌≤◌}
-use native.Mathlib.Omega.{arith}
 use lib.ListN.{length}
-use Rattle.holding.specs.Holding.{Lent, lent}
-use Rattle.layout.specs.Layout.{star_of}
-use Rattle.playback.specs.Lines.{lines_of, index_if, most_line}
-use Rattle.playback.proofs.Walk.{found, differs_at, none_found, lines_none, total_more, size_more, one_at_most}
-use borrow.Author.Rules.{rules}
+use Rattle.holding.specs.Holding.{lent}
+use Rattle.playback.specs.Lines.{lines_of, most_line}
+use Rattle.playback.proofs.Walk.{found}
 use Rattle.playback.proofs.differing.measure.Given as goal
 
 abbrev pub invariant-loop-i : goal.invariant-loop-i

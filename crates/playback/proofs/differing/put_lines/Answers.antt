@@ -2,7 +2,7 @@
 -- Assumes nothing.
 use mathlib.Core.Path.{◌≡◌, sym, ap}
 use mathlib.Core.Bool.{Bool}
-use Prim.Native.Nat.{◌+◌, ◌-◌, ◌≤◌}
+use Prim.Native.Nat.{◌+◌}
 use native.Mathlib.Omega.{arith}
 use lib.ListN.{length}
 use Rattle.holding.specs.Holding.{Lent, lent}
@@ -10,7 +10,6 @@ use Rattle.card.specs.Putting.{Put}
 use Rattle.card.specs.laws.Putting.{none_put, then_put, put_length, put_as}
 use Rattle.playback.specs.Lines.{lines_of, index_if}
 use Rattle.playback.proofs.Walk.{found, differs_at, lines_none, lines_more, size_more, lines_front}
-use borrow.Author.Rules.{rules}
 use Rattle.playback.proofs.differing.put_lines.Goals as goal
 use Rattle.playback.proofs.differing.put_lines.Tie as tie
 use Rattle.playback.proofs.differing.put_lines.Lts as lts

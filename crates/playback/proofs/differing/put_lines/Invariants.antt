@@ -1,16 +1,10 @@
 -- `playback::differing::put_lines` meets its contract. The loop's invariant: the lines of the entries passed are put.
 -- Assumes nothing.
-use mathlib.Core.Path.{◌≡◌, sym, ap}
-use mathlib.Core.Bool.{Bool}
-use Prim.Native.Nat.{◌+◌, ◌-◌, ◌≤◌}
-use native.Mathlib.Omega.{arith}
-use lib.ListN.{length}
-use Rattle.holding.specs.Holding.{Lent, lent}
+use Prim.Native.Nat.{◌-◌, ◌≤◌}
+use Rattle.holding.specs.Holding.{lent}
 use Rattle.card.specs.Putting.{Put}
-use Rattle.card.specs.laws.Putting.{none_put, then_put, put_length, put_as}
-use Rattle.playback.specs.Lines.{lines_of, index_if}
-use Rattle.playback.proofs.Walk.{found, differs_at, lines_none, lines_more, size_more, lines_front}
-use borrow.Author.Rules.{rules}
+use Rattle.playback.specs.Lines.{lines_of}
+use Rattle.playback.proofs.Walk.{found}
 use Rattle.playback.proofs.differing.put_lines.Given as goal
 
 abbrev pub invariant-loop-index : goal.invariant-loop-index

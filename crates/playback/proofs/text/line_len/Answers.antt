@@ -2,7 +2,6 @@
 -- Assumes nothing.
 use native.Mathlib.Omega.{arith}
 use Rattle.playback.specs.laws.Lines.{line_length}
-use borrow.Author.Rules.{rules}
 use Rattle.playback.proofs.text.line_len.Goals as goal
 
 pub returns : goal.returns
