@@ -1,7 +1,6 @@
 -- Which refusal of the join comes first, by what the code has at hand. Assumes nothing.
-use Rattle.std.specs.Prelude.{ℕ, Bool, false, not, eqb, ltb}
+use Rattle.std.specs.Prelude.{ℕ, Bool, false, not, eqb, ltb, if◌then◌else◌}
 use Rattle.refusals.specs.Numbers.{no_room, no_base, not_together}
-use Rattle.whole.specs.Whole.{if◌then◌else◌}
 use Rattle.transcript.specs.declared.Head.{Head}
 use Rattle.holding.specs.Holding.{of_records, is_forward}
 

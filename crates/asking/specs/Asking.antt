@@ -1,8 +1,7 @@
 -- A question of one of the six mappings as one value, asked of what is lent. Assumes nothing.
-use Rattle.std.specs.Prelude.{ℕ, ◌/◌, ◌%◌, Bool, false, cond, List, eqb, ℤ, pos}
+use Rattle.std.specs.Prelude.{ℕ, ◌/◌, ◌%◌, Bool, false, cond, List, eqb, ℤ, pos, if◌then◌else◌}
 use Rattle.refusals.specs.Numbers.{no_log}
 use Rattle.refusals.specs.Outcome.{Outcome, refused}
-use Rattle.whole.specs.Whole.{if◌then◌else◌}
 use Rattle.holding.specs.Holding.{Lent, checked}
 use Rattle.mapper.specs.Asking.{ask_g_to_n, ask_n_to_g, ask_n_to_c, ask_c_to_n, ask_g_to_c, ask_c_to_g}
 use Rattle.layout.specs.Layout.{star_of, g_laid, n_laid, c_laid, refusal, laid}

@@ -1,8 +1,8 @@
 -- A card: what building's input is written as, and what bytes read as. Assumes nothing.
-use Rattle.std.specs.Prelude.{ℕ, ◌+◌, ◌*◌, Bool, ◌&&◌, not, List, [], ◌∷◌, ◌++◌, eqb, ltb, leb, ℤ, pos, length, get_or, drop}
+use Rattle.std.specs.Prelude.{ℕ, ◌+◌, ◌*◌, Bool, ◌&&◌, not, List, [], ◌∷◌, ◌++◌, eqb, ltb, leb, ℤ, pos, length, get_or, drop, if◌then◌else◌}
 use Rattle.refusals.specs.Numbers.{too_much, no_card, bad_version, most_card}
 use Rattle.refusals.specs.Outcome.{Outcome, answered, refused}
-use Rattle.whole.specs.Whole.{if◌then◌else◌, eq_z}
+use Rattle.whole.specs.Whole.{eq_z}
 use Rattle.fields.specs.Fields.{le16, bytes16, bytes32, bits32}
 use Rattle.records.specs.Records.{Record, field_at, record_text, exactly}
 use Rattle.transcript.specs.Heads.{both_bits, start_of, end_of, strand_of, number_of}

@@ -6,6 +6,7 @@
 --     other_step      it is neither
 --     cut_off         the text ends inside an element
 -- Assumes nothing.
+use Rattle.std.specs.Prelude.{if◌then◌else◌}
 use mathlib.Core.Path.{◌≡◌, refl, ap₂}
 use mathlib.Core.Bool.{Bool, true, false}
 use mathlib.Core.List.{List, [], ◌∷◌}
@@ -19,7 +20,6 @@ use lib.Seq.{drop-cons}
 use borrow.Author.Tests.{lt-ltb}
 use Rattle.cigar.specs.declared.Step.{Step}
 use Rattle.cigar.specs.declared.Step.TheVariants.{Refused, End}
-use Rattle.whole.specs.Whole.{if◌then◌else◌}
 use Rattle.refusals.specs.Numbers.{no_element, most_count}
 use Rattle.cigar.specs.Elements.{is_letter}
 use Rattle.cigar.specs.Text.{is_digit, count_of, finished, element_from, step_of, step_at}

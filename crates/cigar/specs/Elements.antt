@@ -1,6 +1,5 @@
 -- Elements of a CIGAR: the six letters, and how far an element goes on the two sides. Assumes nothing.
-use Rattle.std.specs.Prelude.{ℕ, ◌+◌, List, [], ◌∷◌, eqb, Bool, ◌||◌}
-use Rattle.whole.specs.Whole.{if◌then◌else◌}
+use Rattle.std.specs.Prelude.{ℕ, ◌+◌, List, [], ◌∷◌, eqb, Bool, ◌||◌, if◌then◌else◌}
 
 -- one element: its count and its letter's byte
 pub record Element : Type 0 where

@@ -1,7 +1,6 @@
 -- A CIGAR text alone, read into two lent tables, one of counts and one of letters. Assumes nothing.
-use Rattle.std.specs.Prelude.{◌≡◌, List, map, ℕ, ltb, ℤ, pos, length}
+use Rattle.std.specs.Prelude.{◌≡◌, List, map, ℕ, ltb, ℤ, pos, length, if◌then◌else◌}
 use Rattle.std.proofs.lemmas.List.Edits.{sets}
-use Rattle.whole.specs.Whole.{if◌then◌else◌}
 use Rattle.refusals.specs.Numbers.{too_much, most_text, most_segments}
 use Rattle.refusals.specs.Outcome.{answered, refused}
 use Rattle.cigar.specs.Elements.{Element}

@@ -1,6 +1,5 @@
 -- CIGAR text: what one element reads as, and what a whole text reads as, with room for a number of segments. Assumes nothing.
-use Rattle.std.specs.Prelude.{ℕ, ◌+◌, ◌-◌, ◌*◌, List, [], ◌∷◌, Bool, true, false, ◌&&◌, drop, length, leb, ltb, eqb}
-use Rattle.whole.specs.Whole.{if◌then◌else◌}
+use Rattle.std.specs.Prelude.{ℕ, ◌+◌, ◌-◌, ◌*◌, List, [], ◌∷◌, Bool, true, false, ◌&&◌, drop, length, leb, ltb, eqb, if◌then◌else◌}
 use Rattle.refusals.specs.Numbers.{no_element, bad_count, too_much, most_count}
 use Rattle.refusals.specs.Outcome.{Outcome, answered, refused, through}
 use Rattle.cigar.specs.Elements.{Element, is_letter}

@@ -1,10 +1,10 @@
 -- Between n. and c., with the transcript's length and its CDS. `strict` is true in strict mode. Assumes nothing.
-use Rattle.std.specs.Prelude.{ℕ, Bool, ◌&&◌, ◌||◌, ℤ, pos}
+use Rattle.std.specs.Prelude.{ℕ, Bool, ◌&&◌, ◌||◌, ℤ, pos, if◌then◌else◌}
 use Rattle.std.specs.Bool.{beq}
 use Rattle.std.specs.Int.Signed.{lt_z, le_z}
 use Rattle.refusals.specs.Numbers.{not_coding, n_outside, c_outside}
 use Rattle.refusals.specs.Outcome.{Outcome, refused}
-use Rattle.whole.specs.Whole.{if◌then◌else◌, eq_z}
+use Rattle.whole.specs.Whole.{eq_z}
 use Rattle.numbering.specs.Numbers.{c_of_n, n_of_c}
 use Rattle.positions.specs.Positions.{Interval, each, NAsked, CAsked, NPosition, CPosition}
 use Rattle.positions.specs.Answers.{unmarked, Answer, plainly, ends, n_fits, c_fits, if_fits, fitting}

@@ -1,6 +1,6 @@
 -- Rows about CIGAR words of BAM: how words are laid out in a row's bytes, and what the slices that are lent for words and elements are to hold. Assumes nothing.
-use Rattle.std.specs.Prelude.{ℕ, zero, suc, ◌*◌, ◌/◌, Bool, false, ◌&&◌, List, ltb, leb, eqb, ℤ, pos, length, get_or, set, replicate}
-use Rattle.whole.specs.Whole.{if◌then◌else◌, eq_z}
+use Rattle.std.specs.Prelude.{ℕ, zero, suc, ◌*◌, ◌/◌, Bool, false, ◌&&◌, List, ltb, leb, eqb, ℤ, pos, length, get_or, set, replicate, if◌then◌else◌}
+use Rattle.whole.specs.Whole.{eq_z}
 use Rattle.fields.specs.Fields.{le32}
 use Rattle.refusals.specs.Numbers.{most_segments}
 use Rattle.cigar.specs.Text.{Reading, counted_of}

@@ -1,6 +1,6 @@
 -- Rows about CIGAR text, written cards and alleles: how elements are laid out in a row's bytes, and what a buffer is to hold. Assumes nothing.
-use Rattle.std.specs.Prelude.{ℕ, zero, suc, ◌+◌, ◌*◌, ◌/◌, Bool, false, ◌&&◌, List, [], ltb, leb, eqb, ℤ, pos, length, get_or, set, replicate}
-use Rattle.whole.specs.Whole.{if◌then◌else◌, eq_z}
+use Rattle.std.specs.Prelude.{ℕ, zero, suc, ◌+◌, ◌*◌, ◌/◌, Bool, false, ◌&&◌, List, [], ltb, leb, eqb, ℤ, pos, length, get_or, set, replicate, if◌then◌else◌}
+use Rattle.whole.specs.Whole.{eq_z}
 use Rattle.sequences.specs.Alleles.{prefix_len, suffix_len, changed_part}
 use Rattle.fields.specs.Fields.{le32, signed32}
 use Rattle.refusals.specs.Numbers.{most_segments}

@@ -1,7 +1,6 @@
 -- Which segment of a table a place lies in. A table is the list of its entries: segment i begins at entry i and ends at entry i + 1. A place is a whole number, zero-based. Assumes nothing.
-use Rattle.std.specs.Prelude.{ℕ, zero, suc, ◌+◌, ◌-◌, ◌≤◌, ◌<◌, Bool, List, ℤ, pos, get_or}
+use Rattle.std.specs.Prelude.{ℕ, zero, suc, ◌+◌, ◌-◌, ◌≤◌, ◌<◌, Bool, List, ℤ, pos, get_or, if◌then◌else◌}
 use Rattle.std.specs.Int.Signed.{lt_z}
-use Rattle.whole.specs.Whole.{if◌then◌else◌}
 
 -- of the first n + 1 entries none is below the one before it
 pub record Rising (entries : List ℕ) (n : ℕ) : Type 0 where

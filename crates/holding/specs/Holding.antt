@@ -1,9 +1,9 @@
 -- Refusal 23: when a transcript that a host lends holds together, and what it then stands for. Assumes nothing.
-use Rattle.std.specs.Prelude.{ℕ, ◌+◌, Bool, false, ◌&&◌, ◌||◌, List, leb, pos, negsuc, nat_abs, get_or}
+use Rattle.std.specs.Prelude.{ℕ, ◌+◌, Bool, false, ◌&&◌, ◌||◌, List, leb, pos, negsuc, nat_abs, get_or, if◌then◌else◌}
 use Rattle.std.specs.Int.Signed.{le_z}
 use Rattle.refusals.specs.Numbers.{most_records, most_segments, most_bases, not_together}
 use Rattle.refusals.specs.Outcome.{Outcome, refused}
-use Rattle.whole.specs.Whole.{if◌then◌else◌, eq_z}
+use Rattle.whole.specs.Whole.{eq_z}
 use Rattle.segments.specs.Tables.{Tables, tables, segments_hold, read}
 use Rattle.segments.specs.Exons.{read_numbers, numbers_hold}
 use Rattle.transcript.specs.Transcript.{Transcript, Source, Cds}

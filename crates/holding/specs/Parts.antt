@@ -1,8 +1,7 @@
 -- The parts by which what a host lends is judged: how many bases there are, and whether the tables hold. Assumes nothing.
-use Rattle.std.specs.Prelude.{ℕ, Bool, ◌&&◌, List, pos, nat_abs, get_or}
+use Rattle.std.specs.Prelude.{ℕ, Bool, ◌&&◌, List, pos, nat_abs, get_or, if◌then◌else◌}
 use Rattle.std.specs.Int.Signed.{le_z}
 use Rattle.refusals.specs.Numbers.{most_bases}
-use Rattle.whole.specs.Whole.{if◌then◌else◌}
 use Rattle.segments.specs.Tables.{Tables, segments_hold}
 use Rattle.segments.specs.Exons.{numbers_hold}
 use Rattle.transcript.specs.declared.Head.{Head}

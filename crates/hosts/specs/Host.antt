@@ -2,10 +2,9 @@
 --     HostSees             each answer is the mapper's about the transcript that the records, or the card, lay out
 --     HostSeesLength      and its answer about a length
 --     Host2, Host3        demands 2 and 3 in the numbers that the host is told
-use Rattle.std.specs.Prelude.{ℕ, ◌+◌, Bool, List, map, ◌≡◌, ℤ}
+use Rattle.std.specs.Prelude.{ℕ, ◌+◌, Bool, List, map, ◌≡◌, ℤ, if◌then◌else◌}
 use Rattle.refusals.specs.Numbers.{no_genome, falling}
 use Rattle.refusals.specs.Outcome.{Outcome, answered, refused, and_then, through}
-use Rattle.whole.specs.Whole.{if◌then◌else◌}
 use Rattle.segments.specs.Tables.{Tables}
 use Rattle.transcript.specs.Transcript.{Transcript, Cds, genome_length}
 use Rattle.transcript.specs.Transcript.Cds.{cds}

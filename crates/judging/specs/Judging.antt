@@ -1,9 +1,9 @@
 -- Building's judgment: the first refusal in document 01's order, or what is to be built. Assumes nothing.
-use Rattle.std.specs.Prelude.{ℕ, ◌+◌, Bool, true, false, not, List, eqb, ltb, ℤ, pos, negsuc, nat_abs, length}
+use Rattle.std.specs.Prelude.{ℕ, ◌+◌, Bool, true, false, not, List, eqb, ltb, ℤ, pos, negsuc, nat_abs, length, if◌then◌else◌}
 use Rattle.std.specs.Int.Signed.{lt_z}
 use Rattle.refusals.specs.Numbers.{no_records, no_strand, too_much, bad_bound, too_long, no_segment, half_cds, bad_cds, no_card, not_together, most_records, most_bases}
 use Rattle.refusals.specs.Outcome.{Outcome, answered, refused, unless}
-use Rattle.whole.specs.Whole.{if◌then◌else◌, eq_z}
+use Rattle.whole.specs.Whole.{eq_z}
 use Rattle.cigar.specs.Elements.{Element, genome, transcript, total}
 use Rattle.records.specs.Records.{exactly}
 use Rattle.records.specs.Faults.{faults}

@@ -1,7 +1,6 @@
 -- What is known of what a host lends, as the code holds it. Assumes nothing.
-use Rattle.std.specs.Prelude.{ℕ, true, List, ◌≡◌, pos, nat_abs}
+use Rattle.std.specs.Prelude.{ℕ, true, List, ◌≡◌, pos, nat_abs, if◌then◌else◌}
 use Rattle.std.specs.Int.Signed.{le_z}
-use Rattle.whole.specs.Whole.{if◌then◌else◌}
 use Rattle.transcript.specs.Transcript.{Cds}
 use Rattle.transcript.specs.Transcript.Cds.{no_cds, cds}
 use Rattle.transcript.specs.declared.Head.{Head}

@@ -1,7 +1,6 @@
 -- The listing of a transcript, and what stands in its place where a card is refused: bytes, each line ended by a newline. Assumes nothing.
-use Rattle.std.specs.Prelude.{ℕ, ◌+◌, Bool, List, [], ◌∷◌, ◌++◌, length}
+use Rattle.std.specs.Prelude.{ℕ, ◌+◌, Bool, List, [], ◌∷◌, ◌++◌, length, if◌then◌else◌}
 use Rattle.refusals.specs.Outcome.{Outcome, answered, refused}
-use Rattle.whole.specs.Whole.{if◌then◌else◌}
 use Rattle.cigar.specs.Elements.{Element, genome, transcript, total}
 use Rattle.spelling.specs.Write.{decimal}
 use Rattle.judging.specs.Judging.{Made, elements_made}

@@ -1,6 +1,5 @@
 -- Cards that stand one after the other, each with its size before it, and what listing them in turn leaves in lent memory. Assumes nothing.
-use Rattle.std.specs.Prelude.{ℕ, zero, suc, ◌+◌, ◌-◌, Bool, ◌||◌, List, [], ◌∷◌, ltb, length, take, drop}
-use Rattle.whole.specs.Whole.{if◌then◌else◌}
+use Rattle.std.specs.Prelude.{ℕ, zero, suc, ◌+◌, ◌-◌, Bool, ◌||◌, List, [], ◌∷◌, ltb, length, take, drop, if◌then◌else◌}
 use Rattle.fields.specs.Fields.{le32}
 use Rattle.cigar.specs.Lent.{at_front}
 use Rattle.segments.specs.Tables.{Tables}

@@ -1,7 +1,7 @@
 -- That the pass over the exon numbers decides. Where no step is above 1, a number is no further from the end that is 1 than there are segments between, so none comes near to wrapping, and the steps are what they seem. Assumes nothing.
+use Rattle.std.specs.Prelude.{if◌then◌else◌}
 use Rattle.std.proofs.Common.{◌≡◌, ℕ, zero, suc, ◌+◌, ◌-◌, ◌^◌, ◌<◌, ◌≤◌, Bool, true, false, cond, ◌&&◌, ◌||◌, eqb, ltb, leb, List, get_or, sym, ap, ◌∙◌, subst, add-one, arith, ltb-false, ltb-true, le-ltb, lt-ltb, eq-eqb, eqb-true, le-leb, leb-true}
 use borrow.Author.Tests.{eqb-false}
-use Rattle.whole.specs.Whole.{if◌then◌else◌}
 use Rattle.whole.specs.laws.Whole.{by_test, both, both_of}
 use Rattle.cigar.specs.Elements.{letter_n}
 use Rattle.segments.specs.Tables.{all_below}

@@ -1,6 +1,5 @@
 -- Exon numbers as the machine steps from one to the next: by differences that may wrap. Assumes nothing.
-use Rattle.std.specs.Prelude.{ℕ, ◌+◌, ◌-◌, ◌^◌, Bool, cond, List, ◌==◌, nat_le, slice_index}
-use Rattle.whole.specs.Whole.{if◌then◌else◌}
+use Rattle.std.specs.Prelude.{ℕ, ◌+◌, ◌-◌, ◌^◌, Bool, cond, List, ◌==◌, nat_le, slice_index, if◌then◌else◌}
 use Rattle.cigar.specs.Elements.{letter_n}
 
 -- the difference of two numbers of 16 bits; one that would be negative wraps

@@ -1,7 +1,6 @@
 -- The three units and the crossings between them, as the document has them. All numbers are whole numbers, ℤ.
-use Rattle.std.specs.Prelude.{true, false, ℤ, pos, ◌+ℤ◌, ◌-ℤ◌}
+use Rattle.std.specs.Prelude.{true, false, ℤ, pos, ◌+ℤ◌, ◌-ℤ◌, if◌then◌else◌}
 use Rattle.std.specs.Int.Signed.{le_z, lt_z}
-use Rattle.whole.specs.Whole.{if◌then◌else◌}
 use Rattle.numbering.specs.declared.CNumber.{CNumber}
 
 -- Zero-based to n.: at 0 or above add 1, below 0 keep.

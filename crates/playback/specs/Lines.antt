@@ -1,6 +1,5 @@
 -- Lines of numbers, and how long they are at most. Assumes nothing.
-use Rattle.std.specs.Prelude.{ℕ, ◌+◌, ◌*◌, ◌-◌, Bool, List, [], ◌∷◌, ◌++◌}
-use Rattle.whole.specs.Whole.{if◌then◌else◌}
+use Rattle.std.specs.Prelude.{ℕ, ◌+◌, ◌*◌, ◌-◌, Bool, List, [], ◌∷◌, ◌++◌, if◌then◌else◌}
 use Rattle.spelling.specs.Write.{decimal}
 
 -- a number in decimal and the newline

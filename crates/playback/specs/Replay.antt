@@ -1,8 +1,8 @@
 -- A log replayed on a transcript that is lent: which answers differ, and what is written of them. Assumes nothing.
-use Rattle.std.specs.Prelude.{ℕ, ◌+◌, Bool, not, ◌&&◌, List, [], ◌∷◌, ◌++◌, eqb, ltb, length}
+use Rattle.std.specs.Prelude.{ℕ, ◌+◌, Bool, not, ◌&&◌, List, [], ◌∷◌, ◌++◌, eqb, ltb, length, if◌then◌else◌}
 use Rattle.refusals.specs.Numbers.{no_room}
 use Rattle.refusals.specs.Outcome.{Outcome, answered, refused, and_then, through}
-use Rattle.whole.specs.Whole.{if◌then◌else◌, eq_z}
+use Rattle.whole.specs.Whole.{eq_z}
 use Rattle.transcript.specs.Transcript.{Source}
 use Rattle.holding.specs.Holding.{Lent, checked}
 use Rattle.layout.specs.declared.lay.Position.{Position}

@@ -1,8 +1,7 @@
 -- A log replayed on the transcript that a card makes, and the two as one input of bytes. Assumes nothing.
-use Rattle.std.specs.Prelude.{ℕ, ◌+◌, ◌-◌, List, ltb, length, take, drop}
+use Rattle.std.specs.Prelude.{ℕ, ◌+◌, ◌-◌, List, ltb, length, take, drop, if◌then◌else◌}
 use Rattle.refusals.specs.Numbers.{too_much, no_card, most_segments, most_card}
 use Rattle.refusals.specs.Outcome.{Outcome, answered, refused, and_then}
-use Rattle.whole.specs.Whole.{if◌then◌else◌}
 use Rattle.fields.specs.Fields.{le32}
 use Rattle.segments.specs.Tables.{padded, tables_of}
 use Rattle.transcript.specs.Building.{numbers_of}

@@ -1,8 +1,7 @@
 -- What a mapping is answered with: an interval with its mark, or the number of a refusal; and refusal 17. Assumes nothing.
-use Rattle.std.specs.Prelude.{ℕ, Bool, true, cond, ◌&&◌, ◌≡◌}
+use Rattle.std.specs.Prelude.{ℕ, Bool, true, cond, ◌&&◌, ◌≡◌, if◌then◌else◌}
 use Rattle.refusals.specs.Numbers.{too_wide}
 use Rattle.refusals.specs.Outcome.{Outcome, answered, refused, and_then, through, both}
-use Rattle.whole.specs.Whole.{if◌then◌else◌}
 use Rattle.whole.specs.Fits.{fits}
 use Rattle.positions.specs.Positions.{Interval, each, GPosition, NPosition, CPosition}
 

@@ -1,4 +1,5 @@
 -- What the promises shut out: a mapper that refuses everything, one that always says n.1, one that on strand -1 does not exchange the ends, and one that always says exon 1, whatever else they answer. Assumes nothing.
+use Rattle.std.specs.Prelude.{if◌then◌else◌}
 use Prim.Native.Nat.{ℕ}
 use native.Mathlib.Omega.{arith}
 use mathlib.Core.Bool.{Bool}
@@ -7,7 +8,6 @@ use mathlib.Core.Path.{◌≡◌, sym, ap, ◌∙◌}
 use lib.IntN.{ℤ, pos}
 use lib.ListN.{get_or}
 use Rattle.refusals.specs.Outcome.{answered, refused, through}
-use Rattle.whole.specs.Whole.{if◌then◌else◌}
 use Rattle.whole.specs.laws.Whole.{order}
 use Rattle.whole.specs.Fits.{fit_of, fits}
 use Rattle.numbering.specs.Numbers.{n_of_place, place_of_n}

@@ -1,4 +1,5 @@
 -- Demand 2: in strict mode each base of a matched column, and each base of an intron between matched columns, maps to n. and c. and back to itself, on either strand; an intron base counts from the nearest exon base, halfway from the upstream one. Assumes nothing.
+use Rattle.std.specs.Prelude.{if◌then◌else◌}
 use Prim.Native.Nat.{ℕ, ◌+◌, ◌-◌, ◌≤◌, ◌<◌}
 use native.Mathlib.Omega.{arith}
 use mathlib.Core.Bool.{Bool, true, false}
@@ -7,7 +8,6 @@ use mathlib.Core.Path.{◌≡◌, refl, sym, ap, ◌∙◌}
 use lib.IntN.{ℤ, pos, neg_ℤ, neg_ℤ-neg_ℤ, ◌+ℤ◌, ◌-ℤ◌}
 use lib.ListN.{length}
 use borrow.Author.Tests.{leb-true, leb-false}
-use Rattle.whole.specs.Whole.{if◌then◌else◌}
 use Rattle.whole.specs.laws.Whole.{by_test, order, sum, dif, neg}
 use Rattle.cigar.specs.Elements.{Element, kind_of, kind, genome, transcript, total}
 use Rattle.cigar.specs.Elements.Kind.{matches, skips}

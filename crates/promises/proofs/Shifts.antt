@@ -1,10 +1,10 @@
 -- What stays when bases are added upstream, the c. number of a place; and what goes up with them, the n. number of a place and of a c. number. Assumes nothing.
+use Rattle.std.specs.Prelude.{if◌then◌else◌}
 use Prim.Native.Nat.{ℕ, ◌+◌}
 use mathlib.Core.Bool.{Bool, true, false, cond}
 use mathlib.Core.Path.{◌≡◌, refl, sym, ◌∙◌}
 use lib.IntN.{ℤ, pos, ◌+ℤ◌, ◌-ℤ◌}
 use lib.Signed.{le_z, lt_z}
-use Rattle.whole.specs.Whole.{if◌then◌else◌}
 use Rattle.whole.specs.laws.Whole.{by_test, order, sum, dif}
 use Rattle.numbering.specs.Numbers.{n_of_place, plain_c, star_c, c_of_n, n_of_c, skip_zero}
 use Rattle.numbering.specs.declared.CNumber.{CNumber}

@@ -1,6 +1,5 @@
 -- How HGVS names a base, the bases that demand 2 speaks of, and their exon numbers, in words of their own: they are counted over the elements, and no rule of the mapper is used. Assumes nothing.
-use Rattle.std.specs.Prelude.{ℕ, ◌+◌, ◌-◌, ◌<◌, Bool, true, false, ◌||◌, List, [], ◌∷◌, ◌++◌, reverse, ◌≡◌, eqb, leb, ltb, ℤ, pos, neg_ℤ, length}
-use Rattle.whole.specs.Whole.{if◌then◌else◌}
+use Rattle.std.specs.Prelude.{ℕ, ◌+◌, ◌-◌, ◌<◌, Bool, true, false, ◌||◌, List, [], ◌∷◌, ◌++◌, reverse, ◌≡◌, eqb, leb, ltb, ℤ, pos, neg_ℤ, length, if◌then◌else◌}
 use Rattle.numbering.specs.Numbers.{plain_c, star_c}
 use Rattle.numbering.specs.declared.CNumber.{CNumber}
 use Rattle.cigar.specs.Elements.{Element, letter_equal, letter_m, letter_n, letter_x, genome, transcript, total}

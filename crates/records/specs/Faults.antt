@@ -1,8 +1,8 @@
 -- Refusals 4, 5 and 6: what is asked of a record, and of it beside the one before it. 0 is no refusal. Assumes nothing.
-use Rattle.std.specs.Prelude.{ℕ, Bool, cond, List, [], ◌∷◌, eqb, ℤ, pos}
+use Rattle.std.specs.Prelude.{ℕ, Bool, cond, List, [], ◌∷◌, eqb, ℤ, pos, if◌then◌else◌}
 use Rattle.std.specs.Int.Signed.{lt_z}
 use Rattle.refusals.specs.Numbers.{bad_bound, bad_ord, not_adjacent}
-use Rattle.whole.specs.Whole.{if◌then◌else◌, eq_z}
+use Rattle.whole.specs.Whole.{eq_z}
 use Rattle.records.specs.Records.{Record}
 
 -- the first refusal counts

@@ -1,4 +1,5 @@
 -- The table of refusals holds: each judgment is a chain of tests, and a test gives one number of its row or lets the rest decide. Assumes nothing.
+use Rattle.std.specs.Prelude.{if◌then◌else◌}
 use Prim.Native.Nat.{ℕ, zero, suc, ◌+◌, ◌-◌, ◌*◌, min}
 use native.Mathlib.Omega.{arith}
 use mathlib.Core.Bool.{Bool, true, false, cond, not, ◌&&◌, false≢true}
@@ -13,7 +14,7 @@ use Rattle.refusals.specs.Numbers.{no_records, no_strand, too_much, bad_bound, b
 use Rattle.refusals.specs.Outcome.{Outcome, answered, refused, and_then, unless}
 use Rattle.refusals.specs.Refusing.{one_of, Only}
 use Rattle.refusals.specs.laws.Refusing.{only_through, only_both, only_then}
-use Rattle.whole.specs.Whole.{if◌then◌else◌, eq_z}
+use Rattle.whole.specs.Whole.{eq_z}
 use Rattle.whole.specs.laws.Whole.{by_test, both}
 use Rattle.fields.specs.Fields.{le16}
 use Rattle.cigar.specs.Elements.{is_letter}

@@ -1,6 +1,6 @@
 -- What the file of recorded answers holds, as host/compare/README.md lays it out: rows of eighteen words and of bytes. Assumes nothing.
-use Rattle.std.specs.Prelude.{ℕ, ◌+◌, ◌-◌, ◌*◌, ◌/◌, ◌%◌, min, Bool, ◌&&◌, List, [], ltb, leb, eqb, ℤ, pos, length, take, get_or}
-use Rattle.whole.specs.Whole.{if◌then◌else◌, eq_z}
+use Rattle.std.specs.Prelude.{ℕ, ◌+◌, ◌-◌, ◌*◌, ◌/◌, ◌%◌, min, Bool, ◌&&◌, List, [], ltb, leb, eqb, ℤ, pos, length, take, get_or, if◌then◌else◌}
+use Rattle.whole.specs.Whole.{eq_z}
 use Rattle.sequences.specs.Alleles.{stretch}
 use Rattle.fields.specs.Fields.{le32, signed32}
 use Rattle.segments.specs.Tables.{all_below}

@@ -1,6 +1,5 @@
 -- Exon numbers: each segment has the number of its record, counted from 1 in transcript order, and a gap between records has the number of the record before it along the genome. Assumes nothing.
-use Rattle.std.specs.Prelude.{ℕ, zero, suc, ◌+◌, ◌≤◌, Bool, cond, ◌&&◌, ◌||◌, List, [], ◌∷◌, eqb, ltb, get_or}
-use Rattle.whole.specs.Whole.{if◌then◌else◌}
+use Rattle.std.specs.Prelude.{ℕ, zero, suc, ◌+◌, ◌≤◌, Bool, cond, ◌&&◌, ◌||◌, List, [], ◌∷◌, eqb, ltb, get_or, if◌then◌else◌}
 use Rattle.cigar.specs.Elements.{letter_n}
 use Rattle.segments.specs.Tables.{all_below}
 use Rattle.segments.specs.Places.{Spot, Edge, no_edge, left_edge, right_edge}

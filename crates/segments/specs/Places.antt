@@ -1,8 +1,7 @@
 -- Where a place of one side is on the other. A place is a whole number, zero-based.
 -- The two directions of mapping differ only in which side is `from` and which is `to`, so both are defined, and their facts shown, once. Assumes nothing.
-use Rattle.std.specs.Prelude.{ℕ, ◌+◌, Bool, true, false, List, ℤ, pos, neg_ℤ, ◌+ℤ◌, ◌-ℤ◌, get_or, length}
+use Rattle.std.specs.Prelude.{ℕ, ◌+◌, Bool, true, false, List, ℤ, pos, neg_ℤ, ◌+ℤ◌, ◌-ℤ◌, get_or, length, if◌then◌else◌}
 use Rattle.std.specs.Int.Signed.{lt_z, le_z}
-use Rattle.whole.specs.Whole.{if◌then◌else◌}
 use Rattle.cigar.specs.Elements.{Element, Side, Kind, kind_of}
 use Rattle.cigar.specs.Elements.Kind.{matches, inserts, deletes, skips}
 use Rattle.cigar.specs.Read.{letters_of}

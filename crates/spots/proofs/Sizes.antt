@@ -1,4 +1,5 @@
 -- How large places, their turns and g. numbers can be. A `u32` and an `i32` are below 2 ^ 32 in size. Assumes nothing.
+use Rattle.std.specs.Prelude.{if◌then◌else◌}
 use Prim.Native.Nat.{ℕ}
 use native.Mathlib.Omega.{arith}
 use mathlib.Core.Bool.{Bool, true, false}
@@ -7,7 +8,7 @@ use lib.IntN.{ℤ, pos, neg_ℤ, ◌+ℤ◌, ◌-ℤ◌}
 use lib.Signed.{le_z}
 use mir.Syntax.{w32, w64}
 use mir.Val.{Fits, SFits}
-use Rattle.whole.specs.Whole.{Within, if◌then◌else◌}
+use Rattle.whole.specs.Whole.{Within}
 use Rattle.whole.specs.laws.Whole.{order, dif, neg, mag_sum, mag_dif}
 use Rattle.numbering.specs.Numbers.{place_of_n}
 use Rattle.spots.specs.Mapping.{turned, signed}

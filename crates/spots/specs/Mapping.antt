@@ -1,9 +1,8 @@
 -- The mappings of g. intervals to n. and of n. intervals to g., of a transcript built from records. `strict` is true in strict mode. Assumes nothing.
-use Rattle.std.specs.Prelude.{ℕ, Bool, true, false, cond, not, ◌&&◌, ◌||◌, ℤ, pos, neg_ℤ, ◌+ℤ◌, ◌-ℤ◌}
+use Rattle.std.specs.Prelude.{ℕ, Bool, true, false, cond, not, ◌&&◌, ◌||◌, ℤ, pos, neg_ℤ, ◌+ℤ◌, ◌-ℤ◌, if◌then◌else◌}
 use Rattle.std.specs.Int.Signed.{le_z, lt_z}
 use Rattle.refusals.specs.Numbers.{outside}
 use Rattle.refusals.specs.Outcome.{answered, refused}
-use Rattle.whole.specs.Whole.{if◌then◌else◌}
 use Rattle.numbering.specs.Numbers.{n_of_place, place_of_n}
 use Rattle.cigar.specs.Elements.{genome, transcript}
 use Rattle.segments.specs.Places.{Spot, map_place}

@@ -1,6 +1,5 @@
 -- A segment's steps as the machine takes them: differences that may wrap, and how many bits they have. Assumes nothing.
-use Rattle.std.specs.Prelude.{ℕ, ◌+◌, ◌-◌, ◌^◌, Bool, cond, ◌&&◌, ◌||◌, ◌==◌, nat_le, nat_lt, slice_index}
-use Rattle.whole.specs.Whole.{if◌then◌else◌}
+use Rattle.std.specs.Prelude.{ℕ, ◌+◌, ◌-◌, ◌^◌, Bool, cond, ◌&&◌, ◌||◌, ◌==◌, nat_le, nat_lt, slice_index, if◌then◌else◌}
 use Rattle.cigar.specs.Elements.{letter_d, letter_i, letter_n}
 use Rattle.segments.specs.Tables.{Tables}
 

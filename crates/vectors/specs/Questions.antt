@@ -1,6 +1,5 @@
 -- What is answered to a row that puts a question to a lent transcript, and the words that it would record of that. Assumes nothing.
-use Rattle.std.specs.Prelude.{ℕ, ◌/◌, ◌%◌, Bool, List, ℤ, ◌==◌, nat_lt}
-use Rattle.whole.specs.Whole.{if◌then◌else◌}
+use Rattle.std.specs.Prelude.{ℕ, ◌/◌, ◌%◌, Bool, List, ℤ, ◌==◌, nat_lt, if◌then◌else◌}
 use Rattle.holding.specs.Holding.{Lent}
 use Rattle.entry.specs.Told.{told_g_to_n, told_g_to_c, told_n_to_g, told_n_to_c, told_c_to_n, told_c_to_g, told_in_bounds, told_coding}
 use Rattle.layout.specs.declared.lay.Answer.{Answer}

@@ -1,6 +1,5 @@
 -- Rows that are replayed one after the other over memory that is lent to all of them, and their counts. Assumes nothing.
-use Rattle.std.specs.Prelude.{ℕ, zero, suc, Bool, false, List, length, drop, replicate, ℤ, pos, ◌==◌, nat_lt}
-use Rattle.whole.specs.Whole.{if◌then◌else◌}
+use Rattle.std.specs.Prelude.{ℕ, zero, suc, Bool, false, List, length, drop, replicate, ℤ, pos, ◌==◌, nat_lt, if◌then◌else◌}
 use Rattle.refusals.specs.Numbers.{most_segments, most_starts}
 use Rattle.segments.specs.Tables.{Tables, tables}
 use Rattle.lending.specs.Lending.{lent_at}

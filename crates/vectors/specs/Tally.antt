@@ -1,6 +1,5 @@
 -- The counts of replayed rows. Assumes nothing.
-use Rattle.std.specs.Prelude.{ℕ, ◌+◌, ◌%◌, ◌^◌, Bool, List, nat_lt, slice_index, slice_set}
-use Rattle.whole.specs.Whole.{if◌then◌else◌}
+use Rattle.std.specs.Prelude.{ℕ, ◌+◌, ◌%◌, ◌^◌, Bool, List, nat_lt, slice_index, slice_set, if◌then◌else◌}
 use Rattle.rows.specs.Rows.{call_of, origin_of, recorded_answer}
 
 -- how many counts a tally has

@@ -1,8 +1,7 @@
 -- CIGAR words of BAM, as the SAM/BAM specification has them: 32 bits, the length in the upper 28 and the code in the lower 4, so that a word is its length times 16, and its code.
 -- Words and elements keep their order. BAM's run along the genome and a record's along the transcript, so on strand -1 a caller turns them round. Assumes nothing.
-use Rattle.std.specs.Prelude.{ℕ, zero, suc, ◌+◌, ◌*◌, ◌/◌, ◌%◌, ◌≤◌, min, Bool, true, not, ◌&&◌, List, [], ◌∷◌, map, ltb, eqb, ℤ, pos, nat_abs, length, get_or}
+use Rattle.std.specs.Prelude.{ℕ, zero, suc, ◌+◌, ◌*◌, ◌/◌, ◌%◌, ◌≤◌, min, Bool, true, not, ◌&&◌, List, [], ◌∷◌, map, ltb, eqb, ℤ, pos, nat_abs, length, get_or, if◌then◌else◌}
 use Rattle.std.specs.Int.Signed.{lt_z}
-use Rattle.whole.specs.Whole.{if◌then◌else◌}
 use Rattle.refusals.specs.Numbers.{too_much, no_element, no_room, no_operation, no_word, most_segments, most_word_count}
 use Rattle.refusals.specs.Outcome.{answered, refused, unless}
 use Rattle.cigar.specs.Bytes.{ascii}

@@ -1,4 +1,5 @@
 -- What a list is answered with, by what is known of what is lent: it is walked where neither 23 nor 18 nor 33 applies, and else it is refused as a whole. Assumes nothing.
+use Rattle.std.specs.Prelude.{if◌then◌else◌}
 use Prim.Native.Nat.{ℕ, ◌<◌, ◌^◌}
 use native.Mathlib.Omega.{arith}
 use mathlib.Core.Bool.{Bool, true, false, not, false≢true}
@@ -8,7 +9,6 @@ use lib.Dec.{T, eqb, lit<}
 use lib.IntN.{nat_abs}
 use Rattle.refusals.specs.Numbers.{no_genome, not_together, falling}
 use Rattle.refusals.specs.Outcome.{answered, refused}
-use Rattle.whole.specs.Whole.{if◌then◌else◌}
 use Rattle.whole.specs.laws.Whole.{by_test}
 use Rattle.segments.specs.laws.Meaning.{holds_means}
 use Rattle.transcript.specs.Transcript.{Transcript}

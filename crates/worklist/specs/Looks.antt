@@ -1,6 +1,5 @@
 -- How many entries of the table of genome starts the walk looks at to find the segments of all positions. Assumes nothing.
-use Rattle.std.specs.Prelude.{ℕ, zero, suc, ◌+◌, ◌-◌, List, ℤ, pos, get_or}
-use Rattle.whole.specs.Whole.{if◌then◌else◌}
+use Rattle.std.specs.Prelude.{ℕ, zero, suc, ◌+◌, ◌-◌, List, ℤ, pos, get_or, if◌then◌else◌}
 use Rattle.finding.specs.Finding.{ends_above}
 use Rattle.worklist.specs.Worklist.{Track, place_on, within, steps_after}
 

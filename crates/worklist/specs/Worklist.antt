@@ -1,10 +1,9 @@
 -- A sorted worklist: each slot of a list holds a g. position and is answered as g. to n. answers that one base in strict mode. The list never falls, or it is refused as a whole. Assumes nothing.
-use Rattle.std.specs.Prelude.{ℕ, zero, suc, ◌+◌, ◌-◌, Bool, true, List, map, ℤ, pos, get_or, length}
+use Rattle.std.specs.Prelude.{ℕ, zero, suc, ◌+◌, ◌-◌, Bool, true, List, map, ℤ, pos, get_or, length, if◌then◌else◌}
 use Rattle.std.proofs.Math.Option.{Option, none, some}
 use Rattle.std.specs.Int.Signed.{lt_z, le_z}
 use Rattle.refusals.specs.Numbers.{no_genome, falling}
 use Rattle.refusals.specs.Outcome.{Outcome, answered, refused}
-use Rattle.whole.specs.Whole.{if◌then◌else◌}
 use Rattle.cigar.specs.Elements.{genome}
 use Rattle.segments.specs.Tables.{all_below, entries_of}
 use Rattle.finding.specs.Finding.{index_of}

@@ -3,14 +3,13 @@
 --     stops    where one of them refuses, so does the join
 --     laid_goes, reference_goes, alternative_goes    what is then laid out, and what the buffers hold
 -- Assumes nothing.
-use Rattle.std.specs.Prelude.{ℕ, Bool, true, false, ◌&&◌, List, ◌++◌, ◌≡◌, refl, eqb, ltb, length, drop}
+use Rattle.std.specs.Prelude.{ℕ, Bool, true, false, ◌&&◌, List, ◌++◌, ◌≡◌, refl, eqb, ltb, length, drop, if◌then◌else◌}
 use Rattle.std.proofs.lemmas.Bool.{false≢true}
 use Rattle.std.proofs.Common.{sym, ◌∙◌, arith, eqb-true}
 use Rattle.std.proofs.Math.Path.{ap}
 use Rattle.refusals.specs.Numbers.{no_room, no_base, not_together}
 use Rattle.refusals.specs.Outcome.{Outcome, answered, refused, Answered, number_of, and_then, through}
 use Rattle.refusals.specs.Refusing.{one_of, Only}
-use Rattle.whole.specs.Whole.{if◌then◌else◌}
 use Rattle.whole.specs.laws.Whole.{by_test}
 use Rattle.holding.specs.Holding.{of_records, Lent, holds, source_of, checked}
 use Rattle.holding.specs.laws.Held.{source_of_records, source_of_length, checked_held, checked_broken}

@@ -3,10 +3,9 @@
 --     moves      that place lies further on, and not past the text's end
 --     takes, none_refused, all_taken    what a step finds in a text that is not refused
 -- Assumes nothing.
-use Rattle.std.specs.Prelude.{◌≡◌, refl, Bool, true, false, List, [], ◌∷◌, ℕ, ◌+◌, ◌*◌, ◌-◌, ◌≤◌, ◌<◌, ltb, eqb, length, drop}
+use Rattle.std.specs.Prelude.{◌≡◌, refl, Bool, true, false, List, [], ◌∷◌, ℕ, ◌+◌, ◌*◌, ◌-◌, ◌≤◌, ◌<◌, ltb, eqb, length, drop, if◌then◌else◌}
 use Rattle.std.proofs.Common.{sym, ap, subst, ◌∙◌, arith, length-drop, drop-drop}
 use Rattle.std.proofs.lemmas.Bool.{eqb-false}
-use Rattle.whole.specs.Whole.{if◌then◌else◌}
 use Rattle.whole.specs.laws.Whole.{by_test}
 use Rattle.refusals.specs.Numbers.{no_element, bad_count, too_much, most_count}
 use Rattle.refusals.specs.Outcome.{answered, refused, Answered}

@@ -1,5 +1,5 @@
 -- What is known where n. to c. or c. to n. answers: there is no mark, every number fits, c. to n. crossed both numbers over to ones that 16 does not refuse, and strict n. to c. gives no c.0. Assumes nothing.
-use Rattle.std.specs.Prelude.{ℕ, Bool, ◌≡◌, ℤ, pos}
+use Rattle.std.specs.Prelude.{ℕ, Bool, ◌≡◌, ℤ, pos, if◌then◌else◌}
 use Rattle.std.proofs.Math.Bool.{true, false}
 use Rattle.std.proofs.Math.Path.{sym, subst}
 use Rattle.std.proofs.Common.{ap}
@@ -7,7 +7,6 @@ use Rattle.std.specs.Int.Signed.{le_z, lt_z}
 use Rattle.refusals.specs.Numbers.{n_outside}
 use Rattle.refusals.specs.Outcome.{answered, refused}
 use Rattle.refusals.specs.laws.Outcomes.{clash, same}
-use Rattle.whole.specs.Whole.{if◌then◌else◌}
 use Rattle.whole.specs.laws.Whole.{by_test, neither, order}
 use Rattle.numbering.specs.Numbers.{c_of_n, n_of_c}
 use Rattle.numbering.specs.laws.Zero.{never_zero}

@@ -1,11 +1,10 @@
 -- What is known where g. to n. or n. to g. answers: each end has the number of an exon, and every number fits. Assumes nothing.
-use Rattle.std.specs.Prelude.{ℕ, Bool, false, ◌&&◌, ◌≡◌, refl, ℤ}
+use Rattle.std.specs.Prelude.{ℕ, Bool, false, ◌&&◌, ◌≡◌, refl, ℤ, if◌then◌else◌}
 use Rattle.std.proofs.Math.Bool.{true}
 use Rattle.std.proofs.Common.{ap, subst}
 use Rattle.refusals.specs.Numbers.{outside}
 use Rattle.refusals.specs.Outcome.{answered, refused}
 use Rattle.refusals.specs.laws.Outcomes.{clash, same}
-use Rattle.whole.specs.Whole.{if◌then◌else◌}
 use Rattle.numbering.specs.Numbers.{place_of_n}
 use Rattle.cigar.specs.Elements.{genome, transcript}
 use Rattle.segments.specs.Places.{map_place}

@@ -1,12 +1,11 @@
 -- The mark of an answer: it is uncertain exactly where either end fell in an I or a D segment. Assumes nothing.
-use Rattle.std.specs.Prelude.{ℕ, Bool, not, ◌&&◌, ◌||◌, List, ◌≡◌, ℤ, get_or, length}
+use Rattle.std.specs.Prelude.{ℕ, Bool, not, ◌&&◌, ◌||◌, List, ◌≡◌, ℤ, get_or, length, if◌then◌else◌}
 use Rattle.std.proofs.Math.Bool.{true, false, or_comm}
 use Rattle.std.proofs.Math.Path.{refl, subst}
 use Rattle.std.proofs.Common.{ap}
 use Rattle.refusals.specs.Numbers.{outside}
 use Rattle.refusals.specs.Outcome.{answered, refused}
 use Rattle.refusals.specs.laws.Outcomes.{clash, same}
-use Rattle.whole.specs.Whole.{if◌then◌else◌}
 use Rattle.whole.specs.laws.Whole.{by_test}
 use Rattle.numbering.specs.Numbers.{place_of_n}
 use Rattle.cigar.specs.Elements.{Element, Side, Kind, kind_of, genome, transcript}

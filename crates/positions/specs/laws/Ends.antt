@@ -1,10 +1,9 @@
 -- An answer and its parts: 17 of an interval is 17 of its ends, the first one's first; an interval that is answered has both its ends answered, and they fit; and its mark. Assumes nothing.
-use Rattle.std.specs.Prelude.{ℕ, ◌≡◌, refl, Bool, true, false, ◌&&◌}
+use Rattle.std.specs.Prelude.{ℕ, ◌≡◌, refl, Bool, true, false, ◌&&◌, if◌then◌else◌}
 use Rattle.std.proofs.Common.{ap, subst}
 use Rattle.refusals.specs.Numbers.{too_wide}
 use Rattle.refusals.specs.Outcome.{Outcome, answered, refused, through}
 use Rattle.refusals.specs.laws.Outcomes.{clash, same, through_tells, then_tells}
-use Rattle.whole.specs.Whole.{if◌then◌else◌}
 use Rattle.whole.specs.laws.Whole.{by_test, both}
 use Rattle.positions.specs.Positions.{Interval, each}
 use Rattle.positions.specs.Answers.{Mark, certain, uncertain, unmarked, mark_of, Marked, Answer, ends, in_a_row, after, chain, if_fits, fitting, Fitted}

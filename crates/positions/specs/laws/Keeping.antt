@@ -1,9 +1,8 @@
 -- A strict answer is also the lenient answer: the steps of an answer. Assumes nothing.
-use Rattle.std.specs.Prelude.{ℕ, Bool, true, false}
+use Rattle.std.specs.Prelude.{ℕ, Bool, true, false, if◌then◌else◌}
 use Rattle.refusals.specs.Outcome.{Outcome, refused}
 use Rattle.refusals.specs.Refusing.{Kept}
 use Rattle.refusals.specs.laws.Keeping.{kept_same, kept_through, kept_both, kept_then}
-use Rattle.whole.specs.Whole.{if◌then◌else◌}
 use Rattle.positions.specs.Positions.{Interval, each}
 use Rattle.positions.specs.Answers.{Mark, Answer, ends, after, chain, fitting}
 

@@ -1,10 +1,9 @@
 -- Which refusals the steps of an answer can give. Assumes nothing.
-use Rattle.std.specs.Prelude.{ℕ, Bool, true, false, ◌&&◌, List, ◌≡◌, refl}
+use Rattle.std.specs.Prelude.{ℕ, Bool, true, false, ◌&&◌, List, ◌≡◌, refl, if◌then◌else◌}
 use Rattle.refusals.specs.Numbers.{too_wide}
 use Rattle.refusals.specs.Outcome.{Outcome, answered, refused}
 use Rattle.refusals.specs.Refusing.{one_of, Only}
 use Rattle.refusals.specs.laws.Refusing.{only_through, only_both, only_then}
-use Rattle.whole.specs.Whole.{if◌then◌else◌}
 use Rattle.positions.specs.Positions.{Interval, each}
 use Rattle.positions.specs.Answers.{Mark, Marked, Answer, ends, after, chain, if_fits, fitting}
 

@@ -1,10 +1,9 @@
 -- What is shown of the definitions of Walk. Assumes nothing.
-use Rattle.std.specs.Prelude.{ℕ, zero, suc, ◌+◌, ◌-◌, ◌≤◌, ◌<◌, Bool, true, false, ◌&&◌, List, [], ◌∷◌, ◌≡◌, refl, eqb, leb, ℤ, pos, negsuc, nat_abs, length}
+use Rattle.std.specs.Prelude.{ℕ, zero, suc, ◌+◌, ◌-◌, ◌≤◌, ◌<◌, Bool, true, false, ◌&&◌, List, [], ◌∷◌, ◌≡◌, refl, eqb, leb, ℤ, pos, negsuc, nat_abs, length, if◌then◌else◌}
 use Rattle.std.proofs.Common.{arith, true≢false, sym, ap, subst, ◌∙◌, ltb-false, leb-true, le-leb}
 use Rattle.std.specs.Int.Signed.{lt_z}
 use Rattle.std.proofs.lemmas.Bool.{lt-leb}
 use Rattle.refusals.specs.Numbers.{bad_bound}
-use Rattle.whole.specs.Whole.{if◌then◌else◌}
 use Rattle.whole.specs.laws.Whole.{both}
 use Rattle.records.specs.Layout.{cigar_text}
 use Rattle.records.specs.Records.{Record, next_at, record_at, exactly, records_from}

@@ -5,12 +5,11 @@
 --     shorter         written again, a text is no longer than it was
 --     p14             `M0X3=` reads as 1M 0X 3=, and is written unchanged
 -- Assumes nothing.
-use Rattle.std.specs.Prelude.{◌≡◌, refl, Bool, true, false, List, [], ◌∷◌, ◌++◌, ℕ, zero, suc, ◌+◌, ◌*◌, ◌-◌, ◌/◌, ◌%◌, ◌≤◌, ◌<◌, ltb, eqb, length}
+use Rattle.std.specs.Prelude.{◌≡◌, refl, Bool, true, false, List, [], ◌∷◌, ◌++◌, ℕ, zero, suc, ◌+◌, ◌*◌, ◌-◌, ◌/◌, ◌%◌, ◌≤◌, ◌<◌, ltb, eqb, length, if◌then◌else◌}
 use Rattle.std.proofs.Common.{ap, subst, ◌∙◌, true≢false, div-add-mod', arith, length-append, le-ltb, ne_eqb}
 use Prim.Native.Char.{code}
 use Rattle.std.proofs.Math.Decide.{dec_lt, ℕ_discrete}
 use Rattle.std.proofs.Math.Seq.{append_snoc}
-use Rattle.whole.specs.Whole.{if◌then◌else◌}
 use Rattle.whole.specs.laws.Whole.{by_test}
 use Rattle.refusals.specs.Numbers.{most_count}
 use Rattle.refusals.specs.Outcome.{answered, refused}

@@ -3,12 +3,12 @@
 --     Laws           `omega (order, sum a b, dif a b)` for a linear fact about whole numbers, with a `sum` or a `dif` for each sum and difference that the fact speaks of
 --     By hand        `read`, `widened`, `narrowed` and `told`, for `rw` and `simp` where `search` does not do: what the machine reads back from a number's bits is the number
 -- Assumes nothing.
-use Rattle.std.specs.Prelude.{◌≡◌, refl, ◌≢◌, Bool, true, false, cond, ◌&&◌, ◌||◌, ℕ, zero, suc, ◌+◌, ◌-◌, ◌<◌, ◌≤◌, ◌^◌, T, ltb, ℤ, pos, negsuc, neg_ℤ, ◌+ℤ◌, ◌-ℤ◌, ◌≤ℤ◌, ◌<ℤ◌}
+use Rattle.std.specs.Prelude.{◌≡◌, refl, ◌≢◌, Bool, true, false, cond, ◌&&◌, ◌||◌, ℕ, zero, suc, ◌+◌, ◌-◌, ◌<◌, ◌≤◌, ◌^◌, T, ltb, ℤ, pos, negsuc, neg_ℤ, ◌+ℤ◌, ◌-ℤ◌, ◌≤ℤ◌, ◌<ℤ◌, if◌then◌else◌}
 use Rattle.std.proofs.Common.{sym, ap, ap₂, subst, ◌∙◌, arith, ltb-true, ltb-false, leb-true, leb-false, eqb-true, lit<, lit≤}
 use Rattle.std.proofs.lemmas.Bool.{false≢true, eqb-false}
 use Rattle.std.proofs.Math.IntN.{sub_ℕ}
 use Rattle.std.specs.Int.Signed.{mag, lt_z, le_z}
-use Rattle.whole.specs.Whole.{if◌then◌else◌, eq_z, Within}
+use Rattle.whole.specs.Whole.{eq_z, Within}
 use Rattle.std.specs.Int.{Width, w32, w64}
 use mir.Val.{SFits, hbits, to_z, of_z}
 use Rattle.std.proofs.lemmas.Int.{to_z-of_z}

@@ -2,12 +2,11 @@
 use Prim.Native.Nat.{ℕ, zero, suc, ◌+◌, ◌-◌, ◌≤◌, ◌<◌}
 use native.Mathlib.Omega.{arith}
 use Rattle.std.proofs.Common.{add-one, sym, ap, ◌∙◌}
-use Rattle.std.specs.Prelude.{Bool, false, List, ◌≡◌, ℤ, pos, ◌-ℤ◌, get_or, length}
+use Rattle.std.specs.Prelude.{Bool, false, List, ◌≡◌, ℤ, pos, ◌-ℤ◌, get_or, length, if◌then◌else◌}
 use Rattle.std.proofs.Math.Bool.{true}
 use Rattle.std.proofs.Math.Option.{Option, none as no_place, some}
 use Rattle.std.proofs.Math.Path.{refl}
 use Rattle.std.specs.Int.Signed.{lt_z, le_z}
-use Rattle.whole.specs.Whole.{if◌then◌else◌}
 use Rattle.whole.specs.laws.Whole.{by_test, order, dif}
 use Rattle.segments.specs.laws.Meaning.{all_at}
 use Rattle.finding.specs.laws.Index.{index_says, index_rises}
