@@ -22,7 +22,7 @@ unfolding read_words all_known is_letter letter_of write_words fault_from fault_
 both_ways = (refl, refl)
 
 -- the aligner's own text, retyped, and ours
-pub texts : (aligners_text words ≡ ascii "10_m2_i3_d") × (retyped (ascii "10_m2_i3_d") ≡ ascii "10_m2_d3_i") × (elements_text es ≡ ascii "10_m2_d3_i")
+pub texts : (aligners_text words ≡ ascii "10M2I3D") × (retyped (ascii "10M2I3D") ≡ ascii "10M2D3I") × (elements_text es ≡ ascii "10M2D3I")
 unfolding aligners_text digits_by decimal element_text elements_text
 texts = (refl, refl, refl)
 
