@@ -1,7 +1,6 @@
 // The paper's numbers, each named once: the refusals of document 01 in their order, those of the requests after it, and the limits.
 #![tactic(auto)]
 
-
 // No exon records.
 pub const NO_RECORDS: u8 = 1;
 // The strand is neither 1 nor -1.

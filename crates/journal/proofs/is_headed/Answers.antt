@@ -1,0 +1,13 @@
+-- `journal::is_headed` meets its contract: the tests are those of `is_headed`. Assumes nothing.
+use borrow.Author.Tests.{lt-ltb, le-ltb}
+use borrow.Author.Rules.{rules}
+use Rattle.journal.specs.Logs.{is_headed}
+use Rattle.journal.proofs.is_headed.Goals as goal
+
+pub returns-then-used-lt-ENTRIES_AT : goal.returns-then-used-lt-ENTRIES_AT
+unfolding is_headed
+returns-then-used-lt-ENTRIES_AT c = rw (lt-ltb _ _ c.if-used-lt-ENTRIES_AT.true)
+
+pub returns : goal.returns
+unfolding is_headed
+returns c = rw (le-ltb _ _ c.if-used-lt-ENTRIES_AT.false, c.is_marked-marked.ensures, c.u16_at-version.ensures.value)

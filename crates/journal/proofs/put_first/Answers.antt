@@ -1,0 +1,36 @@
+-- `journal::put_first` meets its contract: the header is stored, and the entry behind it. Assumes nothing.
+use mathlib.Core.Path.{◌≡◌, refl, sym, ap}
+use mathlib.Core.List.{◌++◌}
+use Prim.Native.Nat.{◌+◌}
+use native.Mathlib.Omega.{arith}
+use borrow.Author.Tests.{lt-ltb, le-ltb}
+use borrow.Author.Rules.{rules}
+use lib.ListN.{length}
+use Rattle.journal.specs.Layout.{entries_at}
+use Rattle.entries.specs.Layout.{entry_size}
+use Rattle.entries.specs.Entries.{entry_bytes}
+use Rattle.journal.specs.Logs.{header_bytes}
+use Rattle.entries.specs.laws.RoundTrips.{entry_length}
+use Rattle.entries.specs.declared.Entry.{Entry}
+use Rattle.journal.specs.declared.Appended.TheVariants as appended
+use Rattle.entries.proofs.Stores.{then_stored}
+use Rattle.journal.proofs.put_first.Goals as goal
+
+first_length : (e : Entry) → 0 + length (header_bytes ++ entry_bytes e) ≡ entries_at + entry_size
+first_length e = rw (entry_length e)
+
+pub returns-then-log-size : goal.returns-then-log-size
+returns-then-log-size c =
+    let a = c.args in
+    rw (entry_length a.entry, lt-ltb _ _ c.if-log-size.true) record { value = refl; log_after = refl }
+
+pub returns : goal.returns
+returns c =
+    let a = c.args in
+    rw (entry_length a.entry, le-ltb _ _ c.if-log-size.false) record { value = ap appended.Length (sym (first_length a.entry)); log_after = then_stored header_bytes (entry_bytes a.entry) a.log.now 0 c.put_header.ensures c.put_entry.ensures }
+
+pub overflow_add-size : goal.overflow_add-size
+overflow_add-size c = omega arith
+
+pub shape_of-log : goal.shape_of-log
+shape_of-log c = omega arith

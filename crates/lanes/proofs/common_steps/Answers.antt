@@ -1,0 +1,12 @@
+-- Two stretches that overlap make one (`stretched`), of the flag and of the bits alike. Assumes nothing.
+use Rattle.std.proofs.Common.{◌&&◌, ◌∙◌, ap₂, arith, rules}
+use Rattle.numbered.specs.laws.All.{stretched}
+use Rattle.lanes.proofs.common_steps.Goals as goal
+
+pub returns-then-count-lt16 : goal.returns-then-count-lt16
+returns-then-count-lt16 c =
+    let front = c.common_steps_in-front.ensures in
+    let back = c.common_steps_in-back.ensures in record { same_value = c.both_seen.ensures.same_value ∙ ap₂ ◌&&◌ front.same_value back.same_value ∙ stretched _ _ _ _ (omega arith) (omega arith); by_index = λ k. c.both_seen.ensures.by_index k ∙ ap₂ ◌&&◌ (front.by_index k) (back.by_index k) ∙ stretched _ _ _ _ (omega arith) (omega arith) }
+
+pub returns : goal.returns
+returns c = c.common_lanes.ensures

@@ -1,0 +1,22 @@
+-- After each turn the bits are one at most exactly where `all_below` says so of the letters from the first on. Assumes nothing.
+use Rattle.std.proofs.Common.{◌≡◌, ◌-◌, ◌≤◌, refl, ◌∙◌, rules}
+use Rattle.segments.specs.Tables.{all_below}
+use Rattle.segments.specs.laws.Gathering.{all_done}
+use Rattle.numbered.specs.Stretches.{from}
+use Rattle.stepping.specs.Steps.{within}
+use Rattle.letters.specs.Letters.{common_at}
+use Rattle.numbered.specs.laws.All.{from_none, from_more}
+use Rattle.stepping.specs.laws.OneStep.{within_none}
+use Rattle.letters.proofs.many_common_in.Goals as goal
+
+pub loop-i-init : goal.loop-i-init
+loop-i-init c = (search rules, search rules, within_none 1 ∙ from_none _ _)
+
+pub loop-i-preserved : goal.loop-i-preserved
+loop-i-preserved c =
+    let kept = c.loop-i.invariant in
+    (search rules, search rules, c.common_letter_on-bits.ensures ∙ from_more _ _ _ kept.0 kept.2 refl)
+
+pub returns : goal.returns
+unfolding within
+returns c = all_done _ _ _ c.loop-i.invariant.2 c.loop-i.invariant.1 c.loop-i-test.false

@@ -1,0 +1,6 @@
+-- The three tests are those of the definition.
+use borrow.Author.Rules.{rules}
+use Rattle.rows.proofs.has_head.Goals as goal
+
+pub returns : goal.returns
+returns c = rw (c.call.ensures, c.size.ensures)

@@ -1,0 +1,8 @@
+-- What stands at the number that the edge says. Assumes nothing.
+use borrow.Author.Rules.{rules}
+use Rattle.segments.specs.Exons.{exon_found}
+use Rattle.segments.proofs.exons.found.Goals as goal
+
+pub returns : goal.returns
+unfolding exon_found
+returns c = simp (c.number_at.ensures, c.numbered_from-i.ensures)

@@ -1,0 +1,10 @@
+-- The test goes the definition's way. Assumes nothing.
+use borrow.Author.Rules.{rules}
+use borrow.Author.Tests.{lt-ltb, le-ltb}
+use Rattle.segments.proofs.exons.number_at.Goals as goal
+
+pub returns-then-i-count : goal.returns-then-i-count
+returns-then-i-count c = rw (lt-ltb _ _ c.if-i-count.true)
+
+pub returns-else-i-count : goal.returns-else-i-count
+returns-else-i-count c = rw (le-ltb _ _ c.if-i-count.false)

@@ -1,0 +1,13 @@
+-- The differences are those that wrap, by name (`wrapped_is`), and the bits are gathered as the definition names them. Assumes nothing.
+use Rattle.std.proofs.Common.{arith, rules}
+use Rattle.stepping.specs.Steps.{common_same, common_within}
+use Rattle.stepping.specs.laws.OneStep.{wrapped_is}
+use Rattle.stepping.proofs.common_on.Goals as goal
+
+pub returns : goal.returns
+unfolding common_same common_within
+returns c =
+    let fits = c.ranges in
+    let dg = wrapped_is _ _ _ fits.g1.fits fits.g0.fits (omega arith) c.wrapping_sub_u32-dg.ensures.value in
+    let dt = wrapped_is _ _ _ fits.t1.fits fits.t0.fits (omega arith) c.wrapping_sub_u32-dt.ensures.value in
+    record { same_value = simp (c.unless-step.ensures, dg, dt); by_index = λ k. simp (c.with_bits-bits.ensures k, dg) }

@@ -1,0 +1,40 @@
+-- `words::fault_of` meets its contract: the tests that led to each `return` say which case of `fault_of` holds. Assumes nothing.
+use mathlib.Core.Path.{◌≡◌, sym, ◌∙◌}
+use mathlib.Core.Bool.{true, false}
+use lib.IntN.{pos}
+use lib.Signed.{lt_z}
+use Rattle.whole.specs.laws.Whole.{read}
+use Rattle.refusals.specs.Numbers.{most_word_count}
+use Rattle.cigar.specs.Elements.{is_letter}
+use Rattle.words.specs.Words.{fault_of}
+use Rattle.words.specs.laws.RoundTrips.{fault_letter}
+use borrow.Author.Rules.{rules}
+use Rattle.words.proofs.fault_of.Goals as goal
+
+pub returns-then-count-lt0 : goal.returns-then-count-lt0
+unfolding fault_of
+returns-then-count-lt0 c =
+    let l : is_letter c.args.letter ≡ true = sym c.is_letter.ensures ∙ c.if-is_letter.true in
+    let b : lt_z c.args.count (pos 0) ≡ true = rw (read c.ranges.count) at c.if-count-lt0.true in
+    rw (l, b)
+
+pub returns-then-count-gt-MOST_WORD_COUNT : goal.returns-then-count-gt-MOST_WORD_COUNT
+unfolding fault_of
+returns-then-count-gt-MOST_WORD_COUNT c =
+    let l : is_letter c.args.letter ≡ true = sym c.is_letter.ensures ∙ c.if-is_letter.true in
+    let b : lt_z c.args.count (pos 0) ≡ false = rw (read c.ranges.count) at c.if-count-lt0.false in
+    let m : lt_z (pos most_word_count) c.args.count ≡ true = rw (read c.ranges.count) at c.if-count-gt-MOST_WORD_COUNT.true in
+    rw (l, b, m)
+
+pub returns-then-is_letter : goal.returns-then-is_letter
+unfolding fault_of
+returns-then-is_letter c =
+    let l : is_letter c.args.letter ≡ true = sym c.is_letter.ensures ∙ c.if-is_letter.true in
+    let b : lt_z c.args.count (pos 0) ≡ false = rw (read c.ranges.count) at c.if-count-lt0.false in
+    let m : lt_z (pos most_word_count) c.args.count ≡ false = rw (read c.ranges.count) at c.if-count-gt-MOST_WORD_COUNT.false in
+    rw (l, b, m)
+
+pub returns : goal.returns
+returns c =
+    let a = c.args in
+    sym (fault_letter a.count a.letter (sym c.is_letter.ensures ∙ c.if-is_letter.false))
