@@ -16,19 +16,19 @@ use Rattle.card.specs.laws.RoundTrips.{read_means}
 use Rattle.transcript.specs.declared.Numbers.{Numbers}
 use Rattle.card.specs.declared.ReadCard.TheVariants as read
 use borrow.Author.Rules.{rules}
-use Rattle.card.proofs.build_card.Statement.{statement}
-use Rattle.card.proofs.build_card.Tie as tie
+use Rattle.card.proofs.build_card.Goals as goal
+use Rattle.card.proofs.build_card.Goals.{In-Card}
 
 -- the numbers that were read
-module _ (c : tie.After-known-told) where
+module _ (c : In-Card) where
   abbrev bytes : List ℕ
-  bytes = c.before.before.before.before.before.args.card.now
+  bytes = c.args.card.now
 
   abbrev numbers : Numbers
-  numbers = c.before.n.given.0.0
+  numbers = c.in-Card.n
 
   read_is : read_card bytes ≡ read.Card numbers
-  read_is = sym c.before.before.before.read-card.ensures ∙ c.before.n.given.1
+  read_is = sym c.read_card.ensures ∙ c.in-Card.is
 
   long : records_at ≤ length bytes
   long = (read_means bytes numbers read_is).0.long
@@ -39,43 +39,23 @@ module _ (c : tie.After-known-told) where
       ap (judge numbers) (take_all (length bytes - records_at) (drop records_at bytes) (omega (arith, length-drop records_at bytes)))
       ∙ sym (ap (judge_read bytes) read_is)
 
-sub_build : tie.Need-overflow-sub-build
-sub_build c = long c
+pub slice_bounds-build-count : goal.slice_bounds-build-count
+slice_bounds-build-count c = long c
 
-part_build_start : tie.Need-slice-bounds-build-start
-part_build_start c = long c
+pub slice_bounds-build-start : goal.slice_bounds-build-start
+slice_bounds-build-start c = long c
 
-returns : tie.Need-returns
-returns c =
-    let k = c.before.before.before.before.before.before in
-    let a = k.before.before.before.before.before.args in
+pub returns-in-Card : goal.returns-in-Card
+returns-in-Card c =
+    let here = (goal.at.returns-in-Card c).In-Card in
+    let a = c.args in
     let was = tables a.genome.now a.transcript.now a.letters.now in
-    let b = c.build.ensures in (
-      b.0 ∙ ap built_answer (handed k),
-      (
-        b.1.0 ∙ ap (λ (j : Outcome Made). tables_after j was) (handed k),
-        b.1.1 ∙ ap (λ (j : Outcome Made). exons_after j a.exons.now) (handed k),
-      ),
-    )
+    let b = c.build.ensures in record { value = b.value ∙ ap built_answer (handed here); letters_after = b.letters_after ∙ ap (λ (j : Outcome Made). tables_after j was) (handed here); exons_after = b.exons_after ∙ ap (λ (j : Outcome Made). exons_after j a.exons.now) (handed here) }
 
-returns_2 : tie.Need-returns-2
-returns_2 c =
-    let a = c.before.before.before.before.before.args in
-    let k = c.before.k.given in
+pub returns-in-Refused : goal.returns-in-Refused
+returns-in-Refused c =
+    let a = c.args in
+    let k = c.in-Refused in
     let was = tables a.genome.now a.transcript.now a.letters.now in
-    let e : judge_card a.card.now ≡ refused k.0.0 = ap (judge_read a.card.now) (sym c.before.before.before.read-card.ensures ∙ k.1) in
-    (sym (ap built_answer e), (sym (ap (λ (j : Outcome Made). tables_after j was) e), sym (ap (λ (j : Outcome Made). exons_after j a.exons.now) e)))
-
-pub build_card_spec : {M : Type 1} → statement M
-build_card_spec =
-    tie.close
-    (tie.spec
-    (λ c κs. search rules)
-    (λ c. search rules)
-    sub_build
-    part_build_start
-    (λ c. search rules)
-    (λ c κs. search rules)
-    (λ c. search rules)
-    returns
-    returns_2)
+    let e : judge_card a.card.now ≡ refused k.k = ap (judge_read a.card.now) (sym c.read_card.ensures ∙ k.is) in
+    record { value = sym (ap built_answer e); letters_after = sym (ap (λ (j : Outcome Made). tables_after j was) e); exons_after = sym (ap (λ (j : Outcome Made). exons_after j a.exons.now) e) }

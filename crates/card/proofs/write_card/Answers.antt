@@ -11,61 +11,50 @@ use Rattle.card.specs.Card.{card_text}
 use Rattle.card.specs.Writing.{if_taken, card_writing}
 use Rattle.card.specs.laws.Taken.{taken_records, taken_few}
 use borrow.Author.Rules.{rules}
-use Rattle.card.proofs.write_card.Statement.{statement}
+use Rattle.card.proofs.write_card.Goals as goal
 use Rattle.card.proofs.write_card.Tie as tie
+use Rattle.card.proofs.write_card.Lts as lts
 
 -- what was judged
-module _ (e : tie.Start) where
+module _ (e : lts.Start tie.the-claims tie.handed_pre tie.handed_post tie.handed_clauses) where
   abbrev judgment : Outcome Made
   judgment = judge e.args.numbers e.args.records.now
 
   abbrev written_if_taken : Writing
   written_if_taken = fitted most_card (length e.args.buffer.now) (card_text (input_of e.args.numbers e.args.records.now))
 
-abbrev entry : tie.After-judge → tie.Start
+abbrev entry : lts.After-judge tie.the-claims tie.handed_pre tie.handed_post tie.handed_clauses → lts.Start tie.the-claims tie.handed_pre tie.handed_post tie.handed_clauses
 entry c = c.before.before.before
 
-taken : (c : tie.After-enum-told) → (m : Made) × (judgment (entry c.before.before) ≡ answered m)
+taken : (c : lts.Past-After-enum_told tie.the-claims tie.handed_pre tie.handed_post tie.handed_clauses) → (m : Made) × (judgment (entry c.before) ≡ answered m)
 taken c =
-    let t = told_made (judgment (entry c.before.before)) (sym c.enum_told.given.1 ∙ c.before.before.judge.ensures.0) in
+    let t = told_made (judgment (entry c.before)) (sym c.in-Sums.is ∙ c.judge.ensures.0) in
     (t.made, t.judged)
 
-write_taken_requires : tie.Need-write-taken-requires
-write_taken_requires c κs =
-    let t = taken c.before in
+pub write_taken-requires : goal.write_taken-requires
+write_taken-requires c =
+    let t = taken c.before.before in
     let a = (entry c.before.before.before).args in
     (taken_few a.numbers a.records.now t.1, taken_records a.numbers a.records.now t.1)
 
 -- what the definition says once the judgment is known
-writing_is : (e : tie.Start) (j : Outcome Made) → judgment e ≡ j
+writing_is : (e : lts.Start tie.the-claims tie.handed_pre tie.handed_post tie.handed_clauses) (j : Outcome Made) → judgment e ≡ j
     → card_writing e.args.numbers e.args.records.now (length e.args.buffer.now) ≡ if_taken j (written_if_taken e)
 unfolding card_writing
 writing_is e j h = ap (λ (x : Outcome Made). if_taken x (written_if_taken e)) h
 
-returns : tie.Need-returns
-returns c =
-    let t = taken c.before.before.before.before in
+pub returns-in-Sums : goal.returns-in-Sums
+returns-in-Sums c =
+    let t = taken c.before.before.before.before.before in
     let e = entry c.before.before.before.before.before.before in
     let w = writing_is e (answered t.0) t.1 in
-    let written = c.before.before.write-taken.ensures in
-    (written.0 ∙ sym (ap written_answer w), written.1 ∙ sym (ap (buffer_after e.args.buffer.now) w))
+    let written = c.write_taken.ensures in
+    record { value = written.value ∙ sym (ap written_answer w); buffer_after = written.buffer_after ∙ sym (ap (buffer_after e.args.buffer.now) w) }
 
-returns_2 : tie.Need-returns-2
-returns_2 c =
-    let e = entry c.before.before.before in
-    let k = c.before.k.given in
-    let h = told_refused (judgment e) (sym k.1 ∙ c.before.before.before.judge.ensures.0) in
-    let w = writing_is e (refused k.0.0) h in
-    (sym (ap written_answer w), sym (ap (buffer_after e.args.buffer.now) w))
-
-pub write_card_spec : {M : Type 1} → statement M
-write_card_spec =
-    tie.close
-    (tie.spec
-    (λ c κs. search rules)
-    (λ c. search rules)
-    write_taken_requires
-    (λ c. search rules)
-    (λ c. search rules)
-    returns
-    returns_2)
+pub returns-in-Refused : goal.returns-in-Refused
+returns-in-Refused c =
+    let e = entry c.before.before in
+    let k = c.in-Refused in
+    let h = told_refused (judgment e) (sym k.is ∙ c.judge.ensures.0) in
+    let w = writing_is e (refused k.k) h in
+    record { value = sym (ap written_answer w); buffer_after = sym (ap (buffer_after e.args.buffer.now) w) }

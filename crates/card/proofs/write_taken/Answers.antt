@@ -22,51 +22,52 @@ use Rattle.card.specs.Layout.{records_at}
 use Rattle.card.specs.Card.{header_text, card_text}
 use Rattle.card.specs.laws.Taken.{text_is, text_length}
 use borrow.Author.Rules.{rules}
-use Rattle.card.proofs.write_taken.Statement.{statement}
+use Rattle.card.proofs.write_taken.Goals as goal
 use Rattle.card.proofs.write_taken.Tie as tie
+use Rattle.card.proofs.write_taken.Lts as lts
 
 -- the card, and its size
-module _ (c : tie.After-shared-slice-known) where
-  abbrev entry : tie.Start
+module _ (c : lts.After-shared_slice_known tie.the-claims tie.handed_pre tie.handed_post tie.handed_clauses) where
+  abbrev entry : lts.Start tie.the-claims tie.handed_pre tie.handed_post tie.handed_clauses
   entry = c.before
 
   abbrev text : List ℕ
   text = card_text (input_of entry.args.numbers entry.args.records.now)
 
   bytes : Bytes entry.args.records.now
-  bytes = record { below = λ i. (c.shared-slice-known.given i).fits }
+  bytes = record { below = λ i. (c.shared_slice_known-1.given i).fits }
 
   size_is : length text ≡ records_at + length entry.args.records.now
-  size_is = text_length entry.args.numbers entry.args.records.now bytes entry.pre.1
+  size_is = text_length entry.args.numbers entry.args.records.now bytes entry.requires.1
 
-returns : tie.Need-returns
-returns c =
-    let e = c.before.before in
-    let large : most_card < length (text e) = omega (arith, size_is e) in
-    rw (lt-ltb _ _ large) (refl, refl)
-
-returns_2 : tie.Need-returns-2
-returns_2 c =
+pub returns-then-size-gt-MOST_CARD : goal.returns-then-size-gt-MOST_CARD
+returns-then-size-gt-MOST_CARD c =
     let e = c.before.before.before in
+    let large : most_card < length (text e) = omega (arith, size_is e) in
+    rw (lt-ltb _ _ large) record { value = refl; buffer_after = refl }
+
+pub returns-then-buffer-size : goal.returns-then-buffer-size
+returns-then-buffer-size c =
+    let e = c.before.before.before.before in
     let small : length (text e) ≤ most_card = omega (arith, size_is e) in
     let long : length (entry e).args.buffer.now < length (text e) = omega (arith, size_is e) in
-    rw (le-ltb _ _ small, lt-ltb _ _ long) (refl, refl)
+    rw (le-ltb _ _ small, lt-ltb _ _ long) record { value = refl; buffer_after = refl }
 
 same_header : (n : ℕ) {z w : ℤ} {a b x y : Bound} → z ≡ w → a ≡ b → x ≡ y → header_text z a x n ≡ header_text w b y n
 same_header n e f g = rw (e, f, g)
 
 -- what is stored in the end
-module _ (c : tie.After-slice-known3) where
-  abbrev at_header : tie.After-put-header
+module _ (c : lts.After-slice_known3 tie.the-claims tie.handed_pre tie.handed_post tie.handed_clauses) where
+  abbrev at_header : lts.After-put_header tie.the-claims tie.handed_pre tie.handed_post tie.handed_clauses
   at_header = c.before.before.before.before.before.before
 
-  abbrev at_end : tie.After-end-of
+  abbrev at_end : lts.After-end_of tie.the-claims tie.handed_pre tie.handed_post tie.handed_clauses
   at_end = at_header.before.before.before.before
 
-  abbrev at_start : tie.After-start-of
+  abbrev at_start : lts.After-start_of tie.the-claims tie.handed_pre tie.handed_post tie.handed_clauses
   at_start = at_end.before.before
 
-  abbrev known : tie.After-shared-slice-known
+  abbrev known : lts.After-shared_slice_known tie.the-claims tie.handed_pre tie.handed_post tie.handed_clauses
   known = at_start.before.before.before.before.before
 
   abbrev n : Numbers
@@ -75,42 +76,27 @@ module _ (c : tie.After-slice-known3) where
   abbrev header : List ℕ
   header = header_text n.strand (start_of n.cds n.start) (end_of n.cds n.end) n.count
 
-  header_stored : at_header.put-header.last.0 ≡ sets (entry known).args.buffer.now 0 header
+  header_stored : at_header.put_header.new.buffer ≡ sets (entry known).args.buffer.now 0 header
   header_stored =
-      at_header.put-header.ensures
+      at_header.put_header.ensures
       ∙ ap (sets (entry known).args.buffer.now 0)
-      (same_header n.count (told w32 n.strand at_header.before.struct-told3.given.0.1)
-      (at_start.start_of_lem.ensures ∙ ap (start_of n.cds) (told w32 n.start at_start.before.struct_told.given.1.1.0.1))
-      (at_end.end_of_lem.ensures ∙ ap (end_of n.cds) (told w32 n.end at_end.before.struct-told2.given.1.1.1.0.1)))
+      (same_header n.count (told w32 n.strand at_header.struct_told-3-1.given.0.1)
+      (at_start.start_of-from.ensures ∙ ap (start_of n.cds) (told w32 n.start at_start.struct_told-1.given.1.1.0.1))
+      (at_end.end_of-to.ensures ∙ ap (end_of n.cds) (told w32 n.end at_end.struct_told-2-1.given.1.1.1.0.1)))
 
-  stored : c.before.before.put-bytes.new.0 ≡ sets (entry known).args.buffer.now 0 (text known)
+  stored : c.put_bytes.new.buffer ≡ sets (entry known).args.buffer.now 0 (text known)
   unfolding header_text
   stored =
-      c.before.before.put-bytes.ensures
+      c.put_bytes.ensures
       ∙ ap (λ (b : List ℕ). sets b records_at (entry known).args.records.now) header_stored
       ∙ sym
-      (ap (sets (entry known).args.buffer.now 0) (text_is n (entry known).args.records.now (bytes known) (entry known).pre.1)
+      (ap (sets (entry known).args.buffer.now 0) (text_is n (entry known).args.records.now (bytes known) (entry known).requires.1)
       ∙ sets_append header (entry known).args.records.now (entry known).args.buffer.now 0)
 
-returns_3 : tie.Need-returns-3
-returns_3 c =
-    let e = known c in
+pub returns : goal.returns
+returns c =
+    let e = known c.before in
     let small : length (text e) ≤ most_card = omega (arith, size_is e) in
     let room : length (text e) ≤ length (entry e).args.buffer.now = omega (arith, size_is e) in
     rw (le-ltb _ _ small, le-ltb _ _ room)
-    (ap answer.Text (sym (size_is e)), stored c ∙ sets_front (text e) (entry e).args.buffer.now room)
-
-pub write_taken_spec : {M : Type 1} → statement M
-write_taken_spec =
-    tie.close
-    (tie.spec
-    (λ c. search rules)
-    returns
-    returns_2
-    (λ c κs. search rules)
-    (λ c κs. search rules)
-    (λ c. search rules)
-    (λ c κs. search rules)
-    (λ c κs. search rules)
-    (λ c. search rules)
-    returns_3)
+    record { value = ap answer.Text (sym (size_is e)); buffer_after = stored c.before ∙ sets_front (text e) (entry e).args.buffer.now room }

@@ -1,0 +1,26 @@
+-- `mapper::c_to_g` meets its contract: what is lent is known once; the first mapping is asked wholly, and the second on its answer asked again, or 18. Assumes nothing.
+use mathlib.Core.Path.{sym, ◌∙◌}
+use Rattle.mapper.specs.Asking.{ask_c_to_g, ask_c_to_n, ask_n_to_g}
+use Rattle.knowing.specs.laws.Known.{known_lies, ask_length, ask_broken}
+use Rattle.mapper.specs.laws.Lying.{lying_c_to_g}
+use borrow.Author.Rules.{rules}
+use Rattle.mapper.proofs.c_to_g.Goals as goal
+use Rattle.mapper.proofs.c_to_g.Goals.{In-Aligned}
+
+pub last-length-requires : goal.last-length-requires
+last-length-requires c = let p = (goal.at.last-length-requires c).In-Aligned in (known_lies _ _ _ (sym p.before.before.known_of.ensures ∙ p.at.given.1)).sound.count_to
+
+pub then_n_to_g-requires : goal.then_n_to_g-requires
+then_n_to_g-requires c = let p = (goal.at.then_n_to_g-requires c).In-Aligned in (known_lies _ _ _ (sym p.before.before.known_of.ensures ∙ p.at.given.1)).sound
+
+pub returns-in-Aligned : goal.returns-in-Aligned
+returns-in-Aligned c =
+    rw (c.c_to_n-n.ensures, c.last-length.ensures) at c.then_n_to_g.ensures ∙ sym (lying_c_to_g _ _ _ (sym c.known_of.ensures ∙ c.in-Aligned.is) c.args.strict _)
+
+pub returns-in-OfLength : goal.returns-in-OfLength
+unfolding ask_c_to_g ask_c_to_n ask_n_to_g
+returns-in-OfLength c =
+    rw c.c_to_n.ensures at c.then_no_genome.ensures ∙ sym (ask_length _ _ (sym c.known_of.ensures ∙ c.in-OfLength.is))
+
+pub returns-in-Broken : goal.returns-in-Broken
+returns-in-Broken c = sym (ask_broken _ _ (sym c.known_of.ensures ∙ c.in-Broken.is))

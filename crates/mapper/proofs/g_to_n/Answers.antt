@@ -1,0 +1,22 @@
+-- `mapper::g_to_n` meets its contract: what is lent is known once, and each arm is what the question then is. Assumes nothing.
+use mathlib.Core.Path.{sym, ◌∙◌}
+use Rattle.mapper.specs.Asking.{ask_g_to_n}
+use Rattle.knowing.specs.laws.Known.{known_lies, ask_length, ask_broken}
+use Rattle.mapper.specs.laws.Lying.{lying_g_to_n}
+use borrow.Author.Rules.{rules}
+use Rattle.mapper.proofs.g_to_n.Goals as goal
+use Rattle.mapper.proofs.g_to_n.Goals.{In-Aligned}
+
+pub g_to_n-requires : goal.g_to_n-requires
+g_to_n-requires c = let p = (goal.at.g_to_n-requires c).In-Aligned in (known_lies _ _ _ (sym p.before.before.known_of.ensures ∙ p.at.given.1)).sound
+
+pub returns-in-Aligned : goal.returns-in-Aligned
+returns-in-Aligned c =
+    c.g_to_n.ensures ∙ sym (lying_g_to_n _ _ _ (sym c.known_of.ensures ∙ c.in-Aligned.is) c.args.strict _)
+
+pub returns-in-OfLength : goal.returns-in-OfLength
+unfolding ask_g_to_n
+returns-in-OfLength c = sym (ask_length _ _ (sym c.known_of.ensures ∙ c.in-OfLength.is))
+
+pub returns-in-Broken : goal.returns-in-Broken
+returns-in-Broken c = sym (ask_broken _ _ (sym c.known_of.ensures ∙ c.in-Broken.is))

@@ -1,0 +1,19 @@
+-- `mapper::is_coding_transcript` meets its contract: what is lent is known once, and a transcript of either kind codes where it has a CDS. Assumes nothing.
+use mathlib.Core.Path.{sym, ◌∙◌}
+use Rattle.mapper.specs.Asking.{ask_coding}
+use Rattle.mapper.specs.laws.Lying.{lying_coding}
+use Rattle.knowing.specs.laws.Known.{ask_length, ask_broken}
+use borrow.Author.Rules.{rules}
+use Rattle.mapper.proofs.is_coding_transcript.Goals as goal
+
+pub returns-in-Aligned : goal.returns-in-Aligned
+returns-in-Aligned c =
+    c.is_coding.ensures ∙ sym (lying_coding _ _ _ (sym c.known_of.ensures ∙ c.in-Aligned.is))
+
+pub returns-in-OfLength : goal.returns-in-OfLength
+unfolding ask_coding
+returns-in-OfLength c =
+    c.is_coding-in-OfLength.ensures ∙ sym (ask_length _ _ (sym c.known_of.ensures ∙ c.in-OfLength.is))
+
+pub returns-in-Broken : goal.returns-in-Broken
+returns-in-Broken c = sym (ask_broken _ _ (sym c.known_of.ensures ∙ c.in-Broken.is))

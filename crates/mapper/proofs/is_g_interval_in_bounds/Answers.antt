@@ -1,0 +1,22 @@
+-- `mapper::is_g_interval_in_bounds` meets its contract: what is lent is known once, and each arm is what the question then is. Assumes nothing.
+use mathlib.Core.Path.{sym, ◌∙◌}
+use Rattle.mapper.specs.Asking.{ask_in_bounds}
+use Rattle.knowing.specs.laws.Known.{known_lies, ask_length, ask_broken}
+use Rattle.mapper.specs.laws.Lying.{lying_in_bounds}
+use borrow.Author.Rules.{rules}
+use Rattle.mapper.proofs.is_g_interval_in_bounds.Goals as goal
+use Rattle.mapper.proofs.is_g_interval_in_bounds.Goals.{In-Aligned}
+
+pub is_in_bounds-requires : goal.is_in_bounds-requires
+is_in_bounds-requires c = let p = (goal.at.is_in_bounds-requires c).In-Aligned in (known_lies _ _ _ (sym p.before.before.known_of.ensures ∙ p.at.given.1)).sound.count_to
+
+pub returns-in-Aligned : goal.returns-in-Aligned
+returns-in-Aligned c =
+    c.is_in_bounds.ensures ∙ sym (lying_in_bounds _ _ _ (sym c.known_of.ensures ∙ c.in-Aligned.is) _)
+
+pub returns-in-OfLength : goal.returns-in-OfLength
+unfolding ask_in_bounds
+returns-in-OfLength c = sym (ask_length _ _ (sym c.known_of.ensures ∙ c.in-OfLength.is))
+
+pub returns-in-Broken : goal.returns-in-Broken
+returns-in-Broken c = sym (ask_broken _ _ (sym c.known_of.ensures ∙ c.in-Broken.is))

@@ -1,0 +1,22 @@
+-- `mapper::n_to_g` meets its contract: what is lent is known once, and each arm is what the question then is. Assumes nothing.
+use mathlib.Core.Path.{sym, ◌∙◌}
+use Rattle.mapper.specs.Asking.{ask_n_to_g}
+use Rattle.knowing.specs.laws.Known.{known_lies, ask_length, ask_broken}
+use Rattle.mapper.specs.laws.Lying.{lying_n_to_g}
+use borrow.Author.Rules.{rules}
+use Rattle.mapper.proofs.n_to_g.Goals as goal
+use Rattle.mapper.proofs.n_to_g.Goals.{In-Aligned}
+
+pub to_g-requires : goal.to_g-requires
+to_g-requires c = let p = (goal.at.to_g-requires c).In-Aligned in (known_lies _ _ _ (sym p.before.before.known_of.ensures ∙ p.at.given.1)).sound
+
+pub returns-in-Aligned : goal.returns-in-Aligned
+returns-in-Aligned c =
+    c.to_g.ensures ∙ sym (lying_n_to_g _ _ _ (sym c.known_of.ensures ∙ c.in-Aligned.is) c.args.strict _)
+
+pub returns-in-OfLength : goal.returns-in-OfLength
+unfolding ask_n_to_g
+returns-in-OfLength c = sym (ask_length _ _ (sym c.known_of.ensures ∙ c.in-OfLength.is))
+
+pub returns-in-Broken : goal.returns-in-Broken
+returns-in-Broken c = sym (ask_broken _ _ (sym c.known_of.ensures ∙ c.in-Broken.is))
