@@ -5,13 +5,12 @@ use Rattle.knowing.specs.laws.Known.{known_lies, ask_length, ask_broken}
 use Rattle.mapper.specs.laws.Lying.{lying_c_to_g}
 use borrow.Author.Rules.{rules}
 use Rattle.mapper.proofs.c_to_g.Goals as goal
-use Rattle.mapper.proofs.c_to_g.Goals.{In-Aligned}
 
 pub last-length-requires : goal.last-length-requires
-last-length-requires c = let p = (goal.at.last-length-requires c).In-Aligned in (known_lies _ _ _ (sym p.before.before.known_of.ensures ∙ p.at.given.1)).sound.count_to
+last-length-requires c = (known_lies _ _ _ (sym c.known_of.ensures ∙ c.in-Aligned.is)).sound.count_to
 
 pub then_n_to_g-requires : goal.then_n_to_g-requires
-then_n_to_g-requires c = let p = (goal.at.then_n_to_g-requires c).In-Aligned in (known_lies _ _ _ (sym p.before.before.known_of.ensures ∙ p.at.given.1)).sound
+then_n_to_g-requires c = (known_lies _ _ _ (sym c.known_of.ensures ∙ c.in-Aligned.is)).sound
 
 pub returns-in-Aligned : goal.returns-in-Aligned
 returns-in-Aligned c =

@@ -5,10 +5,9 @@ use Rattle.knowing.specs.laws.Known.{known_lies, ask_length, ask_broken}
 use Rattle.mapper.specs.laws.Lying.{lying_c_to_n}
 use borrow.Author.Rules.{rules}
 use Rattle.mapper.proofs.c_to_n.Goals as goal
-use Rattle.mapper.proofs.c_to_n.Goals.{In-Aligned}
 
 pub last-requires : goal.last-requires
-last-requires c = let p = (goal.at.last-requires c).In-Aligned in (known_lies _ _ _ (sym p.before.before.known_of.ensures ∙ p.at.given.1)).sound.count_to
+last-requires c = (known_lies _ _ _ (sym c.known_of.ensures ∙ c.in-Aligned.is)).sound.count_to
 
 pub returns-in-Aligned : goal.returns-in-Aligned
 returns-in-Aligned c =

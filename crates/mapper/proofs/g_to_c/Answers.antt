@@ -5,13 +5,12 @@ use Rattle.knowing.specs.laws.Known.{known_lies, ask_length, ask_broken}
 use Rattle.mapper.specs.laws.Lying.{lying_g_to_c}
 use borrow.Author.Rules.{rules}
 use Rattle.mapper.proofs.g_to_c.Goals as goal
-use Rattle.mapper.proofs.g_to_c.Goals.{In-Aligned}
 
 pub last-length-requires : goal.last-length-requires
-last-length-requires c = let p = (goal.at.last-length-requires c).In-Aligned in (known_lies _ _ _ (sym p.before.before.known_of.ensures ∙ p.at.given.1)).sound.count_to
+last-length-requires c = (known_lies _ _ _ (sym c.known_of.ensures ∙ c.in-Aligned.is)).sound.count_to
 
 pub g_to_n-n-requires : goal.g_to_n-n-requires
-g_to_n-n-requires c = let p = (goal.at.g_to_n-n-requires c).In-Aligned in (known_lies _ _ _ (sym p.before.before.known_of.ensures ∙ p.at.given.1)).sound
+g_to_n-n-requires c = (known_lies _ _ _ (sym c.known_of.ensures ∙ c.in-Aligned.is)).sound
 
 pub returns-in-Aligned : goal.returns-in-Aligned
 returns-in-Aligned c =

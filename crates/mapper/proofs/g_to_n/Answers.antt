@@ -5,10 +5,9 @@ use Rattle.knowing.specs.laws.Known.{known_lies, ask_length, ask_broken}
 use Rattle.mapper.specs.laws.Lying.{lying_g_to_n}
 use borrow.Author.Rules.{rules}
 use Rattle.mapper.proofs.g_to_n.Goals as goal
-use Rattle.mapper.proofs.g_to_n.Goals.{In-Aligned}
 
 pub g_to_n-requires : goal.g_to_n-requires
-g_to_n-requires c = let p = (goal.at.g_to_n-requires c).In-Aligned in (known_lies _ _ _ (sym p.before.before.known_of.ensures ∙ p.at.given.1)).sound
+g_to_n-requires c = (known_lies _ _ _ (sym c.known_of.ensures ∙ c.in-Aligned.is)).sound
 
 pub returns-in-Aligned : goal.returns-in-Aligned
 returns-in-Aligned c =

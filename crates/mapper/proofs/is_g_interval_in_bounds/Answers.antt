@@ -5,10 +5,9 @@ use Rattle.knowing.specs.laws.Known.{known_lies, ask_length, ask_broken}
 use Rattle.mapper.specs.laws.Lying.{lying_in_bounds}
 use borrow.Author.Rules.{rules}
 use Rattle.mapper.proofs.is_g_interval_in_bounds.Goals as goal
-use Rattle.mapper.proofs.is_g_interval_in_bounds.Goals.{In-Aligned}
 
 pub is_in_bounds-requires : goal.is_in_bounds-requires
-is_in_bounds-requires c = let p = (goal.at.is_in_bounds-requires c).In-Aligned in (known_lies _ _ _ (sym p.before.before.known_of.ensures ∙ p.at.given.1)).sound.count_to
+is_in_bounds-requires c = (known_lies _ _ _ (sym c.known_of.ensures ∙ c.in-Aligned.is)).sound.count_to
 
 pub returns-in-Aligned : goal.returns-in-Aligned
 returns-in-Aligned c =

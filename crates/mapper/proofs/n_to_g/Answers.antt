@@ -5,10 +5,9 @@ use Rattle.knowing.specs.laws.Known.{known_lies, ask_length, ask_broken}
 use Rattle.mapper.specs.laws.Lying.{lying_n_to_g}
 use borrow.Author.Rules.{rules}
 use Rattle.mapper.proofs.n_to_g.Goals as goal
-use Rattle.mapper.proofs.n_to_g.Goals.{In-Aligned}
 
 pub to_g-requires : goal.to_g-requires
-to_g-requires c = let p = (goal.at.to_g-requires c).In-Aligned in (known_lies _ _ _ (sym p.before.before.known_of.ensures ∙ p.at.given.1)).sound
+to_g-requires c = (known_lies _ _ _ (sym c.known_of.ensures ∙ c.in-Aligned.is)).sound
 
 pub returns-in-Aligned : goal.returns-in-Aligned
 returns-in-Aligned c =

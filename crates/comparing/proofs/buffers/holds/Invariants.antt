@@ -1,0 +1,17 @@
+-- After each turn the flag says whether all bytes passed are those of the text.
+use Prim.Native.Nat.{ℕ, ◌≤◌, ◌-◌}
+use mathlib.Core.Path.{◌≡◌, ap}
+use mathlib.Core.Bool.{Bool, ◌&&◌}
+use lib.Dec.{eqb, leb}
+use lib.ListN.{length, get_or}
+use Rattle.segments.specs.Tables.{all_below}
+use Rattle.segments.specs.laws.Gathering.{all_none, all_more, all_done}
+use Rattle.comparing.specs.Texts.{holds_text}
+use borrow.Author.Rules.{rules}
+use Rattle.comparing.proofs.buffers.holds.Given as goal
+
+abbrev pub invariant-loop-i : goal.invariant-loop-i
+invariant-loop-i l = (l.i ≤ length l.buffer) × (l.same ≡ all_below (λ (k : ℕ). eqb (get_or l.buffer k 0) (get_or l.text k 0)) l.i)
+
+abbrev pub decreases-loop-i : goal.decreases-loop-i
+decreases-loop-i l = length l.buffer - l.i

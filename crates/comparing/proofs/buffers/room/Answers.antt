@@ -1,0 +1,9 @@
+-- The room has its length by the law of repeats; computing the list would cost by its length.
+use Prim.Native.Nat.{ℕ}
+use mathlib.Core.Path.{refl, sym}
+use lib.ListN.{length-replicate}
+use Rattle.comparing.specs.Sizes.{most_room}
+use Rattle.comparing.proofs.buffers.room.Goals as goal
+
+pub returns : goal.returns
+returns c = record { value = refl; size = sym (length-replicate {A = ℕ} most_room 0) }

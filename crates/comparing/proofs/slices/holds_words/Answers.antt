@@ -1,0 +1,23 @@
+-- After each turn the flag says whether all words passed are those of the layout.
+use Prim.Native.Nat.{ℕ, ◌≤◌, ◌-◌}
+use mathlib.Core.Path.{◌≡◌, ap}
+use mathlib.Core.Bool.{Bool, ◌&&◌}
+use lib.Dec.{eqb, leb}
+use lib.ListN.{length, get_or}
+use Rattle.segments.specs.Tables.{all_below}
+use Rattle.segments.specs.laws.Gathering.{all_none, all_more, all_done}
+use Rattle.comparing.specs.Bam.{words_laid, word_or, holds_words}
+use borrow.Author.Rules.{rules}
+use Rattle.comparing.proofs.slices.holds_words.Goals as goal
+
+pub loop-i-init : goal.loop-i-init
+loop-i-init c = (search rules, all_none _)
+
+pub loop-i-preserved : goal.loop-i-preserved
+loop-i-preserved c = (search rules, all_more _ _ c.loop-i.invariant.1 (ap (eqb _) c.word_at.ensures))
+
+pub returns : goal.returns
+unfolding holds_words
+returns c =
+    let a = c.args in
+    ap (λ (t : Bool). t && leb (words_laid a.layout.now) (length a.words.now)) (all_done _ _ _ c.loop-i.invariant.1 c.loop-i.invariant.0 c.loop-i-test.false)

@@ -1,0 +1,16 @@
+-- After i turns the first i words stand in the slice, which keeps its length.
+use Prim.Native.Nat.{ℕ, ◌≤◌, ◌-◌}
+use native.Mathlib.Nat.{le_antisymm}
+use native.Mathlib.Numerals.{add-one}
+use mathlib.Core.Path.{◌≡◌, refl, ap, ap₂, ◌∙◌}
+use mathlib.Core.List.{List}
+use lib.ListN.{length, set, length-set}
+use Rattle.comparing.specs.Bam.{words_put}
+use borrow.Author.Rules.{rules}
+use Rattle.comparing.proofs.slices.put_words.Given as goal
+
+abbrev pub invariant-loop-i : goal.invariant-loop-i
+invariant-loop-i l = (l.i ≤ length l.initial.words) × (l.words ≡ words_put l.layout l.initial.words l.i) × (length l.words ≡ length l.initial.words)
+
+abbrev pub decreases-loop-i : goal.decreases-loop-i
+decreases-loop-i l = length l.initial.words - l.i
