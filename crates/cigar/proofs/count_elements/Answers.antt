@@ -3,14 +3,14 @@
 -- Assumes nothing.
 use mathlib.Core.Path.{◌≡◌, sym, subst, ◌∙◌}
 use mathlib.Core.List.{List}
-use Prim.Native.Nat.{ℕ, ◌-◌, ◌≤◌, ◌<◌}
+use Prim.Native.Nat.{ℕ, ◌≤◌, ◌<◌}
 use native.Mathlib.Omega.{arith}
-use lib.ListN.{length, drop}
-use Rattle.cigar.specs.Text.{step_at, read_all, counted_of}
+use lib.ListN.{length}
+use Rattle.cigar.specs.Text.{step_at, read_all}
 use Rattle.cigar.specs.declared.Step.TheVariants.{Element}
 use Rattle.cigar.specs.laws.Steps.{Moves, moves}
 use Rattle.refusals.specs.Numbers.{most_segments}
-use Rattle.cigar.proofs.Counting.{counted_from, counted_none, counted_element, counted_full, counted_refused, counted_end}
+use Rattle.cigar.proofs.Counting.{counted_none, counted_element, counted_full, counted_refused, counted_end}
 use borrow.Author.Rules.{rules}
 use Rattle.cigar.proofs.count_elements.Goals as goal
 use Rattle.cigar.proofs.count_elements.Goals.{In-Element}

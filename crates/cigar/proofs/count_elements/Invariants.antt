@@ -1,17 +1,12 @@
 -- `cigar::count_elements` meets its contract. The loop's invariant: the whole text has n elements more than what is left. An arm of the `match` is given that the step is the constructor
 -- at the bound fields (`.next .given .1`), so each arm cites the law for that case.
 -- Assumes nothing.
-use mathlib.Core.Path.{◌≡◌, sym, subst, ◌∙◌}
-use mathlib.Core.List.{List}
-use Prim.Native.Nat.{ℕ, ◌-◌, ◌≤◌, ◌<◌}
-use native.Mathlib.Omega.{arith}
+use mathlib.Core.Path.{◌≡◌}
+use Prim.Native.Nat.{◌-◌, ◌≤◌}
 use lib.ListN.{length, drop}
-use Rattle.cigar.specs.Text.{step_at, read_all, counted_of}
-use Rattle.cigar.specs.declared.Step.TheVariants.{Element}
-use Rattle.cigar.specs.laws.Steps.{Moves, moves}
+use Rattle.cigar.specs.Text.{read_all, counted_of}
 use Rattle.refusals.specs.Numbers.{most_segments}
-use Rattle.cigar.proofs.Counting.{counted_from, counted_none, counted_element, counted_full, counted_refused, counted_end}
-use borrow.Author.Rules.{rules}
+use Rattle.cigar.proofs.Counting.{counted_from}
 use Rattle.cigar.proofs.count_elements.Given as goal
 
 abbrev pub invariant-loop-next : goal.invariant-loop-next

@@ -1,6 +1,5 @@
 -- `cigar::finish` meets its contract: the tests that led to each `return` say which case of `finished` holds.
 -- Assumes nothing.
-use borrow.Author.Rules.{rules}
 use native.Mathlib.Omega.{arith}
 use borrow.Author.Tests.{le-ltb, lt-ltb}
 use Rattle.refusals.specs.Numbers.{most_count}

@@ -1,6 +1,5 @@
 -- `cigar::more` meets its contract: a digit is at least `0` (`digit_bounds`), so that its value does not wrap, and the test picks the smaller of the sum and one above the largest. Assumes nothing.
 use native.Mathlib.Omega.{arith}
-use borrow.Author.Rules.{rules}
 use Rattle.cigar.specs.laws.Letters.{digit_bounds}
 use Rattle.cigar.proofs.more.Goals as goal
 

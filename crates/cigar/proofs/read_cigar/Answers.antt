@@ -4,7 +4,6 @@ use native.Mathlib.Omega.{arith}
 use Rattle.refusals.specs.Numbers.{most_segments}
 use Rattle.cigar.specs.Text.{read_all}
 use Rattle.cigar.proofs.Filling.{read_large, read_small, counted_answered, filled_after, refused_after}
-use borrow.Author.Rules.{rules}
 use Rattle.cigar.proofs.read_cigar.Goals as goal
 
 pub returns-then-text-gt-MOST_TEXT : goal.returns-then-text-gt-MOST_TEXT

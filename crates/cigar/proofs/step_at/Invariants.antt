@@ -1,14 +1,10 @@
 -- `cigar::step_at` meets its contract. The loop's invariant: what is to be found is what `element_from` finds from here, at the digits so far. The count stands for the true one,
 -- or for any above the largest (`capped`). The measure is what is left of the text.
 -- Assumes nothing.
-use mathlib.Core.Path.{◌≡◌, sym, ap, ◌∙◌}
-use mathlib.Core.Bool.{true}
-use Prim.Native.Nat.{ℕ, ◌+◌, ◌-◌, ◌≤◌, ◌<◌}
-use native.Mathlib.Omega.{arith}
+use mathlib.Core.Path.{◌≡◌}
+use Prim.Native.Nat.{◌-◌, ◌≤◌}
 use lib.ListN.{length, drop}
 use Rattle.cigar.specs.Text.{element_from, step_at}
-use Rattle.cigar.proofs.Laws.{capped, digit_step, letter_step, other_step, cut_off, starts, nothing}
-use borrow.Author.Rules.{rules}
 use Rattle.cigar.proofs.step_at.Given as goal
 
 abbrev pub invariant-loop-i : goal.invariant-loop-i

@@ -3,7 +3,6 @@ use mathlib.Core.Path.{ap, ◌∙◌}
 use mir.Syntax.{w32}
 use mir.ValLaws.{to_z-of_z}
 use Rattle.fields.specs.Fields.{signed32}
-use borrow.Author.Rules.{rules}
 use Rattle.fields.proofs.i32_at.Goals as goal
 
 pub returns : goal.returns

@@ -5,7 +5,6 @@ use lib.Seq.{sets}
 use mir.Syntax.{w32}
 use mir.ValLaws.{to_z-of_z}
 use Rattle.fields.specs.Fields.{bytes32, bits32}
-use borrow.Author.Rules.{rules}
 use Rattle.fields.proofs.put_i32.Goals as goal
 
 pub returns : goal.returns

@@ -1,7 +1,6 @@
 -- `fields::put_u16` meets its contract: two bytes are put, at `at` and `at + 1`, where `sets` has `at` and `suc at`.
 -- Assumes nothing.
 use native.Mathlib.Numerals.{add-one}
-use borrow.Author.Rules.{rules}
 use Rattle.fields.proofs.put_u16.Goals as goal
 
 pub returns : goal.returns

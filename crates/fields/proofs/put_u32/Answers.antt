@@ -6,7 +6,6 @@ use Prim.Native.Nat.{ℕ, ◌+◌, ◌/◌}
 use lib.Seq.{sets}
 use Rattle.fields.specs.Fields.{bytes16}
 use Rattle.fields.proofs.Halves.{halves_stored}
-use borrow.Author.Rules.{rules}
 use Rattle.fields.proofs.put_u32.Goals as goal
 
 pub returns : goal.returns

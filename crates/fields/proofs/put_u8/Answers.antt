@@ -1,5 +1,4 @@
 -- `fields::put_u8` meets its contract: one byte is stored. Assumes nothing.
-use borrow.Author.Rules.{rules}
 use Rattle.fields.proofs.put_u8.Goals as goal
 
 pub returns : goal.returns

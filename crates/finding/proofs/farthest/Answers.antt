@@ -1,6 +1,5 @@
 -- Each of the three calls gives one case of the definition. Assumes nothing.
 use mathlib.Core.Path.{sym}
-use borrow.Author.Rules.{rules}
 use Rattle.finding.proofs.farthest.Goals as goal
 
 pub returns : goal.returns

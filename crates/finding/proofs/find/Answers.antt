@@ -4,7 +4,6 @@ use mathlib.Core.Bool.{true, false}
 use mathlib.Core.Path.{◌≡◌, sym, ◌∙◌}
 use lib.IntN.{pos}
 use lib.Signed.{lt_z, le_z}
-use borrow.Author.Rules.{rules}
 use Rattle.whole.specs.laws.Whole.{read, order}
 use Rattle.finding.proofs.Halving.{before_all, behind_all}
 use Rattle.finding.proofs.find.Goals as goal

@@ -1,11 +1,8 @@
 -- The loop keeps `low` at `high` or before it, both numbers of segments; where the table rises it keeps the segment sought between them (`Bracket`), and one is left in the end. Assumes nothing.
 use Prim.Native.Nat.{◌-◌, ◌≤◌, ◌<◌}
-use native.Mathlib.Omega.{arith}
-use mathlib.Core.Path.{sym, ◌∙◌}
-use borrow.Author.Rules.{rules}
 use lib.IntN.{pos}
 use Rattle.finding.specs.Finding.{Rising}
-use Rattle.finding.proofs.Halving.{Bracket, bracket_all, bracket_down, bracket_up, bracket_done}
+use Rattle.finding.proofs.Halving.{Bracket}
 use Rattle.finding.proofs.halved.Given as goal
 
 abbrev pub invariant-loop-low : goal.invariant-loop-low

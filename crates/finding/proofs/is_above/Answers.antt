@@ -1,5 +1,4 @@
 -- What the machine reads back from its two numbers are the numbers. Assumes nothing.
-use borrow.Author.Rules.{rules}
 use Rattle.whole.specs.laws.Whole.{read}
 use Rattle.whole.specs.laws.Machine.{entry}
 use Rattle.finding.proofs.is_above.Goals as goal

@@ -1,10 +1,8 @@
 -- The loop keeps some segments left, no more than `most` and all in the table; where the table rises it keeps the segment sought among them (`Bracket`), of which there is one once `most` is one. Assumes nothing.
 use Prim.Native.Nat.{◌+◌, ◌-◌, ◌≤◌}
-use native.Mathlib.Omega.{arith}
-use borrow.Author.Rules.{rules}
 use lib.IntN.{pos}
 use Rattle.finding.specs.Finding.{Rising}
-use Rattle.finding.proofs.Halving.{Bracket, bracket_all, bracket_done, farthest_in, quarter_more}
+use Rattle.finding.proofs.Halving.{Bracket}
 use Rattle.finding.proofs.quartered.Given as goal
 
 abbrev pub invariant-loop-most : goal.invariant-loop-most

@@ -1,7 +1,6 @@
 -- The question asks each end of the interval again. Assumes nothing.
 use mathlib.Core.Path.{ap₂}
 use Rattle.positions.specs.Positions.{Interval, NAsked}
-use borrow.Author.Rules.{rules}
 use Rattle.positions.proofs.asked_again.Goals as goal
 
 abbrev interval : NAsked → NAsked → Interval NAsked

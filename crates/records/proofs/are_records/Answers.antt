@@ -1,9 +1,6 @@
 -- `records::are_records` meets its contract. The loop keeps that the whole is right just where the rest is. Assumes nothing.
-use mathlib.Core.Path.{◌≡◌, refl, sym, ◌∙◌}
-use Prim.Native.Nat.{◌≤◌}
+use mathlib.Core.Path.{refl, sym, ◌∙◌}
 use native.Mathlib.Omega.{arith}
-use lib.ListN.{length}
-use Rattle.records.specs.Records.{exactly}
 use Rattle.records.specs.laws.Walk.{no_numbers, no_text, one_more, all_walked}
 use borrow.Author.Rules.{rules}
 use Rattle.records.proofs.are_records.Goals as goal

@@ -3,7 +3,6 @@ use mathlib.Core.Path.{◌∙◌}
 use mir.Syntax.{w32}
 use mir.Val.{SFits}
 use Rattle.whole.specs.laws.Whole.{widened, read, fits_wider}
-use borrow.Author.Rules.{rules}
 use Rattle.records.proofs.field.Goals as goal
 use Rattle.records.proofs.field.Goals.{After-i32_at}
 

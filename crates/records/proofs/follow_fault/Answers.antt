@@ -7,7 +7,6 @@ use Rattle.records.specs.Layout.{ord_at}
 use Rattle.records.specs.Records.{record_at, field_at}
 use Rattle.records.specs.Faults.{rise_fault, join_fault, follow_fault}
 use Rattle.records.specs.laws.Chain.{refuses, passes}
-use borrow.Author.Rules.{rules}
 use Rattle.records.proofs.follow_fault.Goals as goal
 use Rattle.records.proofs.follow_fault.Tie as tie
 use Rattle.records.proofs.follow_fault.Reads as reads

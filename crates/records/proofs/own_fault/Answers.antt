@@ -7,7 +7,6 @@ use Rattle.records.specs.Layout.{alt_start_at, alt_end_at}
 use Rattle.records.specs.Records.{record_at, field_at}
 use Rattle.records.specs.Faults.{span_fault, own_fault}
 use Rattle.records.specs.laws.Chain.{refuses, passes}
-use borrow.Author.Rules.{rules}
 use Rattle.records.proofs.own_fault.Goals as goal
 use Rattle.records.proofs.own_fault.Tie as tie
 use Rattle.records.proofs.own_fault.Reads as reads

@@ -7,7 +7,6 @@ use Rattle.records.specs.Layout.{alt_start_at, alt_end_at}
 use Rattle.records.specs.Records.{record_at, field_at}
 use Rattle.records.specs.Faults.{start_fault, pair_fault}
 use Rattle.records.specs.laws.Chain.{refuses, passes}
-use borrow.Author.Rules.{rules}
 use Rattle.records.proofs.pair_fault.Goals as goal
 use Rattle.records.proofs.pair_fault.Tie as tie
 use Rattle.records.proofs.pair_fault.Reads as reads

@@ -1,12 +1,10 @@
 -- `records::records_fault` meets its contract. The loop keeps that the first refusal of all records is that of the rest, beside the previous one. Assumes nothing.
 use mathlib.Core.Path.{◌≡◌, refl, sym, ◌∙◌}
-use mathlib.Core.Bool.{Bool, true}
+use mathlib.Core.Bool.{Bool}
 use mathlib.Core.List.{List}
-use Prim.Native.Nat.{ℕ, ◌+◌, ◌-◌, ◌≤◌}
+use Prim.Native.Nat.{ℕ, ◌-◌}
 use native.Mathlib.Omega.{arith}
-use lib.ListN.{length}
-use Rattle.records.specs.Layout.{cigar_text}
-use Rattle.records.specs.Records.{next_at, record_at, records_from, exactly}
+use Rattle.records.specs.Records.{next_at, record_at, records_from}
 use Rattle.records.specs.Faults.{◌or_else◌, own_fault, pair_fault, faults_after, faults}
 use Rattle.records.specs.laws.Chain.{refuses, passes}
 use Rattle.records.specs.Walk.{Begins}

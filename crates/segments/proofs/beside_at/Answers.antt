@@ -1,7 +1,6 @@
 -- One arm for each end: the machine's t - 1 and t are the definition's. Assumes nothing.
 use mathlib.Core.Path.{refl}
 use native.Mathlib.Omega.{arith}
-use borrow.Author.Rules.{rules}
 use Rattle.whole.specs.laws.Whole.{read}
 use Rattle.whole.specs.laws.Machine.{entry}
 use Rattle.segments.proofs.Bounds.{fits_37, before_37, entry_37}

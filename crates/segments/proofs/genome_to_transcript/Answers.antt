@@ -1,7 +1,6 @@
 -- The tables hold together, so that they rise; the place is mapped by the segment with the number that was found for it, and what the tables map it to is what their elements do. Assumes nothing.
 use native.Mathlib.Omega.{arith}
 use mathlib.Core.Path.{◌≡◌, sym, ◌∙◌}
-use borrow.Author.Rules.{rules}
 use Rattle.whole.specs.laws.Whole.{read}
 use Rattle.segments.specs.Paper.{end_said, spot_said}
 use Rattle.finding.specs.Finding.{index_of}

@@ -1,6 +1,5 @@
 -- `spot_in` answers for what stands in the tables at the number. Assumes nothing.
 use Rattle.whole.specs.laws.Whole.{read}
-use borrow.Author.Rules.{rules}
 use Rattle.segments.proofs.map_at.Goals as goal
 
 pub returns : goal.returns

@@ -1,6 +1,5 @@
 -- The test goes the definition's way, and what the machine reads back from the edge and the distance are the definition's. Assumes nothing.
 use mathlib.Core.Path.{refl, sym, ◌∙◌}
-use borrow.Author.Rules.{rules}
 use native.Mathlib.Omega.{arith}
 use Rattle.whole.specs.laws.Whole.{read, fits_38}
 use Rattle.segments.specs.Places.{nearer}

@@ -1,7 +1,6 @@
 -- One arm for each kind of letter. In each the machine's numbers are read back: `along`, `left`, `right` and `place` are the code's. Assumes nothing.
 use mathlib.Core.Path.{refl}
 use native.Mathlib.Omega.{arith}
-use borrow.Author.Rules.{rules}
 use borrow.Author.Tests.{ne_eqb}
 use Rattle.whole.specs.laws.Whole.{read}
 use Rattle.cigar.specs.Elements.{kind_of, letter_d, letter_i, letter_n}

@@ -2,7 +2,6 @@
 use native.Mathlib.Omega.{arith}
 use mathlib.Core.Bool.{true}
 use mathlib.Core.Path.{◌≡◌, sym, ◌∙◌}
-use borrow.Author.Rules.{rules}
 use Rattle.whole.specs.laws.Whole.{read}
 use Rattle.segments.specs.Paper.{end_said, spot_said}
 use Rattle.finding.specs.Finding.{index_of}

@@ -2,7 +2,6 @@
 -- Assumes nothing.
 use mathlib.Core.Path.{refl, sym}
 use Rattle.sequences.specs.laws.InCommon.{get_d_reverse}
-use borrow.Author.Rules.{rules}
 use Rattle.sequences.proofs.byte_along.Goals as goal
 
 pub returns-then-back : goal.returns-then-back

@@ -5,7 +5,6 @@ use native.Mathlib.Omega.{arith}
 use Rattle.sequences.specs.Alleles.{changed_part}
 use Rattle.sequences.specs.Slices.{slice_of, part_of}
 use Rattle.sequences.specs.laws.Remaining.{Inside, inside}
-use borrow.Author.Rules.{rules}
 use Rattle.sequences.proofs.changed.Goals as goal
 use Rattle.sequences.proofs.changed.Goals.{After-changed_part-part}
 

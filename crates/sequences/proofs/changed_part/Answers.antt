@@ -12,7 +12,6 @@ use Rattle.sequences.specs.Alleles.{bytes_before, after, changed_part}
 use Rattle.sequences.specs.Slices.{slice_of}
 use Rattle.sequences.specs.laws.Parts.{after_rests}
 use Rattle.sequences.specs.laws.Remaining.{apart}
-use borrow.Author.Rules.{rules}
 use Rattle.sequences.proofs.changed_part.Goals as goal
 use Rattle.sequences.proofs.changed_part.Goals.{After-trim_common_suffixes-q}
 

@@ -1,9 +1,7 @@
 -- After each turn the first n bytes agree, by the invariant `Upto`. The loop ends where an allele ends or the bytes differ, and what is left of both has then nothing in common.
 -- Assumes nothing.
-use Prim.Native.Nat.{◌-◌}
 use native.Mathlib.Omega.{arith}
-use lib.ListN.{length}
-use Rattle.sequences.proofs.Agreeing.{Upto, ends_r, ends_a, differs, more}
+use Rattle.sequences.proofs.Agreeing.{ends_r, ends_a, differs, more}
 use borrow.Author.Rules.{rules}
 use Rattle.sequences.proofs.common.Goals as goal
 

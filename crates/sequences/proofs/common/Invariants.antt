@@ -1,10 +1,8 @@
 -- After each turn the first n bytes agree, by the invariant `Upto`. The loop ends where an allele ends or the bytes differ, and what is left of both has then nothing in common.
 -- Assumes nothing.
 use Prim.Native.Nat.{◌-◌}
-use native.Mathlib.Omega.{arith}
 use lib.ListN.{length}
-use Rattle.sequences.proofs.Agreeing.{Upto, ends_r, ends_a, differs, more}
-use borrow.Author.Rules.{rules}
+use Rattle.sequences.proofs.Agreeing.{Upto}
 use Rattle.sequences.proofs.common.Given as goal
 
 abbrev pub invariant-loop-n : goal.invariant-loop-n

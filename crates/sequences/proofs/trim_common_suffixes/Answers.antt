@@ -1,7 +1,6 @@
 -- The common suffix is defined as the common prefix of the alleles read from the back.
 -- Assumes nothing.
 use Rattle.sequences.specs.Alleles.{suffix_len}
-use borrow.Author.Rules.{rules}
 use Rattle.sequences.proofs.trim_common_suffixes.Goals as goal
 
 pub returns : goal.returns

@@ -3,7 +3,6 @@ use mathlib.Core.Path.{sym, ap}
 use native.Mathlib.Omega.{arith}
 use lib.ListN.{length}
 use Rattle.spelling.specs.laws.Decimal.{text_one, text_length}
-use borrow.Author.Rules.{rules}
 use Rattle.spelling.proofs.element_len.Goals as goal
 
 pub returns-then-count-eq1 : goal.returns-then-count-eq1

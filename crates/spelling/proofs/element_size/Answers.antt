@@ -10,7 +10,6 @@ use Rattle.cigar.specs.Elements.{is_letter}
 use Rattle.spelling.specs.Write.{element_text}
 use Rattle.spelling.specs.declared.Written.TheVariants as answer
 use Rattle.spelling.proofs.Writing.{alone_long}
-use borrow.Author.Rules.{rules}
 use Rattle.spelling.proofs.element_size.Goals as goal
 
 pub returns-then-count-lt0 : goal.returns-then-count-lt0

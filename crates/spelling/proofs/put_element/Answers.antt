@@ -6,7 +6,6 @@ use lib.ListN.{length}
 use Rattle.spelling.specs.Write.{decimal}
 use Rattle.spelling.specs.laws.Decimal.{text_one, text_more, text_length}
 use Rattle.cigar.specs.laws.Stores.{sets_snoc}
-use borrow.Author.Rules.{rules}
 use Rattle.spelling.proofs.put_element.Goals as goal
 
 pub bounds-buf-at : goal.bounds-buf-at

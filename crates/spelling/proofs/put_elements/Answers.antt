@@ -1,7 +1,7 @@
 -- `spelling::put_elements` meets its contract. The loop keeps that the buffer, once what is left is stored to it, is the buffer that is promised. Assumes nothing.
 use mathlib.Core.Path.{◌≡◌, refl, sym, ap, subst, ◌∙◌}
-use mathlib.Core.List.{List, ◌++◌}
-use Prim.Native.Nat.{ℕ, ◌+◌, ◌-◌, ◌≤◌}
+use mathlib.Core.List.{◌++◌}
+use Prim.Native.Nat.{ℕ, ◌+◌}
 use native.Mathlib.Omega.{arith}
 use lib.IntN.{ℤ, pos, nat_abs}
 use lib.ListN.{length, get_or, length-append}
@@ -9,8 +9,8 @@ use lib.Seq.{sets}
 use mir.Syntax.{w32}
 use Rattle.whole.specs.laws.Whole.{told}
 use Rattle.refusals.specs.Outcome.{Answered}
-use Rattle.cigar.specs.Text.{Reading, elements_in}
-use Rattle.spelling.specs.Write.{element_text, elements_text, elements_given}
+use Rattle.cigar.specs.Text.{Reading}
+use Rattle.spelling.specs.Write.{element_text, elements_text}
 use Rattle.cigar.specs.laws.Stores.{sets_append}
 use Rattle.spelling.proofs.Writing.{left_of, left_all, left_more, left_none, Judged, judged_answered}
 use borrow.Author.Rules.{rules}

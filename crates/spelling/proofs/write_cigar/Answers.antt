@@ -9,7 +9,6 @@ use Rattle.cigar.specs.laws.Lent.{sets_front}
 use Rattle.spelling.specs.Write.{elements_text, elements_given, size_of}
 use Rattle.spelling.specs.declared.Written.TheVariants as answer
 use Rattle.spelling.proofs.Writing.{sized, many_written, refused_written, large_written, full_written, text_written}
-use borrow.Author.Rules.{rules}
 use Rattle.spelling.proofs.write_cigar.Goals as goal
 use Rattle.spelling.proofs.write_cigar.Goals.{In-Text}
 

@@ -3,7 +3,7 @@
 --     read_write    what was read into tables is written, into any buffer that has room for it
 --     write_read    what was written from any two tables reads as what they gave
 -- Assumes nothing.
-use Rattle.std.specs.Prelude.{◌≡◌, refl, true, false, List, [], ◌∷◌, ◌++◌, ltb, ℤ, pos, negsuc, nat_abs, length, get_or, drop}
+use Rattle.std.specs.Prelude.{◌≡◌, refl, false, List, [], ◌∷◌, ◌++◌, ltb, ℤ, pos, negsuc, nat_abs, length, get_or, drop}
 use Rattle.std.proofs.Common.{ap, ◌∙◌, true≢false, arith, length-append, SFits, le-ltb, ltb-false}
 use Prim.Native.Nat.{ℕ, zero, suc, ◌+◌, ◌≤◌}
 use Rattle.std.proofs.Math.Seq.{append_snoc}

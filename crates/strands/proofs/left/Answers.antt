@@ -2,7 +2,6 @@
 -- Assumes nothing.
 use mathlib.Core.Path.{ap, ◌∙◌}
 use Rattle.sequences.specs.Slices.{Slice, front_of}
-use borrow.Author.Rules.{rules}
 use Rattle.strands.proofs.left.Goals as goal
 
 pub returns-then-back : goal.returns-then-back

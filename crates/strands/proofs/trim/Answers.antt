@@ -9,7 +9,6 @@ use Rattle.strands.specs.Turned.{turned, prefix_after}
 use Rattle.strands.specs.Trimmed.{removed_of}
 use Rattle.strands.specs.laws.Strands.{suffix_turned, after_turned}
 use Rattle.sequences.specs.laws.Parts.{front_bytes, after_rests}
-use borrow.Author.Rules.{rules}
 use Rattle.strands.proofs.trim.Goals as goal
 
 -- where the suffix goes first, the bytes that go at the front are counted in what is left before it

@@ -1,11 +1,7 @@
 -- `words::all_known` meets its contract. The loop keeps that all words are known if those that are left are. Assumes nothing.
-use mathlib.Core.Path.{◌≡◌, refl, sym, ◌∙◌}
-use Prim.Native.Nat.{◌-◌, ◌≤◌}
+use mathlib.Core.Path.{refl, sym, ◌∙◌}
 use native.Mathlib.Omega.{arith}
-use lib.ListN.{length, drop}
-use Rattle.words.specs.Words.{all_known}
 use Rattle.words.proofs.Words.{known_more, known_not, known_none}
-use borrow.Author.Rules.{rules}
 use Rattle.words.proofs.all_known.Goals as goal
 
 pub loop-i-init : goal.loop-i-init

@@ -1,11 +1,8 @@
 -- `words::all_known` meets its contract. The loop keeps that all words are known if those that are left are. Assumes nothing.
-use mathlib.Core.Path.{◌≡◌, refl, sym, ◌∙◌}
+use mathlib.Core.Path.{◌≡◌}
 use Prim.Native.Nat.{◌-◌, ◌≤◌}
-use native.Mathlib.Omega.{arith}
 use lib.ListN.{length, drop}
 use Rattle.words.specs.Words.{all_known}
-use Rattle.words.proofs.Words.{known_more, known_not, known_none}
-use borrow.Author.Rules.{rules}
 use Rattle.words.proofs.all_known.Given as goal
 
 abbrev pub invariant-loop-i : goal.invariant-loop-i

@@ -8,7 +8,6 @@ use Rattle.refusals.specs.Numbers.{most_word_count}
 use Rattle.cigar.specs.Elements.{is_letter}
 use Rattle.words.specs.Words.{fault_of}
 use Rattle.words.specs.laws.RoundTrips.{fault_letter}
-use borrow.Author.Rules.{rules}
 use Rattle.words.proofs.fault_of.Goals as goal
 
 pub returns-then-count-lt0 : goal.returns-then-count-lt0

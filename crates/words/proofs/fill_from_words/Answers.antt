@@ -1,19 +1,15 @@
 -- `words::fill_from_words` meets its contract. What is left to store makes the tables that are promised, before and after a turn. Assumes nothing.
 use mathlib.Core.Path.{◌≡◌, refl, ap, subst, ◌∙◌}
-use mathlib.Core.List.{map}
-use Prim.Native.Nat.{◌-◌, ◌≤◌}
 use native.Mathlib.Omega.{arith}
 use lib.IntN.{ℤ, pos}
-use lib.ListN.{length, drop, get_or, length-set}
-use lib.Seq.{sets}
+use lib.ListN.{get_or, length-set}
 use mir.Syntax.{w32}
 use mir.Val.{to_z, of_z}
 use mir.ValLaws.{to_z_pos}
-use Rattle.cigar.specs.Read.{counts_of, letters_of, Filled}
-use Rattle.words.specs.Words.{element_of_word, length_in}
+use Rattle.cigar.specs.Read.{Filled}
+use Rattle.words.specs.Words.{length_in}
 use Rattle.cigar.specs.laws.Filling.{fill_one, fill_none}
 use Rattle.words.proofs.Words.{elements_more, elements_none}
-use borrow.Author.Rules.{rules}
 use Rattle.words.proofs.fill_from_words.Goals as goal
 
 pub loop-i-init : goal.loop-i-init

@@ -1,6 +1,6 @@
 -- `words::first_fault` meets its contract. The loop keeps that the first refusal is that of the elements that are left. Assumes nothing.
 use mathlib.Core.Path.{◌≡◌, sym, ap, ◌∙◌}
-use Prim.Native.Nat.{ℕ, ◌-◌, ◌≤◌, ◌<◌}
+use Prim.Native.Nat.{ℕ, ◌-◌, ◌<◌}
 use native.Mathlib.Omega.{arith}
 use lib.IntN.{ℤ, pos}
 use lib.ListN.{get_or}
@@ -8,7 +8,6 @@ use mir.Syntax.{w32}
 use Rattle.whole.specs.laws.Whole.{told}
 use Rattle.words.specs.Words.{fault_of, fault_from}
 use Rattle.words.proofs.Words.{fault_more, fault_here, fault_end}
-use borrow.Author.Rules.{rules}
 use Rattle.words.proofs.first_fault.Goals as goal
 use Rattle.words.proofs.first_fault.Goals.{After-fault_of-fault}
 

@@ -1,14 +1,7 @@
 -- `words::first_fault` meets its contract. The loop keeps that the first refusal is that of the elements that are left. Assumes nothing.
-use mathlib.Core.Path.{◌≡◌, sym, ap, ◌∙◌}
-use Prim.Native.Nat.{ℕ, ◌-◌, ◌≤◌, ◌<◌}
-use native.Mathlib.Omega.{arith}
-use lib.IntN.{ℤ, pos}
-use lib.ListN.{get_or}
-use mir.Syntax.{w32}
-use Rattle.whole.specs.laws.Whole.{told}
-use Rattle.words.specs.Words.{fault_of, fault_from}
-use Rattle.words.proofs.Words.{fault_more, fault_here, fault_end}
-use borrow.Author.Rules.{rules}
+use mathlib.Core.Path.{◌≡◌}
+use Prim.Native.Nat.{◌-◌, ◌≤◌}
+use Rattle.words.specs.Words.{fault_from}
 use Rattle.words.proofs.first_fault.Given as goal
 
 abbrev pub invariant-loop-i : goal.invariant-loop-i

@@ -1,7 +1,6 @@
 -- `words::is_known` meets its contract. Assumes nothing.
 use mathlib.Core.Path.{ap, ◌∙◌}
 use Rattle.cigar.specs.Elements.{is_letter}
-use borrow.Author.Rules.{rules}
 use Rattle.words.proofs.is_known.Goals as goal
 
 pub returns : goal.returns

@@ -1,7 +1,6 @@
 -- `words::letter_in` meets its contract: its letters are BAM's with I and D exchanged, and past their end both give 0. Assumes nothing.
 use lib.ListN.{get_or-eq_default, get_or-map}
 use Rattle.words.specs.Words.{bam_letters, exchanged, letter_of, code_in}
-use borrow.Author.Rules.{rules}
 use Rattle.words.proofs.letter_in.Goals as goal
 
 pub returns-then-code-lt9 : goal.returns-then-code-lt9

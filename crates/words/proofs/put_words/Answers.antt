@@ -1,18 +1,16 @@
 -- `words::put_words` meets its contract. The loop keeps that the words, once what is left is stored to them, are the words that are promised. Assumes nothing.
 use mathlib.Core.Path.{◌≡◌, refl, sym, ap, ◌∙◌}
-use mathlib.Core.List.{map}
-use Prim.Native.Nat.{ℕ, ◌+◌, ◌-◌, ◌≤◌}
+use Prim.Native.Nat.{ℕ, ◌+◌, ◌-◌}
 use native.Mathlib.Numerals.{add-one}
 use native.Mathlib.Omega.{arith}
 use lib.IntN.{ℤ, pos, nat_abs}
-use lib.ListN.{length, get_or, length-set}
+use lib.ListN.{get_or, length-set}
 use lib.Seq.{sets}
 use mir.Syntax.{w32}
 use Rattle.whole.specs.laws.Whole.{told}
 use Rattle.cigar.specs.Text.{element}
-use Rattle.words.specs.Words.{word_of, fault_of, fault_from, elements_at}
+use Rattle.words.specs.Words.{word_of, fault_of, fault_from}
 use Rattle.words.proofs.Words.{fault_left, words_more, words_none}
-use borrow.Author.Rules.{rules}
 use Rattle.words.proofs.put_words.Goals as goal
 use Rattle.words.proofs.put_words.Goals.{In-loop-i}
 

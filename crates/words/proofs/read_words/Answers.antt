@@ -11,7 +11,6 @@ use Rattle.cigar.specs.Read.{counts_of, letters_of}
 use Rattle.words.specs.Words.{element_of_word, all_known}
 use Rattle.cigar.specs.declared.Counted.TheVariants as counted
 use Rattle.words.proofs.Words.{unknown_read, many_read, counts_full, letters_full, all_read}
-use borrow.Author.Rules.{rules}
 use Rattle.words.proofs.read_words.Goals as goal
 use Rattle.words.proofs.read_words.Tie as tie
 use Rattle.words.proofs.read_words.Lts as lts

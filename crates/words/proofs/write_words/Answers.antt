@@ -11,7 +11,6 @@ use Rattle.words.specs.Words.{word_of, fault_from, elements_at}
 use Rattle.words.specs.laws.RoundTrips.{from_length}
 use Rattle.cigar.specs.declared.Counted.TheVariants as counted
 use Rattle.words.proofs.Words.{fault_written, many_words, full_words, all_written, all_held}
-use borrow.Author.Rules.{rules}
 use Rattle.words.proofs.write_words.Goals as goal
 use Rattle.words.proofs.write_words.Tie as tie
 use Rattle.words.proofs.write_words.Lts as lts

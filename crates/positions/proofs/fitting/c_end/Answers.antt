@@ -1,6 +1,5 @@
 -- The number is tested; its offset came in 32 bits, so it fits. Assumes nothing.
 use mathlib.Core.Path.{◌≡◌, sym, ◌∙◌}
-use borrow.Author.Rules.{rules}
 use mir.Syntax.{w64}
 use Rattle.whole.specs.laws.Whole.{read, told}
 use Rattle.whole.specs.Fits.{fit_of}

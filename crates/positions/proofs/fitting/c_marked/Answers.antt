@@ -1,5 +1,4 @@
 -- After a marked step one that bears no mark has that step's mark; a refusal stays. Assumes nothing.
-use borrow.Author.Rules.{rules}
 use Rattle.positions.proofs.fitting.c_marked.Goals as goal
 
 pub returns-then-sure : goal.returns-then-sure

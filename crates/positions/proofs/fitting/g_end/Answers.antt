@@ -1,6 +1,5 @@
 -- The number that the test gave back is the one that was tested, and it fits; where the test gave none, it does not fit. Assumes nothing.
 use mathlib.Core.Path.{◌≡◌, sym, ◌∙◌}
-use borrow.Author.Rules.{rules}
 use Rattle.whole.specs.laws.Whole.{read}
 use Rattle.whole.specs.Fits.{fit_of}
 use Rattle.positions.proofs.Wide.{fit_number, fit_wide}

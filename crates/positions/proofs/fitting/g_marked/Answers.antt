@@ -1,5 +1,4 @@
 -- One way through for each pair of ends; where both are there, the interval has the mark. Assumes nothing.
-use borrow.Author.Rules.{rules}
 use Rattle.positions.proofs.fitting.g_marked.Goals as goal
 
 pub returns-in-At-b : goal.returns-in-At-b

@@ -1,5 +1,4 @@
 -- One way through for each pair of ends: both are there, the second is refused, the first is refused. Assumes nothing.
-use borrow.Author.Rules.{rules}
 use Rattle.positions.proofs.fitting.n_both.Goals as goal
 
 pub returns-in-At-b : goal.returns-in-At-b

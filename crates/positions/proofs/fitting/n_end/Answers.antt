@@ -1,7 +1,6 @@
 -- Number and offset are tested one after the other, as the definition tests both: what a test gave back is what was tested. Assumes nothing.
 use mathlib.Core.Path.{◌≡◌, sym, ◌∙◌}
 use mathlib.Core.Bool.{and-false}
-use borrow.Author.Rules.{rules}
 use mir.Syntax.{w64}
 use Rattle.whole.specs.laws.Whole.{read, told}
 use Rattle.whole.specs.Fits.{fit_of}

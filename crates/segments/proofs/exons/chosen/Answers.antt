@@ -1,5 +1,4 @@
 -- What stands at the number that the edge and the strand say. Assumes nothing.
-use borrow.Author.Rules.{rules}
 use Rattle.segments.specs.Exons.{exon_chosen}
 use Rattle.segments.proofs.exons.chosen.Goals as goal
 

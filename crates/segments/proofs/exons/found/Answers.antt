@@ -1,5 +1,4 @@
 -- What stands at the number that the edge says. Assumes nothing.
-use borrow.Author.Rules.{rules}
 use Rattle.segments.specs.Exons.{exon_found}
 use Rattle.segments.proofs.exons.found.Goals as goal
 

@@ -1,5 +1,4 @@
 -- The test goes the definition's way. Assumes nothing.
-use borrow.Author.Rules.{rules}
 use borrow.Author.Tests.{lt-ltb, le-ltb}
 use Rattle.segments.proofs.exons.number_at.Goals as goal
 

@@ -1,5 +1,4 @@
 -- One arm for each edge. Assumes nothing.
-use borrow.Author.Rules.{rules}
 use Rattle.segments.proofs.exons.numbered_from.Goals as goal
 
 pub returns-in-Right : goal.returns-in-Right

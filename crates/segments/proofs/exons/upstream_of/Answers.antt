@@ -1,5 +1,4 @@
 -- One arm for each edge, and what is before an N by the strand. Assumes nothing.
-use borrow.Author.Rules.{rules}
 use Rattle.segments.proofs.exons.upstream_of.Goals as goal
 
 pub returns-in-Left : goal.returns-in-Left

@@ -1,5 +1,4 @@
 -- The strand's test goes the definition's way. Assumes nothing.
-use borrow.Author.Rules.{rules}
 use Rattle.segments.proofs.exons.upstream_side.Goals as goal
 
 pub returns-then-forward : goal.returns-then-forward

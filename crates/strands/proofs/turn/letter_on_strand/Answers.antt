@@ -3,7 +3,6 @@
 use mathlib.Core.Path.{refl, sym, ap, ◌∙◌}
 use Rattle.strands.specs.Turned.{partner}
 use Rattle.strands.specs.laws.Turning.{turned_at}
-use borrow.Author.Rules.{rules}
 use Rattle.strands.proofs.turn.letter_on_strand.Goals as goal
 
 pub returns-then-back : goal.returns-then-back

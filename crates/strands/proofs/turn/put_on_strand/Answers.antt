@@ -2,7 +2,7 @@
 -- Assumes nothing.
 use mathlib.Core.Path.{◌≡◌, refl, sym, ap, ap₂, ◌∙◌}
 use mathlib.Core.List.{List, ◌++◌}
-use Prim.Native.Nat.{ℕ, ◌+◌, ◌-◌, ◌≤◌, ◌<◌}
+use Prim.Native.Nat.{ℕ, ◌+◌, ◌≤◌, ◌<◌}
 use native.Mathlib.Numerals.{add-one}
 use native.Mathlib.Nat.{zero-add}
 use native.Mathlib.Omega.{arith}
@@ -10,7 +10,6 @@ use lib.ListN.{length, get_or, drop, set, length-set}
 use lib.Seq.{take_all, paste, paste-zero, paste-suc}
 use Rattle.strands.specs.Turned.{on_strand}
 use Rattle.strands.specs.laws.Turning.{on_strand_length}
-use borrow.Author.Rules.{rules}
 use Rattle.strands.proofs.turn.put_on_strand.Goals as goal
 
 -- one letter more is stored

@@ -1,16 +1,10 @@
 -- The loop keeps that as many letters as were passed stand at the front, and that the rest stays.
 -- Assumes nothing.
-use mathlib.Core.Path.{◌≡◌, refl, sym, ap, ap₂, ◌∙◌}
-use mathlib.Core.List.{List, ◌++◌}
-use Prim.Native.Nat.{ℕ, ◌+◌, ◌-◌, ◌≤◌, ◌<◌}
-use native.Mathlib.Numerals.{add-one}
-use native.Mathlib.Nat.{zero-add}
-use native.Mathlib.Omega.{arith}
-use lib.ListN.{length, get_or, drop, set, length-set}
-use lib.Seq.{take_all, paste, paste-zero, paste-suc}
+use mathlib.Core.Path.{◌≡◌}
+use Prim.Native.Nat.{◌-◌, ◌≤◌}
+use lib.ListN.{length}
+use lib.Seq.{paste}
 use Rattle.strands.specs.Turned.{on_strand}
-use Rattle.strands.specs.laws.Turning.{on_strand_length}
-use borrow.Author.Rules.{rules}
 use Rattle.strands.proofs.turn.put_on_strand.Given as goal
 
 abbrev pub invariant-loop-i : goal.invariant-loop-i

@@ -7,7 +7,6 @@ use Prim.Native.Nat.{ℕ}
 use lib.ListN.{length, drop}
 use Rattle.strands.specs.Turned.{are_bases, turned}
 use Rattle.strands.specs.laws.Turning.{turned_length, turning_other, turning_long, turning_fits}
-use borrow.Author.Rules.{rules}
 use Rattle.strands.proofs.turn.turn.Goals as goal
 use Rattle.strands.proofs.turn.turn.Goals.{Then-are_bases}
 
