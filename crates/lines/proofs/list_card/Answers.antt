@@ -94,7 +94,7 @@ module _ (c : lts.After-count_in tie.the-claims tie.handed_pre tie.handed_post t
 
 pub put_listing-requires : goal.put_listing-requires
 put_listing-requires c =
-    let n = c.before.before.before.before.before in
+    let n = c.before.before in
     let h = known n in
     record { count_le_most_segments = (omega (arith, number_is n, (sane h).few), omega arith); holds = made_holds (thing h) (tables_are h) (number_is n) (sane h) }
 
@@ -106,13 +106,13 @@ shape_of-buffer-in-Transcript c = put_length c.put_listing.ensures.put
 
 pub returns-in-Transcript : goal.returns-in-Transcript
 returns-in-Transcript c =
-    let n = c.before.before.before.before.before.before.before.before in
+    let n = c.before.before.before.before.before in
     let h = known n in
     let e = made_listed (thing h) (tables_are h) (number_is n) (forward_is n) ∙ sym (ap judgment_text (makes_head h).judged) in
     let b = (call h).build_card.ensures in
     let p = c.put_listing.ensures in
     let w = put_front (put_as e p.put) (omega (arith, p.within, (entry (call h)).requires)) in
-    record { value = w.0; within = p.within; buffer_after = w.1; letters_after = (b.1).0; exons_after = (b.1).1 }
+    record { value = w.0; within = p.within; buffer_after = w.1; letters_after = b.letters_after; exons_after = b.exons_after }
 
 pub shape_of-buffer-in-Refused : goal.shape_of-buffer-in-Refused
 shape_of-buffer-in-Refused c = put_length c.put_refusal.ensures.put
@@ -124,4 +124,4 @@ returns-in-Refused c =
     let e = ap judgment_text (refuses (judge_card (entry c.before.before.before.before.before.before).args.card.now) k.k (sym b.value ∙ k.is)) in
     let p = c.put_refusal.ensures in
     let w = put_front (put_as (sym e) p.put) (omega (arith, p.within, (entry c.before.before.before.before.before.before).requires)) in
-    record { value = w.0; within = omega (arith, p.within); buffer_after = w.1; letters_after = (b.1).0; exons_after = (b.1).1 }
+    record { value = w.0; within = omega (arith, p.within); buffer_after = w.1; letters_after = b.letters_after; exons_after = b.exons_after }

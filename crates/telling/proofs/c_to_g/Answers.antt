@@ -41,18 +41,18 @@ at_from t = t.before.before.before
 known_is : (t : lts.Then1 tie.the-claims tie.handed_pre tie.handed_post tie.handed_clauses) →
     let p = at_from t in
     let a = p.args in
-    known_of (lent a.head a.genome.now a.transcript.now a.letters.now a.exons.now) ≡ known.Aligned p.at.given.0.0 p.at.given.0.1.0
+    known_of (lent a.head a.genome.now a.transcript.now a.letters.now a.exons.now) ≡ known.Aligned p.in-Aligned.at p.in-Aligned.cds
 known_is t = told_lies _ (told_is (at_from t)) (sym t.tables_hold.ensures ∙ t.if-tables_hold.true)
 
 -- the name that was sought, and where it was seen
 name_is : (m : lts.Past-After-known_told2 tie.the-claims tie.handed_pre tie.handed_post tie.handed_clauses) →
     let p = at_from m.before in
     let a = p.args in
-    Named a.strict p.at.given.0.0 a.transcript.now (paper_coding p.at.given.0.1.0) (question p.before.before.before) m.in-Inside.p.0
-    × Seen a.transcript.now p.at.given.0.0.count m.in-Inside.p.0 m.in-Inside.number
+    Named a.strict p.in-Aligned.at a.transcript.now (paper_coding p.in-Aligned.cds) (question p.before.before) m.in-Inside.p.0
+    × Seen a.transcript.now p.in-Aligned.at.count m.in-Inside.p.0 m.in-Inside.number
 name_is m =
     let p = at_from m.before in
-    simp (question_is p.before.before.before) at (rw m.in-Inside.is at m.seek_name-sought.ensures)
+    simp (question_is p.before.before) at (rw m.in-Inside.is at m.seek_name-sought.ensures)
 
 pub seek_name-sought-requires : goal.seek_name-sought-requires
 seek_name-sought-requires c = let l = told_lying _ _ _ _ (told_is c) in (l.some, l.few)
@@ -74,13 +74,13 @@ pub sure_g-requires : goal.sure_g-requires
 sure_g-requires c =
     let x = c.before in
     let (small, on) = x.spot_at_n-spot.ensures.small in
-    ((known_lies _ _ _ (known_is (sought_from x).before.before)).sound.count_to, small, on)
+    ((known_lies _ _ _ (known_is (sought_from x).before)).sound.count_to, small, on)
 
 pub returns-then-spot : goal.returns-then-spot
 returns-then-spot c =
     let x = c.before.before in
     let m = sought_from x in
-    let t = m.before.before in
+    let t = m.before in
     let (n, seen) = name_is m in
     simp (read (at_from t).ranges.«start_offset») at c.sure_g.ensures
     ∙ ap (laid g_laid) (sym (one_name _ _ _ (known_is t) _ _ _ n _ seen.within x.spot_at_n-spot.ensures.said c.if-spot.true))
@@ -89,14 +89,14 @@ pub beside_g-requires : goal.beside_g-requires
 beside_g-requires c =
     let x = c.before in
     let (small, on) = x.spot_at_n-spot.ensures.small in
-    (small.place_small, on, (known_lies _ _ _ (known_is (sought_from x.before).before.before)).sound.count_to)
+    (small.place_small, on, (known_lies _ _ _ (known_is (sought_from x.before).before)).sound.count_to)
 
 pub returns-in-Inside : goal.returns-in-Inside
 returns-in-Inside c =
     let e = c.before.before in
     let x = e.before in
     let m = sought_from x.before in
-    let t = m.before.before in
+    let t = m.before in
     let (n, seen) = name_is m in
     let own = read (at_from t).ranges.«start_offset» in
     c.lay_g.ensures
@@ -114,7 +114,7 @@ returns-then-tables_hold c =
     let n = g.before in
     let l = n.before in
     let t = l.before.before in
-    let first = simp (l.last-len.ensures, question_is (at_from t).before.before.before) at n.c_to_n-n.ensures in
+    let first = simp (l.last-len.ensures, question_is (at_from t).before.before) at n.c_to_n-n.ensures in
     c.lay_g-then-tables_hold.ensures ∙ ap (laid g_laid) (simp first at g.then_n_to_g.ensures ∙ sym (lying_c_to_g _ _ _ (known_is t) _ _))
 
 pub returns-else-tables_hold : goal.returns-else-tables_hold

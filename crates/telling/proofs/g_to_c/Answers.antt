@@ -41,14 +41,14 @@ ends_from t = t.before.before.before
 known_is : (t : lts.Then1 tie.the-claims tie.handed_pre tie.handed_post tie.handed_clauses) →
     let p = at_from t in
     let a = p.args in
-    known_of (lent a.head a.genome.now a.transcript.now a.letters.now a.exons.now) ≡ known.Aligned p.at.given.0.0 p.at.given.0.1.0
+    known_of (lent a.head a.genome.now a.transcript.now a.letters.now a.exons.now) ≡ known.Aligned p.in-Aligned.at p.in-Aligned.cds
 known_is t = told_lies _ (told_is (at_from t)) (sym t.tables_hold.ensures ∙ t.if-tables_hold.true)
 
 -- the base that was sought, and where it was seen
 base_is : (m : lts.Past-After-known_told2 tie.the-claims tie.handed_pre tie.handed_post tie.handed_clauses) →
     let t = m.before in
-    Based (at_from t).at.given.0.0 (paper_given (ends_from t).both_ends-ends.result) m.in-Inside.p.0
-    × Seen (at_from t).args.genome.now (at_from t).at.given.0.0.count m.in-Inside.p.0 m.in-Inside.number
+    Based (at_from t).in-Aligned.at (paper_given (ends_from t).both_ends-ends.result) m.in-Inside.p.0
+    × Seen (at_from t).args.genome.now (at_from t).in-Aligned.at.count m.in-Inside.p.0 m.in-Inside.number
 base_is m = rw m.in-Inside.is at m.seek_base-sought.ensures
 
 pub seek_base-sought-requires : goal.seek_base-sought-requires
@@ -71,13 +71,13 @@ pub sure_c-requires : goal.sure_c-requires
 sure_c-requires c =
     let x = c.before in
     let (small, on) = x.spot_at_g-spot.ensures.small in
-    ((known_lies _ _ _ (known_is (sought_from x).before.before)).sound.count_to, small, on)
+    ((known_lies _ _ _ (known_is (sought_from x).before)).sound.count_to, small, on)
 
 pub returns-then-spot : goal.returns-then-spot
 returns-then-spot c =
     let x = c.before.before in
     let m = sought_from x in
-    let t = m.before.before in
+    let t = m.before in
     let (b, seen) = base_is m in
     c.sure_c.ensures ∙ ap (laid c_laid) (sym (one_base_c _ _ _ (known_is t) _ _ _ (ends_are (ends_from t)) _ b _ seen.within x.spot_at_g-spot.ensures.said c.if-spot.true))
 
@@ -85,14 +85,14 @@ pub beside_c-requires : goal.beside_c-requires
 beside_c-requires c =
     let x = c.before in
     let (small, on) = x.spot_at_g-spot.ensures.small in
-    (small.place_small, on, (known_lies _ _ _ (known_is (sought_from x.before).before.before)).sound.count_to)
+    (small.place_small, on, (known_lies _ _ _ (known_is (sought_from x.before).before)).sound.count_to)
 
 pub returns-in-Inside : goal.returns-in-Inside
 returns-in-Inside c =
     let e = c.before.before in
     let x = e.before in
     let m = sought_from x.before in
-    let t = m.before.before in
+    let t = m.before in
     let (b, seen) = base_is m in
     c.lay_c.ensures
     ∙ ap (laid c_laid) (c.beside_c.ensures ∙ sym (base_beside_c _ _ _ (known_is t) _ _ _ (ends_are (ends_from t)) _ b _ seen.within x.spot_at_g-spot.ensures.said e.if-spot.false))

@@ -7,14 +7,13 @@ use Rattle.whole.specs.laws.Machine.{same_32, other_32}
 use Rattle.comparing.specs.Texts.{recorded_count, is_element}
 use borrow.Author.Rules.{rules}
 use Rattle.comparing.proofs.elements.is_element.Goals as goal
-use Rattle.comparing.proofs.elements.is_element.Goals.{Start}
 
 pub returns-then-own-count : goal.returns-then-own-count
 unfolding is_element
 returns-then-own-count c =
     let e : eq_z (recorded_count c.args.elements.now c.args.i) c.args.count ≡ true =
     ap (λ (z : ℤ). eq_z z c.args.count) (sym c.count_at-own.ensures)
-    ∙ same_32 {(goal.at.returns-then-own-count c).Start = c.count_at-own.result} {b = c.args.count} (record { sfits = c.count_at-own.type_inv }) c.ranges.count c.if-own-count.true in
+    ∙ same_32 {a = c.count_at-own.result} {b = c.args.count} (record { sfits = c.count_at-own.type_inv }) c.ranges.count c.if-own-count.true in
     rw (e, c.letter_at.ensures)
 
 pub returns : goal.returns

@@ -6,14 +6,13 @@ use Rattle.whole.specs.laws.Machine.{same_32, other_32}
 use Rattle.comparing.specs.Bam.{is_count}
 use borrow.Author.Rules.{rules}
 use Rattle.comparing.proofs.slices.is_count.Goals as goal
-use Rattle.comparing.proofs.slices.is_count.Goals.{Start}
 
 pub returns-then-own-count : goal.returns-then-own-count
 unfolding is_count
 returns-then-own-count c =
     sym
     (ap (λ (z : ℤ). eq_z z c.args.count) (sym c.count_at-own.ensures)
-    ∙ same_32 {(goal.at.returns-then-own-count c).Start = c.count_at-own.result} {b = c.args.count} (record { sfits = c.count_at-own.type_inv }) c.ranges.count c.if-own-count.true)
+    ∙ same_32 {a = c.count_at-own.result} {b = c.args.count} (record { sfits = c.count_at-own.type_inv }) c.ranges.count c.if-own-count.true)
 
 pub returns : goal.returns
 unfolding is_count
