@@ -76,8 +76,7 @@ module _ {cards : List ℕ} {at : ℕ} {t : Tables} {exons text : List ℕ} {t�
   pub some : LeavesAfterSome (cards_in cards) t₀ exons₀ text₀ t exons text
   some =
       let all = l.order in
-      let front : take (length l.done) (cards_in cards) ≡ l.done = ap (take (length l.done)) (sym all) ∙ take-append_seam l.done (cards_from l.rows (drop at cards)) in
-      (
+      let front : take (length l.done) (cards_in cards) ≡ l.done = ap (take (length l.done)) (sym all) ∙ take-append_seam l.done (cards_from l.rows (drop at cards)) in (
         length l.done,
         omega (arith, ap length all, length-append l.done (cards_from l.rows (drop at cards))),
         l.tables_are ∙ ap (λ cs. tables_all cs t₀) (sym front),

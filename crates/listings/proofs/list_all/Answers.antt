@@ -28,13 +28,13 @@ returns-in_err-write_all-clause-err g c =
     let e = c.list_card-n.ensures in
     on_err c.from_residual.result
     (some
-      (one_more c.loop-at.invariant.listed c.u32_at-size.result c.u32_at-size.ensures c.loop-at-test.true c.if-cards-from.false
-        _
-        (ap (λ (n : ℕ). take n (drop from c.args.cards.now)) size)
-        {t' = tables c.list_card-n.new.genome c.list_card-n.new.transcript c.list_card-n.new.letters}
-        e.letters_after
-        e.exons_after
-        e.buffer_after))
+    (one_more c.loop-at.invariant.listed c.u32_at-size.result c.u32_at-size.ensures c.loop-at-test.true c.if-cards-from.false
+    _
+    (ap (λ (n : ℕ). take n (drop from c.args.cards.now)) size)
+    {t' = tables c.list_card-n.new.genome c.list_card-n.new.transcript c.list_card-n.new.letters}
+    e.letters_after
+    e.exons_after
+    e.buffer_after))
 
 pub loop-at-preserved : goal.loop-at-preserved
 loop-at-preserved g c =
