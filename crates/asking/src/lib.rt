@@ -7,9 +7,9 @@ ghost use Rattle.journal.specs.Logs.{appended_of, log_after};
 ghost use Rattle.asking.specs.Asking.{named, asked, recording, recorded_laid};
 
 use entries::Entry;
+use journal::Appended;
 use layout::lay;
 use layout::lay::Answer;
-use journal::Appended;
 use refusals::{MOST_SEGMENTS, MOST_STARTS, NO_LOG};
 use taking::question;
 use taking::question::{C_TO_N, G_TO_C, G_TO_N, N_TO_C, N_TO_G, Question};

@@ -12,9 +12,9 @@ ghost use Rattle.playback.specs.Replay.{same_position, same_answer, differs, dif
 
 use crate::text;
 use entries::ENTRY_SIZE;
+use journal::ENTRIES_AT;
 use layout::lay;
 use layout::lay::{Answer, Position};
-use journal::ENTRIES_AT;
 use refusals::{MOST_SEGMENTS, MOST_STARTS, NO_ROOM};
 use spelling::Written;
 use transcript::Head;

@@ -15,7 +15,6 @@ use Rattle.transcript.specs.declared.Numbers.{Numbers}
 use Rattle.reading.specs.declared.Sums.{Sums}
 use Rattle.whole.specs.laws.Machine.{bits_32}
 use Rattle.building.proofs.Passed.{known, is_ready, is_small, few_records, told_all, forward_is, elements_are, numbers_are, head_is}
-use borrow.Author.Rules.{rules}
 use Rattle.building.proofs.build_into.Goals as goal
 use Rattle.building.proofs.build_into.Goals.{In-Sums}
 

@@ -1,7 +1,5 @@
 -- `canonical::can_refuse` meets its contract: the list is the one that the tests of the kind led to. Assumes nothing.
-use native.Mathlib.Omega.{arith}
 use borrow.Author.Tests.{eq-eqb, ne_eqb}
-use borrow.Author.Rules.{rules}
 use Rattle.canonical.specs.Canonical.{refusals_of}
 use Rattle.canonical.proofs.can_refuse.Goals as goal
 

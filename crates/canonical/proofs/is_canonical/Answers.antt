@@ -1,5 +1,4 @@
 -- `canonical::is_canonical` meets its contract: the tests are those of the definition. Assumes nothing.
-use borrow.Author.Rules.{rules}
 use Rattle.canonical.specs.Canonical.{canonical}
 use Rattle.canonical.proofs.is_canonical.Goals as goal
 

@@ -1,6 +1,5 @@
 -- `canonical::is_end_holdable` meets its contract: the tests are those of the definition. Assumes nothing.
 use mathlib.Core.Path.{ap, ◌∙◌}
-use borrow.Author.Rules.{rules}
 use Rattle.whole.specs.laws.Whole.{read}
 use Rattle.canonical.specs.Canonical.{is_zero, end_holdable}
 use Rattle.canonical.proofs.is_end_holdable.Goals as goal

@@ -1,6 +1,5 @@
 -- `canonical::is_exon_of_kind` meets its contract: the test of the kind leads to that of the definition. Assumes nothing.
 use mathlib.Core.Path.{sym, ◌∙◌}
-use borrow.Author.Rules.{rules}
 use Rattle.canonical.specs.Canonical.{exon_of_kind}
 use Rattle.canonical.proofs.is_exon_of_kind.Goals as goal
 

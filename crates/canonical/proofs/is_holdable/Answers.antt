@@ -1,6 +1,5 @@
 -- `canonical::is_holdable` meets its contract: the tests are those of the definition. Assumes nothing.
 use mir.Syntax.{w32}
-use borrow.Author.Rules.{rules}
 use Rattle.whole.specs.laws.Whole.{told}
 use Rattle.canonical.specs.Canonical.{holdable}
 use Rattle.canonical.proofs.is_holdable.Goals as goal

@@ -1,6 +1,5 @@
 -- `canonical::is_nowhere` meets its contract: the tests are those of the definition. Assumes nothing.
 use mathlib.Core.Path.{ap, ◌∙◌}
-use borrow.Author.Rules.{rules}
 use mir.Syntax.{w32}
 use Rattle.whole.specs.laws.Whole.{told}
 use Rattle.canonical.specs.Canonical.{is_zero, is_nowhere}

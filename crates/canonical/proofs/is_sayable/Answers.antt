@@ -1,6 +1,5 @@
 -- `canonical::is_sayable` meets its contract: the tests are those of the definition. Assumes nothing.
 use borrow.Author.Tests.{eq-eqb, ne_eqb}
-use borrow.Author.Rules.{rules}
 use Rattle.canonical.specs.Canonical.{sayable}
 use Rattle.canonical.proofs.is_sayable.Goals as goal
 

@@ -9,7 +9,6 @@ use Rattle.whole.specs.Whole.{eq_z}
 use Rattle.whole.specs.laws.Whole.{whole, read, widened}
 use Rattle.transcript.specs.Heads.{start_of, end_of, number_of}
 use Rattle.card.specs.Card.{are_plain}
-use borrow.Author.Rules.{rules}
 use Rattle.card.proofs.are_plain.Goals as goal
 use Rattle.card.proofs.are_plain.Goals.{After-is_same, After-is_same-then-is_same}
 

@@ -15,7 +15,6 @@ use Rattle.card.specs.Writing.{judge_read, judge_card}
 use Rattle.card.specs.laws.RoundTrips.{read_means}
 use Rattle.transcript.specs.declared.Numbers.{Numbers}
 use Rattle.card.specs.declared.ReadCard.TheVariants as read
-use borrow.Author.Rules.{rules}
 use Rattle.card.proofs.build_card.Goals as goal
 use Rattle.card.proofs.build_card.Goals.{In-Card}
 

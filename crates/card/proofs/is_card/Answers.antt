@@ -16,7 +16,6 @@ use Rattle.card.specs.Layout.{records_at}
 use Rattle.card.specs.Card.{are_plain, is_card}
 use Rattle.transcript.specs.declared.Numbers.{Numbers}
 use Rattle.card.proofs.Reading.{card_is}
-use borrow.Author.Rules.{rules}
 use Rattle.card.proofs.is_card.Goals as goal
 use Rattle.card.proofs.is_card.Goals.{After-are_plain}
 

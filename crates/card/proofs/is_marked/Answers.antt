@@ -1,6 +1,5 @@
 -- `card::is_marked` meets its contract: the tests that led to each `return` are those of `is_marked`.
 -- Assumes nothing.
-use borrow.Author.Rules.{rules}
 use borrow.Author.Tests.{le-leb, lt-leb, eq-eqb, ne_eqb}
 use Rattle.card.specs.Card.{is_marked}
 use Rattle.card.proofs.is_marked.Goals as goal

@@ -7,7 +7,6 @@ use lib.ListN.{length, set}
 use lib.Seq.{sets, length-sets}
 use Rattle.fields.specs.Fields.{bytes16}
 use Rattle.card.specs.Layout.{mark, version, version_at, strand_at, cds_at}
-use borrow.Author.Rules.{rules}
 use Rattle.card.proofs.put_front.Goals as goal
 use Rattle.card.proofs.put_front.Goals.{After-slice_known-3-1}
 

@@ -11,7 +11,6 @@ use Rattle.fields.specs.Fields.{bytes16, bytes32, bits32}
 use Rattle.transcript.specs.Heads.{number_of}
 use Rattle.card.specs.Layout.{mark, version, start_at, end_at, count_at}
 use Rattle.card.specs.Card.{strand_byte, cds_byte, header_text}
-use borrow.Author.Rules.{rules}
 use Rattle.card.proofs.put_header.Goals as goal
 use Rattle.card.proofs.put_header.Tie as tie
 use Rattle.card.proofs.put_header.Lts as lts

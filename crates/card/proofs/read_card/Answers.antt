@@ -10,7 +10,6 @@ use Rattle.card.specs.Layout.{version, version_at}
 use Rattle.card.specs.Card.{is_marked, is_card, read_card}
 use Rattle.card.specs.declared.ReadCard.TheVariants as read
 use Rattle.card.proofs.Reading.{marked_long, card_long}
-use borrow.Author.Rules.{rules}
 use Rattle.card.proofs.read_card.Goals as goal
 use Rattle.card.proofs.read_card.Tie as tie
 use Rattle.card.proofs.read_card.Lts as lts

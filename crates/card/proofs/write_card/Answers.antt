@@ -10,7 +10,6 @@ use Rattle.judging.specs.laws.Told.{told_made, told_refused}
 use Rattle.card.specs.Card.{card_text}
 use Rattle.card.specs.Writing.{if_taken, card_writing}
 use Rattle.card.specs.laws.Taken.{taken_records, taken_few}
-use borrow.Author.Rules.{rules}
 use Rattle.card.proofs.write_card.Goals as goal
 use Rattle.card.proofs.write_card.Tie as tie
 use Rattle.card.proofs.write_card.Lts as lts

@@ -21,7 +21,6 @@ use Rattle.judging.specs.Input.{input_of}
 use Rattle.card.specs.Layout.{records_at}
 use Rattle.card.specs.Card.{header_text, card_text}
 use Rattle.card.specs.laws.Taken.{text_is, text_length}
-use borrow.Author.Rules.{rules}
 use Rattle.card.proofs.write_taken.Goals as goal
 use Rattle.card.proofs.write_taken.Tie as tie
 use Rattle.card.proofs.write_taken.Lts as lts

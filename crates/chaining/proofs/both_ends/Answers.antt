@@ -1,7 +1,6 @@
 -- `chaining::both_ends` meets its contract: the two ends that were read are those that the question gives. Assumes nothing.
 use mir.Syntax.{w32}
 use Rattle.whole.specs.laws.Whole.{told}
-use borrow.Author.Rules.{rules}
 use Rattle.chaining.proofs.both_ends.Goals as goal
 
 pub returns-in-At-b : goal.returns-in-At-b

@@ -1,6 +1,5 @@
 -- `chaining::c_to_n` meets its contract: with a CDS the mapping of `coding` is asked, and without one it is 13. Assumes nothing.
 use Rattle.coding.specs.Coding.{map_c_to_n}
-use borrow.Author.Rules.{rules}
 use Rattle.chaining.proofs.c_to_n.Goals as goal
 
 pub returns-in-Cds : goal.returns-in-Cds

@@ -1,7 +1,6 @@
 -- `chaining::g_to_n` meets its contract: where both ends are given the mapping of `places` is asked, and else it is 19. Assumes nothing.
 use mir.Syntax.{w32}
 use Rattle.whole.specs.laws.Whole.{told}
-use borrow.Author.Rules.{rules}
 use Rattle.chaining.proofs.g_to_n.Goals as goal
 
 pub returns-in-Ends : goal.returns-in-Ends

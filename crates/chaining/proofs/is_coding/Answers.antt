@@ -1,5 +1,4 @@
 -- `chaining::is_coding` meets its contract: there is a CDS exactly where the code has one. Assumes nothing.
-use borrow.Author.Rules.{rules}
 use Rattle.chaining.proofs.is_coding.Goals as goal
 
 pub returns-in-Cds : goal.returns-in-Cds

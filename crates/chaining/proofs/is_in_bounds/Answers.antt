@@ -3,7 +3,6 @@ use mathlib.Core.Path.{sym, ap, ◌∙◌}
 use mir.Syntax.{w32}
 use Rattle.refusals.specs.Outcome.{answered}
 use Rattle.whole.specs.laws.Whole.{told}
-use borrow.Author.Rules.{rules}
 use Rattle.chaining.proofs.is_in_bounds.Goals as goal
 
 pub returns-then-is_in_bounds : goal.returns-then-is_in_bounds

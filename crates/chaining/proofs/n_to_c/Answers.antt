@@ -1,6 +1,5 @@
 -- `chaining::n_to_c` meets its contract: with a CDS the mapping of `coding` is asked, and without one it is 13. Assumes nothing.
 use Rattle.coding.specs.Coding.{map_n_to_c, c_of_interval}
-use borrow.Author.Rules.{rules}
 use Rattle.chaining.proofs.n_to_c.Goals as goal
 
 pub returns-in-Cds : goal.returns-in-Cds

@@ -1,5 +1,4 @@
 -- `chaining::then_n_to_c` meets its contract: the first answer's mark stays, since n. to c. bears none, and its refusal counts first. Assumes nothing.
-use borrow.Author.Rules.{rules}
 use Rattle.chaining.proofs.then_n_to_c.Goals as goal
 
 pub returns-in-Certain : goal.returns-in-Certain

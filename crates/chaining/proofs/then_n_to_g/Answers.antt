@@ -1,7 +1,6 @@
 -- `chaining::then_n_to_g` meets its contract: c. to n. bears no mark, so the second answer's own mark stays, and the first refusal counts. Assumes nothing.
 use mathlib.Core.Path.{sym, ◌∙◌}
 use Rattle.chaining.specs.laws.Plain.{plain_first}
-use borrow.Author.Rules.{rules}
 use Rattle.chaining.proofs.then_n_to_g.Goals as goal
 
 pub returns-in-Told : goal.returns-in-Told

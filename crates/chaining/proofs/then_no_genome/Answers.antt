@@ -1,5 +1,4 @@
 -- `chaining::then_no_genome` meets its contract: whatever n. interval is told, 18 follows, and the first refusal counts. Assumes nothing.
-use borrow.Author.Rules.{rules}
 use Rattle.chaining.proofs.then_no_genome.Goals as goal
 
 pub returns-in-Told : goal.returns-in-Told

@@ -3,7 +3,6 @@ use Rattle.whole.specs.laws.Whole.{read}
 use Rattle.coding.specs.Coding.{c_position}
 use Rattle.whole.specs.laws.Machine.{entry}
 use Rattle.coding.proofs.Sizes.{bound_40}
-use borrow.Author.Rules.{rules}
 use Rattle.coding.proofs.c_position.Goals as goal
 
 pub n_to_c-requires : goal.n_to_c-requires

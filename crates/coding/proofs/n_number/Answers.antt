@@ -4,7 +4,7 @@ use mir.Val.{SFits}
 use Rattle.whole.specs.laws.Whole.{read, widened, fits_wider, i32_40}
 use Rattle.whole.specs.laws.Machine.{entry}
 use Rattle.coding.proofs.Sizes.{bound_40}
-use borrow.Author.Rules.{rules, sfits_of}
+use borrow.Author.Rules.{sfits_of}
 use Rattle.coding.proofs.n_number.Goals as goal
 use Rattle.coding.proofs.n_number.Goals.{After-struct_told-1}
 

@@ -7,7 +7,7 @@ use Rattle.whole.specs.laws.Whole.{read, widened, fits_wider}
 use Rattle.numbering.specs.Numbers.{n_of_c}
 use Rattle.coding.specs.Coding.{beyond, n_position}
 use Rattle.positions.specs.Paper.{paper_c_asked}
-use borrow.Author.Rules.{rules, sfits_of}
+use borrow.Author.Rules.{sfits_of}
 use Rattle.coding.proofs.n_position.Goals as goal
 use Rattle.coding.proofs.n_position.Goals.{After-is_beyond, After-struct_told-1}
 

@@ -3,7 +3,6 @@ use mathlib.Core.Path.{◌≡◌, sym, ◌∙◌}
 use mir.Syntax.{w32}
 use Rattle.whole.specs.laws.Whole.{told}
 use Rattle.coding.specs.Coding.{beyond, one_to_c}
-use borrow.Author.Rules.{rules}
 use Rattle.coding.proofs.one_to_c.Goals as goal
 use Rattle.coding.proofs.one_to_c.Tie as tie
 use Rattle.coding.proofs.one_to_c.Lts as lts

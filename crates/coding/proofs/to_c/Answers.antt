@@ -7,7 +7,6 @@ use Rattle.positions.specs.Answers.{unmarked, c_fits}
 use Rattle.coding.specs.Coding.{map_n_to_c, c_of_interval, refuses15}
 use Rattle.positions.specs.Paper.{paper_n_question}
 use Rattle.positions.specs.laws.Ends.{ends_fit}
-use borrow.Author.Rules.{rules}
 use Rattle.coding.proofs.to_c.Goals as goal
 use Rattle.coding.proofs.to_c.Tie as tie
 use Rattle.coding.proofs.to_c.Lts as lts

@@ -2,7 +2,6 @@
 use mathlib.Core.Path.{◌∙◌, sym}
 use Rattle.coding.specs.Coding.{map_c_to_n}
 use Rattle.coding.specs.laws.Same.{same_says}
-use borrow.Author.Rules.{rules}
 use Rattle.coding.proofs.to_n.Goals as goal
 
 pub returns-then-is_same : goal.returns-then-is_same

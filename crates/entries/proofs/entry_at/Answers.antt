@@ -1,6 +1,5 @@
 -- `entries::entry_at` meets its contract: the answer stands behind the question. Assumes nothing.
 use native.Mathlib.Omega.{arith}
-use borrow.Author.Rules.{rules}
 use Rattle.entries.specs.Entries.{entry_at}
 use Rattle.entries.proofs.entry_at.Goals as goal
 

@@ -1,7 +1,6 @@
 -- `entries::put_answer` meets its contract: the numbers of the positions are stored behind the four bytes, and the exons behind them. Assumes nothing.
 use mathlib.Core.List.{◌++◌}
 use native.Mathlib.Omega.{arith}
-use borrow.Author.Rules.{rules}
 use mir.Syntax.{w32}
 use Rattle.fields.specs.Fields.{bytes16}
 use Rattle.whole.specs.laws.Whole.{told}

@@ -1,7 +1,6 @@
 -- `entries::put_bytes` meets its contract: each byte is stored once, in order. Assumes nothing.
 use native.Mathlib.Numerals.{add-one, add-two, add-three}
 use native.Mathlib.Omega.{arith}
-use borrow.Author.Rules.{rules}
 use Rattle.entries.specs.Entries.{four_bytes}
 use Rattle.entries.proofs.put_bytes.Goals as goal
 

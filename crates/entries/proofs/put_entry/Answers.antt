@@ -1,6 +1,5 @@
 -- `entries::put_entry` meets its contract: the answer is stored behind the question. Assumes nothing.
 use native.Mathlib.Omega.{arith}
-use borrow.Author.Rules.{rules}
 use Rattle.entries.specs.Entries.{four_bytes, four_numbers, question_bytes, answer_bytes, entry_bytes}
 use Rattle.entries.proofs.Stores.{then_stored}
 use Rattle.entries.proofs.put_entry.Goals as goal

@@ -1,6 +1,5 @@
 -- `entries::put_question` meets its contract: the numbers of the positions are stored behind the four bytes. Assumes nothing.
 use native.Mathlib.Omega.{arith}
-use borrow.Author.Rules.{rules}
 use mir.Syntax.{w32}
 use Rattle.whole.specs.laws.Whole.{told}
 use Rattle.entries.specs.Entries.{four_bytes, four_numbers, question_bytes}

@@ -1,7 +1,6 @@
 -- `entries::question_at` meets its contract: number by number. Assumes nothing.
 use mathlib.Core.Path.{◌∙◌}
 use native.Mathlib.Omega.{arith}
-use borrow.Author.Rules.{rules}
 use mir.Syntax.{w32}
 use Rattle.whole.specs.laws.Whole.{told}
 use Rattle.entries.specs.Entries.{question_at}

@@ -21,7 +21,6 @@ use Rattle.filling.proofs.Fills.{long_after}
 use Rattle.filling.proofs.Past.{fill_then, small_so_far, first_told, first_ends, all_one}
 use Rattle.filling.proofs.Numbers.{numbers_first}
 use Rattle.filling.proofs.Runs.{sets_then}
-use borrow.Author.Rules.{rules}
 use Rattle.filling.proofs.fill_all.Goals as goal
 use Rattle.filling.proofs.fill_all.Tie as tie
 use Rattle.filling.proofs.fill_all.Lts as lts

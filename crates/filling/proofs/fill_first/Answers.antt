@@ -10,7 +10,6 @@ use Rattle.records.specs.Records.{next_at, record_at}
 use Rattle.reading.specs.Reading.{read_first}
 use Rattle.reading.specs.Tallies.{nothing, tallied}
 use Rattle.filling.proofs.Taken.{first_accepted}
-use borrow.Author.Rules.{rules}
 use Rattle.filling.proofs.fill_first.Goals as goal
 use Rattle.filling.proofs.fill_first.Goals.{Start}
 

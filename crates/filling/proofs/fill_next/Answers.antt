@@ -15,7 +15,6 @@ use Rattle.filling.specs.Filling.{Long, put, fill}
 use Rattle.reading.specs.declared.Sums.{Sums}
 use Rattle.filling.proofs.Fills.{long_put, long_after}
 use Rattle.filling.proofs.Taken.{ends_at, next_accepted}
-use borrow.Author.Rules.{rules}
 use Rattle.filling.proofs.fill_next.Goals as goal
 use Rattle.filling.proofs.fill_next.Goals.{After-slice_known-6-1}
 use Rattle.filling.proofs.fill_next.Tie as tie

@@ -5,15 +5,14 @@ use Prim.Native.Nat.{ℕ, ◌+◌, ◌-◌, ◌<◌}
 use native.Mathlib.Omega.{arith}
 use lib.ListN.{length, replicate, length-replicate}
 use lib.Seq.{sets, length-sets}
-use Rattle.refusals.specs.Numbers.{most_records, most_segments}
 use Rattle.records.specs.Records.{Record, next_at, record_at, records_from}
-use Rattle.records.specs.Walk.{Walk, Turn}
+use Rattle.records.specs.Walk.{Turn}
 use Rattle.records.specs.laws.Walk.{turn}
 use Rattle.reading.specs.Reading.{genome_end_of, between, spanned, read_next, exons_after}
-use Rattle.reading.specs.Tallies.{one_on, Bounded, BoundedTally, tallied, tallied_after}
+use Rattle.reading.specs.Tallies.{one_on, BoundedTally, tallied, tallied_after}
 use Rattle.segments.specs.Tables.{tables}
 use Rattle.transcript.specs.Building.{numbered_by}
-use Rattle.filling.specs.Filling.{Long, fill, next_elements, elements_past, numbers_past, SmallSums, SmallTally}
+use Rattle.filling.specs.Filling.{fill, next_elements, elements_past, numbers_past, SmallSums, SmallTally}
 use Rattle.reading.specs.declared.Sums.{Sums}
 use Rattle.reading.specs.declared.Tally.TheVariants as tally
 use Rattle.reading.specs.laws.Tallied.{rest_sums, rest_refused}

@@ -1,27 +1,15 @@
 -- `filling::fill_rest` meets its contract: the tables with what is left put in stay those promised: a record's elements end where the rest begin (`next_ends`), so fills join (`fill_then`), and runs of numbers too (`sets_then`). Assumes nothing.
-use mathlib.Core.Path.{◌≡◌, refl, sym, ap, subst, ◌∙◌}
-use mathlib.Core.List.{List, ◌∷◌}
-use Prim.Native.Nat.{ℕ, ◌+◌, ◌-◌, ◌<◌}
-use native.Mathlib.Omega.{arith}
-use lib.ListN.{length, replicate, length-replicate}
-use lib.Seq.{sets, length-sets}
+use mathlib.Core.Path.{◌≡◌}
+use Prim.Native.Nat.{◌+◌, ◌<◌}
+use lib.ListN.{length}
+use lib.Seq.{sets}
 use Rattle.refusals.specs.Numbers.{most_records, most_segments}
-use Rattle.records.specs.Records.{Record, next_at, record_at, records_from}
-use Rattle.records.specs.Walk.{Walk, Turn}
-use Rattle.records.specs.laws.Walk.{turn}
-use Rattle.reading.specs.Reading.{genome_end_of, between, spanned, read_next, exons_after}
-use Rattle.reading.specs.Tallies.{one_on, Bounded, BoundedTally, tallied, tallied_after}
+use Rattle.records.specs.Records.{record_at, records_from}
+use Rattle.records.specs.Walk.{Walk}
+use Rattle.reading.specs.Reading.{genome_end_of, exons_after}
+use Rattle.reading.specs.Tallies.{Bounded, tallied_after}
 use Rattle.segments.specs.Tables.{tables}
-use Rattle.transcript.specs.Building.{numbered_by}
-use Rattle.filling.specs.Filling.{Long, fill, next_elements, elements_past, numbers_past, SmallSums, SmallTally}
-use Rattle.reading.specs.declared.Sums.{Sums}
-use Rattle.reading.specs.declared.Tally.TheVariants as tally
-use Rattle.reading.specs.laws.Tallied.{rest_sums, rest_refused}
-use Rattle.filling.proofs.Fills.{long_after}
-use Rattle.filling.proofs.Past.{fill_then, small_so_far, next_told, next_ends, past_one, past_none}
-use Rattle.filling.proofs.Numbers.{numbers_one, numbers_none}
-use Rattle.filling.proofs.Runs.{sets_then}
-use borrow.Author.Rules.{rules}
+use Rattle.filling.specs.Filling.{Long, fill, elements_past, numbers_past, SmallTally}
 use Rattle.filling.proofs.fill_rest.Given as goal
 
 abbrev pub invariant-loop-k : goal.invariant-loop-k

@@ -8,9 +8,9 @@ use Rattle.refusals.specs.Numbers.{most_segments}
 use Rattle.cigar.specs.Text.{step_at, element, read_all, elements_in}
 use Rattle.cigar.specs.laws.Steps.{Moves, moves}
 use Rattle.cigar.specs.declared.Step.TheVariants.{Element}
-use Rattle.reading.specs.Tallies.{one_on, sums_on, tallied, Bounded}
+use Rattle.reading.specs.Tallies.{one_on, sums_on, tallied}
 use Rattle.segments.specs.Tables.{tables}
-use Rattle.filling.specs.Filling.{Long, fill, ordered, turned_on, UpTo, Before}
+use Rattle.filling.specs.Filling.{fill, ordered, turned_on, UpTo, Before}
 use Rattle.reading.specs.declared.Sums.{Sums}
 use Rattle.reading.specs.declared.Tally.TheVariants as tally
 use Rattle.filling.proofs.Fills.{left_from, fill_turn, fill_none, left_all, long_put}

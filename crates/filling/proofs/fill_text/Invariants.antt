@@ -1,21 +1,14 @@
 -- `filling::fill_text` meets its contract: the tables with what is left put in stay those promised: a turn puts in the first of what is left, or on strand -1 the last (`fill_turn`). Assumes nothing.
-use Prim.Native.Nat.{ℕ, ◌+◌, ◌-◌, ◌≤◌, ◌<◌}
-use mathlib.Core.Path.{◌≡◌, sym, ap, subst, ◌∙◌}
-use mathlib.Core.List.{List}
-use native.Mathlib.Omega.{arith}
+use Prim.Native.Nat.{◌-◌, ◌≤◌}
+use mathlib.Core.Path.{◌≡◌}
 use lib.ListN.{length, drop}
 use Rattle.refusals.specs.Numbers.{most_segments}
-use Rattle.cigar.specs.Text.{step_at, element, read_all, elements_in}
-use Rattle.cigar.specs.laws.Steps.{Moves, moves}
-use Rattle.cigar.specs.declared.Step.TheVariants.{Element}
-use Rattle.reading.specs.Tallies.{one_on, sums_on, tallied, Bounded}
+use Rattle.cigar.specs.Text.{read_all, elements_in}
+use Rattle.reading.specs.Tallies.{tallied, Bounded}
 use Rattle.segments.specs.Tables.{tables}
-use Rattle.filling.specs.Filling.{Long, fill, ordered, turned_on, UpTo, Before}
-use Rattle.reading.specs.declared.Sums.{Sums}
+use Rattle.filling.specs.Filling.{Long, fill, ordered, UpTo}
 use Rattle.reading.specs.declared.Tally.TheVariants as tally
-use Rattle.filling.proofs.Fills.{left_from, fill_turn, fill_none, left_all, long_put}
-use Rattle.filling.proofs.Taken.{ends_at, Taken, take_element, take_none, take_end}
-use borrow.Author.Rules.{rules}
+use Rattle.filling.proofs.Fills.{left_from}
 use Rattle.filling.proofs.fill_text.Given as goal
 
 abbrev pub invariant-loop-count : goal.invariant-loop-count

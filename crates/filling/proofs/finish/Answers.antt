@@ -4,7 +4,6 @@ use native.Mathlib.Omega.{arith}
 use lib.ListN.{length, length-set}
 use lib.Seq.{length-sets}
 use Rattle.filling.proofs.Fills.{tables_eq}
-use borrow.Author.Rules.{rules}
 use Rattle.filling.proofs.finish.Goals as goal
 
 pub clear_starts-requires : goal.clear_starts-requires

@@ -1,6 +1,5 @@
 -- `filling::number_of` meets its contract: the strand says which side is counted, and there are few records, so that the number fits 16 bits. Assumes nothing.
 use mathlib.Core.Path.{refl}
-use borrow.Author.Rules.{rules}
 use Rattle.filling.proofs.number_of.Goals as goal
 
 pub returns-then-forward : goal.returns-then-forward

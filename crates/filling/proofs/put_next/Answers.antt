@@ -6,7 +6,6 @@ use lib.ListN.{length, replicate, length-set}
 use lib.Seq.{length-sets}
 use Rattle.transcript.specs.Building.{numbered_by}
 use Rattle.filling.proofs.Runs.{run_after}
-use borrow.Author.Rules.{rules}
 use Rattle.filling.proofs.put_next.Goals as goal
 
 pub put_number-requires : goal.put_number-requires

@@ -1,9 +1,7 @@
 -- `filling::put_number` meets its contract: the table with the numbers that are left stays the one promised: a turn stores one more (`run_more`), and at the end none is left (`run_none`). Assumes nothing.
-use Prim.Native.Nat.{◌-◌}
-use mathlib.Core.Path.{◌≡◌, refl, sym, ◌∙◌}
+use mathlib.Core.Path.{refl, sym, ◌∙◌}
 use native.Mathlib.Omega.{arith}
-use lib.ListN.{length, replicate, length-set}
-use lib.Seq.{sets}
+use lib.ListN.{length-set}
 use Rattle.filling.proofs.Runs.{run_more, run_none}
 use borrow.Author.Rules.{rules}
 use Rattle.filling.proofs.put_number.Goals as goal

@@ -1,11 +1,8 @@
 -- `filling::put_number` meets its contract: the table with the numbers that are left stays the one promised: a turn stores one more (`run_more`), and at the end none is left (`run_none`). Assumes nothing.
 use Prim.Native.Nat.{◌-◌}
-use mathlib.Core.Path.{◌≡◌, refl, sym, ◌∙◌}
-use native.Mathlib.Omega.{arith}
-use lib.ListN.{length, replicate, length-set}
+use mathlib.Core.Path.{◌≡◌}
+use lib.ListN.{length, replicate}
 use lib.Seq.{sets}
-use Rattle.filling.proofs.Runs.{run_more, run_none}
-use borrow.Author.Rules.{rules}
 use Rattle.filling.proofs.put_number.Given as goal
 
 abbrev pub invariant-loop-i : goal.invariant-loop-i

@@ -1,7 +1,6 @@
 -- `filling::turned` meets its contract: forward the element begins at `at`; on strand -1 `after` goes no further than `to`, so that no difference wraps and the element begins before `to`. Assumes nothing.
 use mathlib.Core.Path.{refl}
 use native.Mathlib.Omega.{arith}
-use borrow.Author.Rules.{rules}
 use Rattle.filling.proofs.turned.Goals as goal
 
 pub returns : goal.returns

@@ -16,7 +16,6 @@ use Rattle.filling.proofs.Fills.{long_after}
 use Rattle.filling.proofs.Past.{all_end}
 use Rattle.filling.proofs.Numbers.{all_length}
 use Rattle.filling.proofs.Finished.{padded_whole, fill_finished}
-use borrow.Author.Rules.{rules}
 use Rattle.filling.proofs.write_tables.Goals as goal
 
 pub fill_all-requires : goal.fill_all-requires

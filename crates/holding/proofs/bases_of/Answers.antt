@@ -6,7 +6,6 @@ use lib.IntN.{ℤ, pos, nat_abs}
 use lib.Signed.{le_z, lt_z}
 use mir.Syntax.{w32}
 use mir.Val.{SFits, to_z, of_z}
-use borrow.Author.Rules.{rules}
 use borrow.Author.Tests.{le-leb, lt-leb}
 use Rattle.refusals.specs.Numbers.{most_bases}
 use Rattle.whole.specs.laws.Whole.{order, read}

@@ -1,6 +1,5 @@
 -- `holding::cds_holds` meets its contract: the head's `bits` are 0, 3 or neither, which comparing their words tells (`same_32`, `other_32`), and at 3 the code makes `cds_holds`'s three tests of the range. Assumes nothing.
 use native.Mathlib.Omega.{arith}
-use borrow.Author.Rules.{rules}
 use lib.IntN.{pos}
 use mir.Syntax.{w32}
 use mir.Val.{SFits}

@@ -1,7 +1,6 @@
 -- `holding::head_holds` meets its contract: each test of the machine is the definition's: the strand is compared by its bits (`bits_32`), the two counts and the first start as the numbers they read back as. Assumes nothing.
 use mathlib.Core.Path.{◌≡◌}
 use native.Mathlib.Omega.{arith}
-use borrow.Author.Rules.{rules}
 use lib.Dec.{eqb}
 use lib.IntN.{pos, negsuc}
 use mir.Syntax.{w32}

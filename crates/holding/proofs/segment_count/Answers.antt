@@ -1,6 +1,5 @@
 -- `holding::segment_count` meets its contract: the count of a right head is at least 1 and at most `mostSegments` (`head_means`), so that `natural` can be asked and its result is bounded. Assumes nothing.
 use native.Mathlib.Omega.{arith}
-use borrow.Author.Rules.{rules}
 use mir.Syntax.{w32}
 use mir.Val.{SFits}
 use Rattle.whole.specs.laws.Whole.{read}

@@ -1,15 +1,10 @@
 -- `journal::are_canonical` meets its contract: the loop keeps that all entries are right just where those that are left are. Assumes nothing.
-use mathlib.Core.Path.{◌≡◌, refl, sym, ap, ◌∙◌}
+use mathlib.Core.Path.{◌≡◌}
 use Prim.Native.Nat.{◌+◌, ◌*◌, ◌≤◌}
-use native.Mathlib.Omega.{arith}
-use borrow.Author.Rules.{rules}
 use lib.ListN.{length}
 use Rattle.journal.specs.Layout.{entries_at}
 use Rattle.entries.specs.Layout.{entry_size}
-use Rattle.entries.specs.Entries.{entry_at}
-use Rattle.canonical.specs.Canonical.{canonical}
 use Rattle.journal.specs.Logs.{entries_from, all_canonical}
-use Rattle.journal.proofs.Walk.{one_passes, one_fails, none_left}
 use Rattle.journal.proofs.are_canonical.Given as goal
 
 abbrev pub invariant-loop-left : goal.invariant-loop-left

@@ -1,7 +1,6 @@
 -- `journal::put_header` meets its contract: each byte is stored once, in order. Assumes nothing.
 use mathlib.Core.Path.{ap, ◌∙◌}
 use native.Mathlib.Omega.{arith}
-use borrow.Author.Rules.{rules}
 use lib.ListN.{length, length-set}
 use lib.Seq.{length-sets}
 use Rattle.journal.specs.Logs.{header_bytes}

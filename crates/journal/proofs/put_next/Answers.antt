@@ -3,7 +3,6 @@ use mathlib.Core.Path.{refl, sym, ap}
 use Prim.Native.Nat.{ℕ, ◌+◌, ◌≤◌, ◌<◌}
 use native.Mathlib.Omega.{arith}
 use borrow.Author.Tests.{lt-ltb, le-ltb}
-use borrow.Author.Rules.{rules}
 use Rattle.refusals.specs.Numbers.{most_log}
 use Rattle.entries.specs.Layout.{entry_size}
 use Rattle.entries.specs.laws.RoundTrips.{entry_length}

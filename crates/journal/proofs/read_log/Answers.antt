@@ -5,7 +5,6 @@ use mathlib.Core.List.{List}
 use Prim.Native.Nat.{ℕ}
 use native.Mathlib.Omega.{arith}
 use borrow.Author.Tests.{lt-ltb, le-ltb}
-use borrow.Author.Rules.{rules}
 use lib.ListN.{length}
 use Rattle.journal.specs.Layout.{entries_at}
 use Rattle.journal.specs.Logs.{is_headed, count_of, read_log}

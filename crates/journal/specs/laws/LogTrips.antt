@@ -6,7 +6,7 @@
 --     read_means, is_log                every log that is read is the log that its entries are written as
 --     read_fits                         and its entries fit
 -- Assumes nothing.
-use Rattle.std.specs.Prelude.{◌≡◌, true, false, List, [], ◌∷◌, ◌++◌, ℕ, zero, suc, ◌+◌, ◌-◌, ◌*◌, ◌%◌, ◌≤◌, ltb, get_or, take, drop}
+use Rattle.std.specs.Prelude.{◌≡◌, true, List, [], ◌∷◌, ◌++◌, ℕ, zero, suc, ◌+◌, ◌-◌, ◌*◌, ◌%◌, ◌≤◌, ltb, get_or, take, drop}
 use Rattle.std.proofs.Math.Path.{refl, ap}
 use Rattle.std.proofs.Common.{sym, ap₂, ◌∙◌, arith, eq-eqb, eqb-true, le-ltb, ltb-false, length-append, take-append-drop, drop_of_length-le, drop-drop, drop_at}
 use Rattle.std.proofs.lemmas.Bool.{false≢true}

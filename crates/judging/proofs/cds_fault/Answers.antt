@@ -3,7 +3,6 @@ use mathlib.Core.Path.{◌∙◌}
 use mir.Syntax.{w32, w64}
 use mir.Val.{SFits}
 use Rattle.whole.specs.laws.Whole.{read, told, widened, fits_wider}
-use borrow.Author.Rules.{rules}
 use Rattle.judging.proofs.cds_fault.Goals as goal
 use Rattle.judging.proofs.cds_fault.Goals.{In-Given-end}
 

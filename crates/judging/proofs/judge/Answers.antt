@@ -3,7 +3,6 @@ use mathlib.Core.Path.{sym, ◌∙◌}
 use borrow.Author.Tests.{lt-ltb, le-ltb}
 use Rattle.transcript.specs.Heads.{both_bits}
 use Rattle.judging.specs.Judging.{judge}
-use borrow.Author.Rules.{rules}
 use Rattle.judging.proofs.judge.Goals as goal
 
 pub returns-then-numbers-gt-BOTH_BITS : goal.returns-then-numbers-gt-BOTH_BITS

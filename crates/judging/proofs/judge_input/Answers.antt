@@ -12,7 +12,6 @@ use Rattle.records.specs.laws.Walk.{records_length}
 use Rattle.judging.specs.Input.{Input, input_of}
 use Rattle.judging.specs.Judging.{judge_input}
 use Rattle.whole.specs.laws.Machine.{same_32, other_32}
-use borrow.Author.Rules.{rules}
 use Rattle.judging.proofs.judge_input.Goals as goal
 use Rattle.judging.proofs.judge_input.Tie as tie
 use Rattle.judging.proofs.judge_input.Lts as lts

@@ -18,7 +18,6 @@ use Rattle.judging.specs.Judging.{half_fault, last_fault, judge_exons, judge_on,
 use Rattle.reading.specs.Tallies.{BoundedTally}
 use Rattle.judging.specs.laws.Chain.{FirstIs, too_many, faulty, half_given, to_exons, first_is, unread_refused, last_refused, last_passed}
 use Rattle.reading.specs.declared.Sums.{Sums}
-use borrow.Author.Rules.{rules}
 use Rattle.judging.proofs.judge_on.Goals as goal
 use Rattle.judging.proofs.judge_on.Tie as tie
 use Rattle.judging.proofs.judge_on.Lts as lts

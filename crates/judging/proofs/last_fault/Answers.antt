@@ -3,7 +3,6 @@ use Prim.Native.Nat.{◌+◌}
 use Rattle.refusals.specs.Numbers.{most_bases}
 use borrow.Author.Tests.{eq-eqb, ne_eqb, lt-ltb, le-ltb}
 use Rattle.judging.specs.Judging.{last_fault}
-use borrow.Author.Rules.{rules}
 use Rattle.judging.proofs.last_fault.Goals as goal
 
 pub returns-then-n-eq0 : goal.returns-then-n-eq0

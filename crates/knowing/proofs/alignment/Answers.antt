@@ -1,5 +1,4 @@
 -- `knowing::alignment` meets its contract: a right head's strand and its other numbers are read as they are. Assumes nothing.
-use borrow.Author.Rules.{rules}
 use Rattle.knowing.proofs.alignment.Goals as goal
 
 pub returns : goal.returns

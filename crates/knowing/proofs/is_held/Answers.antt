@@ -1,7 +1,6 @@
 -- `knowing::is_held` meets its contract: something is known of what holds together, and of nothing else. Assumes nothing.
 use mathlib.Core.Path.{sym, ◌∙◌}
 use Rattle.knowing.specs.laws.Known.{known_lies, known_measures, known_breaks}
-use borrow.Author.Rules.{rules}
 use Rattle.knowing.proofs.is_held.Goals as goal
 
 pub returns-in-Aligned : goal.returns-in-Aligned

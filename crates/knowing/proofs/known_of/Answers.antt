@@ -3,7 +3,6 @@ use mathlib.Core.Path.{◌≡◌, sym, ◌∙◌}
 use Rattle.knowing.specs.Knowing.{told_of}
 use Rattle.knowing.specs.declared.Known.TheVariants as known
 use Rattle.knowing.specs.laws.Told.{told_lying, told_lies, told_apart, told_length, told_broken}
-use borrow.Author.Rules.{rules}
 use Rattle.knowing.proofs.known_of.Goals as goal
 use Rattle.knowing.proofs.known_of.Goals.{In-Aligned}
 

@@ -13,7 +13,6 @@ use Rattle.holding.specs.laws.Parts.{right_head, right_length}
 use Rattle.holding.specs.declared.Bases.TheVariants as bases
 use Rattle.knowing.specs.Knowing.{told_of}
 use Rattle.knowing.specs.laws.Known.{natural_where}
-use borrow.Author.Rules.{rules}
 use Rattle.knowing.proofs.told_of.Goals as goal
 use Rattle.knowing.proofs.told_of.Tie as tie
 use Rattle.knowing.proofs.told_of.Lts as lts

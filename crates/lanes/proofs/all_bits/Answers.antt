@@ -1,8 +1,6 @@
 -- After each turn the bits are what `all_below` says of the lanes passed. Assumes nothing.
-use Rattle.std.proofs.Common.{◌≡◌, ℕ, ◌-◌, ◌≤◌, get_or, refl, ◌∙◌, rules}
-use Rattle.segments.specs.Tables.{all_below}
+use Rattle.std.proofs.Common.{refl, ◌∙◌, rules}
 use Rattle.segments.specs.laws.Gathering.{all_none, all_more, all_done}
-use Rattle.stepping.specs.Steps.{within}
 use Rattle.stepping.specs.laws.OneStep.{within_none}
 use Rattle.lanes.proofs.all_bits.Goals as goal
 

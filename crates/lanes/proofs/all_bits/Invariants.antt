@@ -1,9 +1,7 @@
 -- After each turn the bits are what `all_below` says of the lanes passed. Assumes nothing.
-use Rattle.std.proofs.Common.{◌≡◌, ℕ, ◌-◌, ◌≤◌, get_or, refl, ◌∙◌, rules}
+use Rattle.std.proofs.Common.{◌≡◌, ℕ, ◌-◌, ◌≤◌, get_or}
 use Rattle.segments.specs.Tables.{all_below}
-use Rattle.segments.specs.laws.Gathering.{all_none, all_more, all_done}
 use Rattle.stepping.specs.Steps.{within}
-use Rattle.stepping.specs.laws.OneStep.{within_none}
 use Rattle.lanes.proofs.all_bits.Given as goal
 
 abbrev pub invariant-loop-lane : goal.invariant-loop-lane

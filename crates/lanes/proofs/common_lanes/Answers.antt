@@ -1,9 +1,6 @@
 -- After each turn the lanes tell of all segments done (`on_stretch`), and the next block meets or overlaps those (`next_block`). Assumes nothing.
-use Rattle.std.proofs.Common.{◌≡◌, ℕ, ◌+◌, ◌-◌, ◌<◌, ◌≤◌, length, ◌∙◌, arith, rules}
-use Rattle.segments.specs.Tables.{tables, all_below}
+use Rattle.std.proofs.Common.{◌+◌, ◌<◌, ◌≤◌, ◌∙◌, arith, rules}
 use Rattle.segments.specs.laws.Gathering.{all_done}
-use Rattle.stepping.specs.Steps.{common_same_at, common_within_at}
-use Rattle.lanes.specs.Lanes.{lanes_within}
 use Rattle.numbered.specs.laws.All.{on_stretch}
 use Rattle.lanes.proofs.NoBits.{none_is}
 use Rattle.lanes.proofs.Lanes.{lanes_none, next_block}

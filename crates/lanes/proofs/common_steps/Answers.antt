@@ -1,5 +1,5 @@
 -- Two stretches that overlap make one (`stretched`), of the flag and of the bits alike. Assumes nothing.
-use Rattle.std.proofs.Common.{◌&&◌, ◌∙◌, ap₂, arith, rules}
+use Rattle.std.proofs.Common.{◌&&◌, ◌∙◌, ap₂, arith}
 use Rattle.numbered.specs.laws.All.{stretched}
 use Rattle.lanes.proofs.common_steps.Goals as goal
 

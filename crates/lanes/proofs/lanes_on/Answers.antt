@@ -1,8 +1,6 @@
 -- After each turn the lanes tell of one segment more (`taken_more`), of the steps and of the bits alike. Assumes nothing.
-use Rattle.std.proofs.Common.{◌≡◌, ℕ, ◌-◌, ◌≤◌, length, rules}
-use Rattle.segments.specs.Tables.{tables}
-use Rattle.stepping.specs.Steps.{common_same_at, common_within_at}
-use Rattle.lanes.proofs.Lanes.{Taken, taken_none, taken_more, taken_all}
+use Rattle.std.proofs.Common.{rules}
+use Rattle.lanes.proofs.Lanes.{taken_none, taken_more, taken_all}
 use Rattle.lanes.proofs.lanes_on.Goals as goal
 
 pub loop-k-init : goal.loop-k-init

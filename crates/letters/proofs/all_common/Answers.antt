@@ -1,5 +1,5 @@
 -- Two stretches that overlap make one (`stretched`), for each length of a block alike. Assumes nothing.
-use Rattle.std.proofs.Common.{◌-◌, ◌%◌, ◌&&◌, sym, ◌∙◌, ap₂, arith, rules, le-leb}
+use Rattle.std.proofs.Common.{◌-◌, ◌%◌, ◌&&◌, sym, ◌∙◌, ap₂, arith, le-leb}
 use borrow.Author.Tests.{lt-leb}
 use Rattle.numbered.specs.laws.All.{stretched, later_passes, later_fails}
 use Rattle.letters.proofs.all_common.Goals as goal

@@ -1,8 +1,5 @@
 -- After each turn the flag is what `all_below` says of the letters from the first on. Assumes nothing.
-use Rattle.std.proofs.Common.{◌≡◌, ◌-◌, ◌≤◌, rules}
-use Rattle.segments.specs.Tables.{all_below}
-use Rattle.numbered.specs.Stretches.{from}
-use Rattle.letters.specs.Letters.{common_at}
+use Rattle.std.proofs.Common.{rules}
 use Rattle.segments.specs.laws.Gathering.{all_done}
 use Rattle.numbered.specs.laws.All.{from_none, from_more}
 use Rattle.letters.proofs.common_in.Goals as goal

@@ -1,5 +1,5 @@
 -- What is left of a letter's number above an M's has one bit at most exactly where the letter is common (`common_is`). Assumes nothing.
-use Rattle.std.proofs.Common.{Bool, ◌&&◌, ap, ◌∙◌, arith, rules}
+use Rattle.std.proofs.Common.{Bool, ◌&&◌, ap, ◌∙◌, arith}
 use Rattle.stepping.specs.Steps.{within}
 use Rattle.stepping.specs.laws.OneStep.{within_or}
 use Rattle.letters.proofs.OneLetter.{common_is}

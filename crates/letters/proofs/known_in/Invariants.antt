@@ -1,9 +1,7 @@
 -- After each turn the flag is what `all_below` says of the letters from the first on. Assumes nothing.
-use Rattle.std.proofs.Common.{◌≡◌, ◌-◌, ◌≤◌, rules}
+use Rattle.std.proofs.Common.{◌≡◌, ◌-◌, ◌≤◌}
 use Rattle.segments.specs.Tables.{all_below, known_at}
 use Rattle.numbered.specs.Stretches.{from}
-use Rattle.segments.specs.laws.Gathering.{all_done}
-use Rattle.numbered.specs.laws.All.{from_none, from_more}
 use Rattle.letters.proofs.known_in.Given as goal
 
 abbrev pub invariant-loop-i : goal.invariant-loop-i

@@ -1,12 +1,9 @@
 -- After each turn the bits are one at most exactly where `all_below` says so of the letters from the first on. Assumes nothing.
-use Rattle.std.proofs.Common.{◌≡◌, ◌-◌, ◌≤◌, refl, ◌∙◌, rules}
+use Rattle.std.proofs.Common.{◌≡◌, ◌-◌, ◌≤◌}
 use Rattle.segments.specs.Tables.{all_below}
-use Rattle.segments.specs.laws.Gathering.{all_done}
 use Rattle.numbered.specs.Stretches.{from}
 use Rattle.stepping.specs.Steps.{within}
 use Rattle.letters.specs.Letters.{common_at}
-use Rattle.numbered.specs.laws.All.{from_none, from_more}
-use Rattle.stepping.specs.laws.OneStep.{within_none}
 use Rattle.letters.proofs.many_common_in.Given as goal
 
 abbrev pub invariant-loop-i : goal.invariant-loop-i

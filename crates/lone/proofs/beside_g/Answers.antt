@@ -1,6 +1,5 @@
 -- `lone::beside_g` meets its contract: the spot is told by its place and its segment. Assumes nothing.
 use Rattle.whole.specs.laws.Whole.{read}
-use borrow.Author.Rules.{rules}
 use Rattle.lone.proofs.beside_g.Goals as goal
 
 pub returns : goal.returns

@@ -1,5 +1,4 @@
 -- `lone::beside_n` meets its contract: the spot is told by its place and its segment, and both its ends have the one exon's number. Assumes nothing.
-use borrow.Author.Rules.{rules}
 use Rattle.lone.proofs.beside_n.Goals as goal
 
 pub returns : goal.returns

@@ -5,7 +5,6 @@ use Rattle.whole.specs.laws.Whole.{read}
 use Rattle.numbering.specs.Numbers.{place_of_n}
 use Rattle.spots.specs.Mapping.{inside, turned}
 use Rattle.lone.specs.laws.Once.{one_back, one_back_refused}
-use borrow.Author.Rules.{rules}
 use Rattle.lone.proofs.g_of_one.Goals as goal
 use Rattle.lone.proofs.g_of_one.Tie as tie
 use Rattle.lone.proofs.g_of_one.Lts as lts

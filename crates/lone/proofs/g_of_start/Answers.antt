@@ -1,7 +1,6 @@
 -- `lone::g_of_start` meets its contract: the end's spot is what `stop_of` gives, and both have the one exon's number. Assumes nothing.
 use Rattle.whole.specs.laws.Whole.{read}
 use Rattle.segments.specs.laws.Sizes.{wider}
-use borrow.Author.Rules.{rules}
 use Rattle.lone.proofs.g_of_start.Goals as goal
 
 pub returns : goal.returns

@@ -8,7 +8,6 @@ use Rattle.positions.specs.laws.Ends.{ends_after}
 use Rattle.segments.specs.Paper.{spot_said}
 use Rattle.segments.specs.laws.Sizes.{wider}
 use Rattle.lone.specs.laws.Once.{one_joined}
-use borrow.Author.Rules.{rules}
 use Rattle.lone.proofs.n_of_one.Goals as goal
 
 pub returns-then-start : goal.returns-then-start

@@ -4,7 +4,6 @@ use lib.ListN.{get_or}
 use Rattle.whole.specs.laws.Whole.{read}
 use Rattle.lone.specs.laws.Once.{one_answered, one_refused}
 use Rattle.spots.specs.Mapping.{inside, place_of_g}
-use borrow.Author.Rules.{rules}
 use Rattle.lone.proofs.one_to_n.Goals as goal
 use Rattle.lone.proofs.one_to_n.Tie as tie
 use Rattle.lone.proofs.one_to_n.Lts as lts

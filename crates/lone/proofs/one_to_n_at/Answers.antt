@@ -10,7 +10,6 @@ use Rattle.lone.specs.laws.Once.{one_answered, one_refused, spot_at}
 use Rattle.segments.specs.Places.{segment_at}
 use Rattle.segments.specs.laws.Spotting.{spot_number}
 use Rattle.spots.specs.Mapping.{inside, place_of_g}
-use borrow.Author.Rules.{rules}
 use Rattle.lone.proofs.one_to_n_at.Goals as goal
 use Rattle.lone.proofs.one_to_n_at.Tie as tie
 use Rattle.lone.proofs.one_to_n_at.Lts as lts

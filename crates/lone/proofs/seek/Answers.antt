@@ -7,7 +7,6 @@ use lib.Signed.{le_z, lt_z}
 use mir.Syntax.{w64}
 use Rattle.whole.specs.laws.Whole.{told, both}
 use Rattle.spots.specs.Mapping.{inside}
-use borrow.Author.Rules.{rules}
 use Rattle.lone.proofs.seek.Goals as goal
 use Rattle.lone.proofs.seek.Tie as tie
 use Rattle.lone.proofs.seek.Lts as lts

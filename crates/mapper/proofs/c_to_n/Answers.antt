@@ -3,7 +3,6 @@ use mathlib.Core.Path.{sym, ◌∙◌}
 use Rattle.mapper.specs.Asking.{ask_c_to_n}
 use Rattle.knowing.specs.laws.Known.{known_lies, ask_length, ask_broken}
 use Rattle.mapper.specs.laws.Lying.{lying_c_to_n}
-use borrow.Author.Rules.{rules}
 use Rattle.mapper.proofs.c_to_n.Goals as goal
 
 pub last-requires : goal.last-requires

@@ -3,7 +3,6 @@ use mathlib.Core.Path.{sym, ◌∙◌}
 use Rattle.mapper.specs.Asking.{ask_g_to_c, ask_g_to_n}
 use Rattle.knowing.specs.laws.Known.{known_lies, ask_length, ask_broken}
 use Rattle.mapper.specs.laws.Lying.{lying_g_to_c}
-use borrow.Author.Rules.{rules}
 use Rattle.mapper.proofs.g_to_c.Goals as goal
 
 pub last-length-requires : goal.last-length-requires

@@ -3,7 +3,6 @@ use mathlib.Core.Path.{sym, ◌∙◌}
 use Rattle.mapper.specs.Asking.{ask_coding}
 use Rattle.mapper.specs.laws.Lying.{lying_coding}
 use Rattle.knowing.specs.laws.Known.{ask_length, ask_broken}
-use borrow.Author.Rules.{rules}
 use Rattle.mapper.proofs.is_coding_transcript.Goals as goal
 
 pub returns-in-Aligned : goal.returns-in-Aligned

@@ -3,7 +3,6 @@ use mathlib.Core.Path.{sym, ◌∙◌}
 use Rattle.mapper.specs.Asking.{ask_in_bounds}
 use Rattle.knowing.specs.laws.Known.{known_lies, ask_length, ask_broken}
 use Rattle.mapper.specs.laws.Lying.{lying_in_bounds}
-use borrow.Author.Rules.{rules}
 use Rattle.mapper.proofs.is_g_interval_in_bounds.Goals as goal
 
 pub is_in_bounds-requires : goal.is_in_bounds-requires

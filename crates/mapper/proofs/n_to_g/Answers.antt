@@ -3,7 +3,6 @@ use mathlib.Core.Path.{sym, ◌∙◌}
 use Rattle.mapper.specs.Asking.{ask_n_to_g}
 use Rattle.knowing.specs.laws.Known.{known_lies, ask_length, ask_broken}
 use Rattle.mapper.specs.laws.Lying.{lying_n_to_g}
-use borrow.Author.Rules.{rules}
 use Rattle.mapper.proofs.n_to_g.Goals as goal
 
 pub to_g-requires : goal.to_g-requires

@@ -1,5 +1,4 @@
 -- On either strand the first number and the step at the end are the definition's. Assumes nothing.
-use Rattle.std.proofs.Common.{rules}
 use Rattle.numbered.proofs.ends_hold.Goals as goal
 
 pub returns-then-forward : goal.returns-then-forward

@@ -1,5 +1,5 @@
 -- The difference is the one that wraps, by name (`wrapped16_is`), and it adds no bit to the most exactly where it is no more (`no_bit_more`). Assumes nothing.
-use Rattle.std.proofs.Common.{leb, ◌∙◌, ap₂, arith, rules}
+use Rattle.std.proofs.Common.{leb, ◌∙◌, ap₂, arith}
 use Rattle.numbered.specs.Numbers.{stepped}
 use Rattle.numbered.proofs.OneNumber.{wrapped16_is, most_small, no_bit_more}
 use Rattle.numbered.proofs.is_stepped.Goals as goal

@@ -1,5 +1,5 @@
 -- The steps between neighbours, the first number and the step behind the last segment decide (`numbers_decided`). Assumes nothing.
-use Rattle.std.proofs.Common.{sym, ◌∙◌, rules}
+use Rattle.std.proofs.Common.{sym, ◌∙◌}
 use Rattle.numbered.proofs.Numbering.{numbers_decided}
 use Rattle.numbered.proofs.numbers_hold.Goals as goal
 

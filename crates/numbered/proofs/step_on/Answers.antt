@@ -1,5 +1,5 @@
 -- The difference is the one that wraps, by name (`wrapped16_is`), and nothing is above where it is no more than the most. Assumes nothing.
-use Rattle.std.proofs.Common.{ℕ, Bool, ◌&&◌, eqb, leb, ap, ◌∙◌, ap₂, arith, rules}
+use Rattle.std.proofs.Common.{ℕ, Bool, ◌&&◌, eqb, leb, ap, ◌∙◌, ap₂, arith}
 use Rattle.numbered.specs.Numbers.{stepped}
 use Rattle.numbered.proofs.OneNumber.{wrapped16_is, none_above}
 use Rattle.numbered.proofs.step_on.Goals as goal

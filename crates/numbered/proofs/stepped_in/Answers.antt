@@ -1,9 +1,6 @@
 -- After each turn the flag is what `all_below` says of the steps from the first on. Assumes nothing.
-use Rattle.std.proofs.Common.{◌≡◌, ◌-◌, ◌≤◌, rules}
-use Rattle.segments.specs.Tables.{all_below}
+use Rattle.std.proofs.Common.{rules}
 use Rattle.segments.specs.laws.Gathering.{all_done}
-use Rattle.numbered.specs.Stretches.{from}
-use Rattle.numbered.specs.Numbers.{stepped_at}
 use Rattle.numbered.specs.laws.All.{from_none, from_more}
 use Rattle.numbered.proofs.stepped_in.Goals as goal
 

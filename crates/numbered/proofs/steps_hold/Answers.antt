@@ -1,5 +1,5 @@
 -- Two stretches that overlap make one (`stretched`). Assumes nothing.
-use Rattle.std.proofs.Common.{◌&&◌, ◌∙◌, ap₂, arith, rules}
+use Rattle.std.proofs.Common.{◌&&◌, ◌∙◌, ap₂, arith}
 use Rattle.numbered.specs.laws.All.{from_start, stretched}
 use Rattle.numbered.proofs.steps_hold.Goals as goal
 

@@ -1,9 +1,6 @@
 -- After each turn the bits are 0 exactly where `all_below` says that the steps passed are no more than they may be. Assumes nothing.
-use Rattle.std.proofs.Common.{◌≡◌, ◌-◌, ◌≤◌, eqb, refl, ◌∙◌, rules}
-use Rattle.segments.specs.Tables.{all_below}
+use Rattle.std.proofs.Common.{refl, ◌∙◌, rules}
 use Rattle.segments.specs.laws.Gathering.{all_done}
-use Rattle.numbered.specs.Stretches.{from}
-use Rattle.numbered.specs.Numbers.{stepped_at}
 use Rattle.numbered.specs.laws.All.{from_none, from_more}
 use Rattle.numbered.proofs.steps_in.Goals as goal
 

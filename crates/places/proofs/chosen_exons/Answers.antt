@@ -1,5 +1,4 @@
 -- `places::chosen_exons` meets its contract: `chosen` gives each spot's number. Assumes nothing.
-use borrow.Author.Rules.{rules}
 use Rattle.places.proofs.chosen_exons.Goals as goal
 
 pub returns : goal.returns

@@ -1,5 +1,4 @@
 -- `places::found_exons` meets its contract: `found` gives each spot's number, and the strand puts the two in order. Assumes nothing.
-use borrow.Author.Rules.{rules}
 use Rattle.places.proofs.found_exons.Goals as goal
 
 pub returns-then-forward : goal.returns-then-forward

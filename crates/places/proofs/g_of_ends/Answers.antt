@@ -9,7 +9,6 @@ use Rattle.positions.specs.Paper.{paper_n_asked}
 use Rattle.spots.specs.laws.Spans.{g_answered, g_refused, t_inside}
 use Rattle.segments.specs.Tables.{tables}
 use Rattle.segments.specs.laws.Sizes.{wider}
-use borrow.Author.Rules.{rules}
 use Rattle.places.proofs.g_of_ends.Goals as goal
 use Rattle.places.proofs.g_of_ends.Tie as tie
 use Rattle.places.proofs.g_of_ends.Lts as lts

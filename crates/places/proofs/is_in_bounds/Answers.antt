@@ -1,6 +1,5 @@
 -- `places::is_in_bounds` meets its contract: `place_of_g` gives the two places, of which `are_inside` is asked as in strict mode, and that is `inBounds`. Assumes nothing.
 use Rattle.whole.specs.laws.Whole.{read}
-use borrow.Author.Rules.{rules}
 use Rattle.places.proofs.is_in_bounds.Goals as goal
 
 pub returns : goal.returns

@@ -1,6 +1,5 @@
 -- `places::to_g` meets its contract: the branch hands `g_of_ends` the two positions as `earlier` and `later` order them on that strand. Assumes nothing.
 use Rattle.spots.specs.Mapping.{map_n_to_g}
-use borrow.Author.Rules.{rules}
 use Rattle.places.proofs.to_g.Goals as goal
 
 pub returns-then-forward : goal.returns-then-forward

@@ -5,7 +5,6 @@ use Rattle.spots.specs.laws.Spans.{n_answered, n_refused, g_inside}
 use Rattle.spots.specs.Mapping.{place_of_g}
 use Rattle.segments.specs.Tables.{tables}
 use Rattle.segments.specs.laws.Sizes.{wider}
-use borrow.Author.Rules.{rules}
 use Rattle.places.proofs.to_n.Goals as goal
 use Rattle.places.proofs.to_n.Tie as tie
 use Rattle.places.proofs.to_n.Lts as lts

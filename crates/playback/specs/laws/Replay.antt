@@ -9,7 +9,7 @@
 --     replay_roomy                so a buffer of that length is never too short
 -- Assumes nothing.
 use Prim.Native.Nat.{ℕ, zero, suc, ◌+◌, ◌≤◌, ◌<◌}
-use Rattle.std.proofs.Common.{add-zero, zero-add, sym, ap₂, ◌∙◌}
+use Rattle.std.proofs.Common.{add-zero, zero-add, sym, subst, ap₂, ◌∙◌}
 use native.Mathlib.Omega.{arith}
 use Rattle.std.specs.Prelude.{◌≡◌, true, false, ℤ, pos, negsuc, get_or}
 use Rattle.std.proofs.Math.Path.{refl, ap}
@@ -146,7 +146,7 @@ module _ (x : Lent) where
       let n : i + suc k ≡ i + 1 + k = omega arith in
       by_test (differs x e)
       (λ t. rw (t, ne_eqb (i + suc k) i (λ q. omega arith), n) (listed_where (i + 1) k es d (omega arith)))
-      (λ t. rw (t, n) (listed_where (i + 1) k es d (omega arith)))
+      (λ t. rw t (subst (λ (m : ℕ). one_of m (indices_from x (i + 1) es) ≡ differs x (get_or es k d)) (sym n) (listed_where (i + 1) k es d (omega arith))))
 
   few_indices : (i : ℕ) (es : List Entry) → length (indices_from x i es) ≤ length es
   unfolding indices_from

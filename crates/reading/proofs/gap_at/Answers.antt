@@ -4,7 +4,6 @@ use Prim.Native.Nat.{◌-◌}
 use native.Mathlib.Omega.{arith}
 use Rattle.records.specs.Records.{record_at}
 use Rattle.records.specs.laws.Walk.{beside_order}
-use borrow.Author.Rules.{rules}
 use Rattle.reading.proofs.gap_at.Goals as goal
 
 pub bound-start-requires : goal.bound-start-requires

@@ -3,7 +3,6 @@ use mathlib.Core.Path.{refl}
 use native.Mathlib.Omega.{arith}
 use Rattle.cigar.specs.Elements.{genome, transcript}
 use Rattle.reading.specs.laws.Texts.{sums_eq}
-use borrow.Author.Rules.{rules}
 use Rattle.reading.proofs.one_on.Goals as goal
 
 pub returns : goal.returns

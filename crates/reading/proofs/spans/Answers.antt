@@ -7,7 +7,6 @@ use mir.Val.{SFits, to_z}
 use mir.ValLaws.{to_z_pos}
 use Rattle.whole.specs.Whole.{Within}
 use Rattle.whole.specs.laws.Whole.{whole, read, widened, fits_wider, i32_40, widen_40, widen_42, sum_44, same_read, other_read}
-use borrow.Author.Rules.{rules}
 use Rattle.reading.proofs.spans.Goals as goal
 use Rattle.reading.proofs.spans.Goals.{Start}
 

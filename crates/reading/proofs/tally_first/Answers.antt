@@ -7,7 +7,6 @@ use Rattle.reading.specs.Reading.{spanned}
 use Rattle.reading.specs.Tallies.{nothing, tallied}
 use Rattle.reading.specs.laws.Sizes.{first_large, first_read}
 use Rattle.reading.specs.declared.Tally.{Tally}
-use borrow.Author.Rules.{rules}
 use Rattle.reading.proofs.tally_first.Goals as goal
 use Rattle.reading.proofs.tally_first.Goals.{Start}
 

@@ -7,7 +7,6 @@ use Rattle.reading.specs.Reading.{between, spanned}
 use Rattle.reading.specs.Tallies.{one_on, tallied}
 use Rattle.reading.specs.laws.Sizes.{next_large, next_full, next_read}
 use Rattle.reading.specs.declared.Tally.{Tally}
-use borrow.Author.Rules.{rules}
 use Rattle.reading.proofs.tally_next.Goals as goal
 use Rattle.reading.proofs.tally_next.Goals.{Start}
 

@@ -15,7 +15,6 @@ use Rattle.reading.specs.laws.Spans.{tallied_grows, tallied_passes, tallied_shor
 use Rattle.reading.specs.declared.Sums.{Sums}
 use Rattle.reading.specs.declared.Tally.{Tally}
 use Rattle.reading.specs.declared.Tally.TheVariants as tally
-use borrow.Author.Rules.{rules}
 use Rattle.reading.proofs.tally_record.Goals as goal
 use Rattle.reading.proofs.tally_record.Tie as tie
 use Rattle.reading.proofs.tally_record.Lts as lts

@@ -1,11 +1,10 @@
 -- `reading::tally_rest` meets its contract: the loop keeps that the whole tally is that of the records that are left, from the sums so far. Assumes nothing.
-use mathlib.Core.Path.{◌≡◌, refl, sym, subst, ◌∙◌}
+use mathlib.Core.Path.{refl, sym, subst, ◌∙◌}
 use native.Mathlib.Omega.{arith}
-use Rattle.records.specs.Records.{record_at, records_from}
-use Rattle.records.specs.Walk.{Walk, Turn}
+use Rattle.records.specs.Records.{record_at}
+use Rattle.records.specs.Walk.{Turn}
 use Rattle.records.specs.laws.Walk.{turn}
-use Rattle.reading.specs.Reading.{genome_end_of, exons_after}
-use Rattle.reading.specs.Tallies.{Bounded, BoundedTally, tallied_after}
+use Rattle.reading.specs.Tallies.{BoundedTally}
 use Rattle.reading.specs.laws.Tallied.{rest_sums, rest_refused, rest_none}
 use borrow.Author.Rules.{rules}
 use Rattle.reading.proofs.tally_rest.Goals as goal

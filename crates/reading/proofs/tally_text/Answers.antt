@@ -1,14 +1,13 @@
 -- `reading::tally_text` meets its contract: the loop keeps that the whole tally is that of the text that is left, from the sums so far; each step's case has its law. Assumes nothing.
 use mathlib.Core.Path.{◌≡◌, refl, sym, subst, ◌∙◌}
 use mathlib.Core.List.{List}
-use Prim.Native.Nat.{ℕ, ◌-◌, ◌≤◌, ◌<◌}
+use Prim.Native.Nat.{ℕ, ◌≤◌, ◌<◌}
 use native.Mathlib.Omega.{arith}
-use lib.ListN.{length, drop}
+use lib.ListN.{length}
 use Rattle.refusals.specs.Numbers.{most_segments}
-use Rattle.cigar.specs.Text.{step_at, read_all}
+use Rattle.cigar.specs.Text.{step_at}
 use Rattle.cigar.specs.laws.Steps.{Moves, moves}
 use Rattle.cigar.specs.declared.Step.TheVariants.{Element}
-use Rattle.reading.specs.Tallies.{tallied, Bounded}
 use Rattle.reading.specs.laws.Texts.{tally_element, tally_full, tally_refused, tally_end}
 use borrow.Author.Rules.{rules}
 use Rattle.reading.proofs.tally_text.Goals as goal

@@ -1,16 +1,10 @@
 -- `reading::tally_text` meets its contract: the loop keeps that the whole tally is that of the text that is left, from the sums so far; each step's case has its law. Assumes nothing.
-use mathlib.Core.Path.{◌≡◌, refl, sym, subst, ◌∙◌}
-use mathlib.Core.List.{List}
-use Prim.Native.Nat.{ℕ, ◌-◌, ◌≤◌, ◌<◌}
-use native.Mathlib.Omega.{arith}
+use mathlib.Core.Path.{◌≡◌}
+use Prim.Native.Nat.{◌-◌, ◌≤◌}
 use lib.ListN.{length, drop}
 use Rattle.refusals.specs.Numbers.{most_segments}
-use Rattle.cigar.specs.Text.{step_at, read_all}
-use Rattle.cigar.specs.laws.Steps.{Moves, moves}
-use Rattle.cigar.specs.declared.Step.TheVariants.{Element}
+use Rattle.cigar.specs.Text.{read_all}
 use Rattle.reading.specs.Tallies.{tallied, Bounded}
-use Rattle.reading.specs.laws.Texts.{tally_element, tally_full, tally_refused, tally_end}
-use borrow.Author.Rules.{rules}
 use Rattle.reading.proofs.tally_text.Given as goal
 
 abbrev pub invariant-loop-count : goal.invariant-loop-count

@@ -4,7 +4,7 @@ use Rattle.std.proofs.Common.{ap, ◌∙◌, arith, eq-eqb, ne_eqb}
 use Rattle.refusals.specs.Numbers.{too_much, most_segments}
 use Rattle.refusals.specs.Outcome.{answered, refused}
 use Rattle.cigar.specs.declared.Step.TheVariants as step
-use Rattle.cigar.specs.Elements.{Element, genome, transcript, total}
+use Rattle.cigar.specs.Elements.{Element, total}
 use Rattle.cigar.specs.Text.{step_at, Reading, before, element, read_all}
 use Rattle.cigar.specs.laws.Steps.{go_on, goes_on}
 use Rattle.reading.specs.Tallies.{one_on, sums_on, tallied}

@@ -1,7 +1,6 @@
 -- `results::counted_laid` meets its contract: the arm that was taken says which case of `counted_laid` it is.
 use mathlib.Core.Path.{sym, ap}
 use Rattle.results.specs.Results.{counted_laid}
-use borrow.Author.Rules.{rules}
 use Rattle.results.proofs.counted_laid.Goals as goal
 
 pub returns-in-Count : goal.returns-in-Count

@@ -1,6 +1,5 @@
 -- `results::lay_built` meets its contract: an arm knows what was built: `lay_head` lays a head out, and a refusal's number leaves the head as it was. Assumes nothing.
 use mathlib.Core.Path.{refl}
-use borrow.Author.Rules.{rules}
 use Rattle.results.proofs.lay_built.Goals as goal
 
 pub returns-in-Transcript : goal.returns-in-Transcript

@@ -1,7 +1,6 @@
 -- `results::written_laid` meets its contract: the arm that was taken says which case of `written_laid` it is.
 use mathlib.Core.Path.{sym, ap}
 use Rattle.results.specs.Results.{written_laid}
-use borrow.Author.Rules.{rules}
 use Rattle.results.proofs.written_laid.Goals as goal
 
 pub returns-in-Text : goal.returns-in-Text

@@ -1,13 +1,11 @@
 -- After each turn the flag says whether all words passed are those that the row expects.
-use Prim.Native.Nat.{ℕ, ◌≤◌, ◌-◌}
-use mathlib.Core.Path.{◌≡◌, ap, ◌∙◌}
+use mathlib.Core.Path.{ap, ◌∙◌}
 use lib.IntN.{pos}
 use lib.ListN.{get_or}
 use mir.Syntax.{w64}
 use Rattle.whole.specs.laws.Whole.{told}
-use Rattle.segments.specs.Tables.{all_below}
 use Rattle.segments.specs.laws.Gathering.{all_none, all_more, all_done}
-use Rattle.rows.specs.Rows.{answer_size, is_word, expected}
+use Rattle.rows.specs.Rows.{is_word, expected}
 use borrow.Author.Rules.{rules}
 use Rattle.rows.proofs.expects.Goals as goal
 

@@ -4,7 +4,6 @@ use native.Mathlib.Omega.{arith}
 use lib.Seq.{length-take-le}
 use borrow.Author.Tests.{lt-ltb, le-ltb}
 use Rattle.rows.specs.Rows.{first_of}
-use borrow.Author.Rules.{rules}
 use Rattle.rows.proofs.first.Goals as goal
 
 pub returns-then-s-size : goal.returns-then-s-size

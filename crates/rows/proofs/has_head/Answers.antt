@@ -1,5 +1,4 @@
 -- The three tests are those of the definition.
-use borrow.Author.Rules.{rules}
 use Rattle.rows.proofs.has_head.Goals as goal
 
 pub returns : goal.returns

@@ -6,7 +6,6 @@ use mir.Val.{SFits}
 use Rattle.whole.specs.Whole.{eq_z}
 use Rattle.whole.specs.laws.Whole.{read, fits_wider, same_read, other_read}
 use Rattle.rows.specs.Rows.{is_word}
-use borrow.Author.Rules.{rules}
 use Rattle.rows.proofs.is_word.Goals as goal
 use Rattle.rows.proofs.is_word.Goals.{After-signed_word-word}
 

@@ -2,7 +2,6 @@
 use mathlib.Core.Path.{ap, ap₂, ◌∙◌}
 use Rattle.sequences.specs.Slices.{Slice}
 use Rattle.rows.specs.Rows.{first_of}
-use borrow.Author.Rules.{rules}
 use Rattle.rows.proofs.payload.Goals as goal
 
 pub returns : goal.returns

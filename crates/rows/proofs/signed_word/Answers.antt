@@ -4,7 +4,6 @@ use mir.Syntax.{w32}
 use Rattle.whole.specs.laws.Whole.{read}
 use borrow.Author.Tests.{lt-ltb, le-ltb}
 use Rattle.rows.specs.Rows.{word_at}
-use borrow.Author.Rules.{rules}
 use Rattle.rows.proofs.signed_word.Goals as goal
 
 pub returns-then-row-lt-BLOCK : goal.returns-then-row-lt-BLOCK

@@ -1,7 +1,6 @@
 -- Where the row has a block, all its words lie in it.
 use borrow.Author.Tests.{lt-ltb, le-ltb}
 use Rattle.rows.specs.Rows.{word_at}
-use borrow.Author.Rules.{rules}
 use Rattle.rows.proofs.word.Goals as goal
 
 pub returns-then-row-lt-BLOCK : goal.returns-then-row-lt-BLOCK

@@ -1,5 +1,4 @@
 -- `spots::are_inside` meets its contract: `is_inside` answers for each of the two places, and both answers together are what is promised. Assumes nothing.
-use borrow.Author.Rules.{rules}
 use Rattle.spots.proofs.are_inside.Goals as goal
 
 pub returns : goal.returns

@@ -1,5 +1,4 @@
 -- `spots::found_exon` meets its contract: `behind` gives what stands behind the last segment's number. Assumes nothing.
-use borrow.Author.Rules.{rules}
 use Rattle.spots.proofs.found_exon.Goals as goal
 
 pub returns : goal.returns

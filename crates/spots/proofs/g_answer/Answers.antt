@@ -1,7 +1,6 @@
 -- `spots::g_answer` meets its contract: `g_of_place` gives each end with its number's own offset, and `g_marked` joins them under the mark of both spots, as `g_joined` does. Assumes nothing.
 use Rattle.whole.specs.laws.Whole.{read}
 use Rattle.spots.specs.Aligned.{g_joined}
-use borrow.Author.Rules.{rules}
 use Rattle.spots.proofs.g_answer.Goals as goal
 
 pub returns : goal.returns

@@ -6,7 +6,6 @@ use Rattle.spots.specs.Mapping.{signed}
 use Rattle.whole.specs.laws.Whole.{read, told, widened, fits_wider, i32_38, fits_40, fits_42}
 use Rattle.whole.specs.laws.Machine.{entry}
 use Rattle.spots.proofs.Sizes.{signed_40, from_first_40, from_one_40, with_own_42}
-use borrow.Author.Rules.{rules}
 use Rattle.spots.proofs.g_of_place.Goals as goal
 use Rattle.spots.proofs.g_of_place.Goals.{After-sign-own, After-struct_told-1}
 

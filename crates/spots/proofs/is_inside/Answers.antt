@@ -3,7 +3,6 @@ use mir.Syntax.{w64}
 use Rattle.whole.specs.laws.Whole.{told}
 use Rattle.spots.specs.Mapping.{inside}
 use Rattle.whole.specs.laws.Machine.{entry}
-use borrow.Author.Rules.{rules}
 use Rattle.spots.proofs.is_inside.Goals as goal
 
 pub returns-then-z-ge0 : goal.returns-then-z-ge0

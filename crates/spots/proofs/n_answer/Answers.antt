@@ -3,7 +3,6 @@ use mathlib.Core.Bool.{◌&&◌}
 use mathlib.Core.Path.{◌∙◌}
 use Rattle.positions.specs.Paper.{paper_exons, paper_n_end}
 use Rattle.positions.specs.laws.Ends.{ends_after}
-use borrow.Author.Rules.{rules}
 use Rattle.spots.specs.Aligned.{n_joined}
 use Rattle.spots.proofs.n_answer.Goals as goal
 

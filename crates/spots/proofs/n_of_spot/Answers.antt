@@ -2,7 +2,6 @@
 use mir.Syntax.{w64}
 use Rattle.whole.specs.laws.Whole.{read, told, fits_40}
 use Rattle.spots.proofs.Sizes.{signed_40, turned_40}
-use borrow.Author.Rules.{rules}
 use Rattle.spots.proofs.n_of_spot.Goals as goal
 
 pub place_to_n-n-requires : goal.place_to_n-n-requires

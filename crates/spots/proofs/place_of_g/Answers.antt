@@ -3,7 +3,6 @@ use mathlib.Core.Path.{refl}
 use Rattle.whole.specs.laws.Whole.{read, widened, fits_wider, fits_38}
 use Rattle.whole.specs.laws.Machine.{entry}
 use Rattle.spots.proofs.Sizes.{less_38, place_36, fits_36}
-use borrow.Author.Rules.{rules}
 use Rattle.spots.proofs.place_of_g.Goals as goal
 
 pub overflow_cast-number : goal.overflow_cast-number

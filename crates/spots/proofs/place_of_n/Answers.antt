@@ -3,7 +3,6 @@ use mathlib.Core.Path.{◌≡◌}
 use Rattle.whole.specs.laws.Whole.{read}
 use Rattle.numbering.specs.Numbers.{place_of_n}
 use Rattle.spots.proofs.Sizes.{of_n_34, turned_36, widen_34}
-use borrow.Author.Rules.{rules}
 use Rattle.spots.proofs.place_of_n.Goals as goal
 use Rattle.spots.proofs.place_of_n.Goals.{After-n_to_place-p}
 

@@ -1,7 +1,6 @@
 -- `spots::spot_of_g` meets its contract: what `genome_to_transcript` gives, whose segment is one of those that there are. Assumes nothing.
 use mathlib.Core.List.{[]}
 use Rattle.spots.specs.laws.Spans.{on_transcript, same_number}
-use borrow.Author.Rules.{rules}
 use Rattle.spots.proofs.spot_of_g.Goals as goal
 
 pub returns : goal.returns

@@ -1,7 +1,6 @@
 -- `spots::spot_of_n` meets its contract: what `transcript_to_genome` gives, whose segment is one of those that there are. Assumes nothing.
 use mathlib.Core.List.{[]}
 use Rattle.spots.specs.laws.Spans.{on_genome, same_number}
-use borrow.Author.Rules.{rules}
 use Rattle.spots.proofs.spot_of_n.Goals as goal
 
 pub returns : goal.returns

@@ -4,7 +4,6 @@ use Rattle.whole.specs.laws.Whole.{read, told, fits_38, fits_40}
 use Rattle.spots.specs.Mapping.{turned}
 use Rattle.whole.specs.laws.Machine.{entry}
 use Rattle.spots.proofs.Sizes.{end_38, back_40}
-use borrow.Author.Rules.{rules}
 use Rattle.spots.proofs.turn.Goals as goal
 
 pub overflow_sub-place : goal.overflow_sub-place

@@ -1,5 +1,5 @@
 -- The differences are those that wrap, by name (`wrapped_is`), and the bits are gathered as the definition names them. Assumes nothing.
-use Rattle.std.proofs.Common.{arith, rules}
+use Rattle.std.proofs.Common.{arith}
 use Rattle.stepping.specs.Steps.{common_same, common_within}
 use Rattle.stepping.specs.laws.OneStep.{wrapped_is}
 use Rattle.stepping.proofs.common_on.Goals as goal

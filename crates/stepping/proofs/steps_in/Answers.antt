@@ -1,8 +1,5 @@
 -- After each turn the flag and the bits are what `all_below` says of the segments passed. Assumes nothing.
-use Rattle.std.proofs.Common.{◌≡◌, ℕ, ◌-◌, ◌≤◌, refl, ◌∙◌, rules}
-use Rattle.segments.specs.Tables.{tables, all_below}
-use Rattle.numbered.specs.Stretches.{from}
-use Rattle.stepping.specs.Steps.{same_at, within_at, within}
+use Rattle.std.proofs.Common.{refl, ◌∙◌, rules}
 use Rattle.segments.specs.laws.Gathering.{all_done}
 use Rattle.numbered.specs.laws.All.{from_none, from_more}
 use Rattle.stepping.specs.laws.OneStep.{within_none}

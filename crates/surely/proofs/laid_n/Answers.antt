@@ -1,5 +1,4 @@
 -- `surely::laid_n` meets its contract: an arm knows which end it was handed, and its callee says what it laid. Assumes nothing.
-use borrow.Author.Rules.{rules}
 use Rattle.surely.proofs.laid_n.Goals as goal
 
 pub returns-in-At : goal.returns-in-At

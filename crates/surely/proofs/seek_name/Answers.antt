@@ -20,7 +20,6 @@ use Rattle.spots.specs.declared.Alignment.{Alignment}
 use Rattle.lone.specs.Lone.{SoughtAt}
 use Rattle.lone.specs.declared.Sought as code
 use Rattle.surely.specs.Surely.{Named, SoughtName}
-use borrow.Author.Rules.{rules}
 use Rattle.surely.proofs.seek_name.Goals as goal
 
 module _ (strict : Bool) (a : Alignment) (starts : List ℕ) where

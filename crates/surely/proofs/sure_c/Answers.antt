@@ -10,7 +10,6 @@ use Rattle.layout.specs.Layout.{c_laid, laid}
 use Rattle.knowing.specs.Knowing.{paper_coding}
 use Rattle.surely.specs.Surely.{sure_c}
 use Rattle.surely.proofs.Once.{c_once, c_missing}
-use borrow.Author.Rules.{rules}
 use Rattle.surely.proofs.sure_c.Goals as goal
 use Rattle.surely.proofs.sure_c.Tie as tie
 use Rattle.surely.proofs.sure_c.Lts as lts

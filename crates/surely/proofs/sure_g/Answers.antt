@@ -1,6 +1,5 @@
 -- `surely::sure_g` meets its contract: the spot's place as a g. position, or 17, stands at both ends with the one exon's number. Assumes nothing.
 use Rattle.whole.specs.laws.Whole.{read}
-use borrow.Author.Rules.{rules}
 use Rattle.surely.proofs.sure_g.Goals as goal
 
 pub returns-in-At : goal.returns-in-At

@@ -1,6 +1,5 @@
 -- `surely::sure_n` meets its contract: the spot's n. position, or 17, stands at both ends with the one exon's number, whichever the strand. Assumes nothing.
 use Rattle.segments.specs.laws.Sizes.{wider}
-use borrow.Author.Rules.{rules}
 use Rattle.surely.proofs.sure_n.Goals as goal
 
 pub returns-then-at : goal.returns-then-at

@@ -1,6 +1,5 @@
 -- `taking::g_asked` meets its contract: each end is that of its own bit. Assumes nothing.
 use Rattle.whole.specs.laws.Whole.{read}
-use borrow.Author.Rules.{rules}
 use Rattle.taking.specs.Taking.{g_asked}
 use Rattle.taking.proofs.g_asked.Goals as goal
 

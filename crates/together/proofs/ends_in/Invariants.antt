@@ -1,14 +1,10 @@
 -- After each turn the bits are what `all_below` says of the ends passed. Assumes nothing.
 use Prim.Native.Nat.{ℕ, ◌≤◌, ◌-◌}
-use mathlib.Core.Path.{◌≡◌, ◌∙◌}
-use borrow.Author.Rules.{rules}
+use mathlib.Core.Path.{◌≡◌}
 use Rattle.segments.specs.Tables.{all_below}
-use Rattle.segments.specs.laws.Gathering.{all_done}
 use Rattle.numbered.specs.Stretches.{from}
 use Rattle.stepping.specs.Steps.{within}
 use Rattle.together.specs.Ends.{ends_within_at}
-use Rattle.numbered.specs.laws.All.{from_none, from_more}
-use Rattle.stepping.specs.laws.OneStep.{within_none}
 use Rattle.together.proofs.ends_in.Given as goal
 
 abbrev pub invariant-loop-i : goal.invariant-loop-i

@@ -2,7 +2,6 @@
 use native.Mathlib.Omega.{arith}
 use mathlib.Core.Bool.{◌&&◌}
 use mathlib.Core.Path.{ap₂, ◌∙◌}
-use borrow.Author.Rules.{rules}
 use Rattle.numbered.specs.laws.All.{from_start, stretched}
 use Rattle.together.proofs.ends_of.Goals as goal
 

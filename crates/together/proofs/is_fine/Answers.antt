@@ -1,7 +1,6 @@
 -- Short bits are seen at once; of others and of the ends' bits the test is that of `within 31`. Assumes nothing.
 use mathlib.Core.Bool.{Bool, true, false, ◌&&◌}
 use mathlib.Core.Path.{◌≡◌, refl, ap, ◌∙◌}
-use borrow.Author.Rules.{rules}
 use borrow.Author.Tests.{lt-ltb, le-ltb}
 use Rattle.stepping.specs.Steps.{within}
 use Rattle.together.proofs.is_fine.Goals as goal

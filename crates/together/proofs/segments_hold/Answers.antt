@@ -1,7 +1,6 @@
 -- What the passes show decides where the last entries are low (`decided`). Assumes nothing.
 use mathlib.Core.Bool.{Bool, true, false, ◌&&◌, ◌||◌}
 use mathlib.Core.Path.{◌≡◌, ap, ap₂, ◌∙◌}
-use borrow.Author.Rules.{rules}
 use Rattle.segments.specs.Tables.{tables, all_below, known_at}
 use Rattle.stepping.specs.Steps.{same_at, within_at}
 use Rattle.together.proofs.Deciding.{low_ends, decided}

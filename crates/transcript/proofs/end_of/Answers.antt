@@ -1,6 +1,5 @@
 -- `transcript::end_of` meets its contract: `bound_of` is asked whether the bits are 2 or more, which is the test of `end_of`. Assumes nothing.
 use Rattle.whole.specs.laws.Whole.{read}
-use borrow.Author.Rules.{rules}
 use Rattle.transcript.proofs.end_of.Goals as goal
 
 pub returns : goal.returns

@@ -1,7 +1,6 @@
 -- `transcript::number_of` meets its contract: an arm knows which bound it was handed, and the number in a bound that is given fits 32 bits, so that it is read back as it was. Assumes nothing.
 use mir.Syntax.{w32}
 use Rattle.whole.specs.laws.Whole.{told}
-use borrow.Author.Rules.{rules}
 use Rattle.transcript.proofs.number_of.Goals as goal
 
 pub returns-in-Given : goal.returns-in-Given

@@ -1,6 +1,5 @@
 -- `transcript::start_of` meets its contract: `bound_of` is asked whether the lowest bit is set, which is the test of `start_of`. Assumes nothing.
 use Rattle.whole.specs.laws.Whole.{read}
-use borrow.Author.Rules.{rules}
 use Rattle.transcript.proofs.start_of.Goals as goal
 
 pub returns : goal.returns

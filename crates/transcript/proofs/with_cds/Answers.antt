@@ -3,7 +3,6 @@ use native.Mathlib.Omega.{arith}
 use mir.Syntax.{w32}
 use mir.ValLaws.{to_z_pos}
 use Rattle.whole.specs.laws.Whole.{told, read}
-use borrow.Author.Rules.{rules}
 use Rattle.transcript.proofs.with_cds.Goals as goal
 
 pub returns : goal.returns

@@ -12,7 +12,6 @@ use Rattle.transcript.specs.declared.Bound.{Bound}
 use Rattle.transcript.specs.declared.Built.TheVariants as answer
 use Rattle.building.proofs.Lengths.{bits_unknown, length_refused, half_refused, cds_refused, length_accepted}
 use Rattle.building.proofs.Passed.{length_head_is}
-use borrow.Author.Rules.{rules}
 use Rattle.building.proofs.length_only.build_length.Goals as goal
 use Rattle.building.proofs.length_only.build_length.Tie as tie
 use Rattle.building.proofs.length_only.build_length.Lts as lts

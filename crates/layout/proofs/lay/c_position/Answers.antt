@@ -1,6 +1,5 @@
 -- `layout::lay::c_position` meets its contract: a position's base and offset fit 32 bits, so that they are read back as they were, and `star_number` gives the star's number. Assumes nothing.
 use mir.Syntax.{w32}
-use borrow.Author.Rules.{rules}
 use Rattle.whole.specs.laws.Whole.{told}
 use Rattle.layout.proofs.lay.c_position.Goals as goal
 

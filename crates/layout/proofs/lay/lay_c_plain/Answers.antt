@@ -1,5 +1,4 @@
 -- `layout::lay::lay_c_plain` meets its contract: an arm knows which answer it was handed, and its callees say what they laid.
-use borrow.Author.Rules.{rules}
 use Rattle.layout.proofs.lay.lay_c_plain.Goals as goal
 
 pub returns-in-Told : goal.returns-in-Told

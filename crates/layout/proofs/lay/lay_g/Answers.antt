@@ -1,5 +1,4 @@
 -- `layout::lay::lay_g` meets its contract: an arm knows which answer it was handed, and its callees say what they laid.
-use borrow.Author.Rules.{rules}
 use Rattle.layout.proofs.lay.lay_g.Goals as goal
 
 pub returns-in-Certain : goal.returns-in-Certain

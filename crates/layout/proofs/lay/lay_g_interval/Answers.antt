@@ -1,5 +1,4 @@
 -- `layout::lay::lay_g_interval` meets its contract: each end is laid out with its own number.
-use borrow.Author.Rules.{rules}
 use Rattle.layout.proofs.lay.lay_g_interval.Goals as goal
 
 pub returns : goal.returns

@@ -1,5 +1,4 @@
 -- `layout::lay::lay_one_n` meets its contract: the position is laid out once, and `twice` has it at both ends.
-use borrow.Author.Rules.{rules}
 use Rattle.layout.proofs.lay.lay_one_n.Goals as goal
 
 pub returns : goal.returns

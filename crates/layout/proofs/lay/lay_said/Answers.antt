@@ -1,5 +1,4 @@
 -- `layout::lay::lay_said` meets its contract: an arm knows whether it was handed a yes, a no or a refusal, and lays out the two numbers that `saidLaid` has for it. Assumes nothing.
-use borrow.Author.Rules.{rules}
 use Rattle.layout.proofs.lay.lay_said.Goals as goal
 
 pub returns-in-Yes : goal.returns-in-Yes

@@ -1,7 +1,6 @@
 -- `taking::question::c_of` meets its contract: the numbers are handed on, each with its own star. Assumes nothing.
 use mir.Syntax.{w32}
 use Rattle.whole.specs.laws.Whole.{told}
-use borrow.Author.Rules.{rules}
 use Rattle.taking.specs.Questions.{c_of}
 use Rattle.taking.proofs.question.c_of.Goals as goal
 

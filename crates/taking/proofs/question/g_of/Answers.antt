@@ -1,7 +1,6 @@
 -- `taking::question::g_of` meets its contract: each end is that of its own marks. Assumes nothing.
 use mir.Syntax.{w32}
 use Rattle.whole.specs.laws.Whole.{told}
-use borrow.Author.Rules.{rules}
 use Rattle.taking.specs.Questions.{g_of}
 use Rattle.taking.proofs.question.g_of.Goals as goal
 

@@ -1,7 +1,6 @@
 -- `taking::question::n_of` meets its contract: the four numbers are handed on. Assumes nothing.
 use mir.Syntax.{w32}
 use Rattle.whole.specs.laws.Whole.{told}
-use borrow.Author.Rules.{rules}
 use Rattle.taking.specs.Questions.{n_of}
 use Rattle.taking.proofs.question.n_of.Goals as goal
 
