@@ -145,7 +145,9 @@ module _ (x : Lent) where
   listed_where i (suc k) (e ∷ es) d h =
       let n : i + suc k ≡ i + 1 + k = omega arith in
       by_test (differs x e)
-      (λ t. rw (t, ne_eqb (i + suc k) i (λ q. omega arith), n) (listed_where (i + 1) k es d (omega arith)))
+      (λ t.
+      rw (t, ne_eqb (i + suc k) i (λ q. omega arith))
+      (subst (λ (m : ℕ). one_of m (indices_from x (i + 1) es) ≡ differs x (get_or es k d)) (sym n) (listed_where (i + 1) k es d (omega arith))))
       (λ t. rw t (subst (λ (m : ℕ). one_of m (indices_from x (i + 1) es) ≡ differs x (get_or es k d)) (sym n) (listed_where (i + 1) k es d (omega arith))))
 
   few_indices : (i : ℕ) (es : List Entry) → length (indices_from x i es) ≤ length es
