@@ -16,6 +16,6 @@ fn main() {
     println!("cargo:rustc-link-search=native={}", folder.display());
     println!("cargo:rustc-link-lib=static=entry");
     if !archive.exists() {
-        println!("cargo:warning={} is missing: `rt staticlib entry` writes it", archive.display());
+        println!("cargo:warning={} is missing: `host/archive.sh` writes it", archive.display());
     }
 }

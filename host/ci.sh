@@ -42,7 +42,7 @@ if [ "$(uname -m)" != x86_64 ]; then
     memcheck=$emulator
     leaks=
 fi
-[ -n "${TXC_ARCHIVE:-}" ] || (cd .. && rt staticlib entry)
+[ -n "${TXC_ARCHIVE:-}" ] || ./archive.sh
 # The archive exports just the header's entries.
 grep -o 'txc_[a-z_]*(' ../include/txc.h | tr -d '(' | sort -u >"$log"
 ${NM:-nm} -g --defined-only "${TXC_ARCHIVE:-../target/staticlib}/libentry.a" | awk '$2 == "T" { print $3 }' | sort | diff "$log" -

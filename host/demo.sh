@@ -3,7 +3,7 @@
 # CDS begins a base later, and maps variants on B, which is A on strand -1.
 set -eu
 cd "$(dirname "$0")/.."
-[ -n "${TXC_ARCHIVE:-}" ] || rt staticlib entry
+[ -n "${TXC_ARCHIVE:-}" ] || host/archive.sh
 host/install.sh
 cd host
 command -v cargo >/dev/null || PATH="$HOME/.cargo/bin:$PATH"

@@ -25,7 +25,7 @@
 //! # Ok::<(), Box<dyn std::error::Error>>(())
 //! ```
 //!
-//! The entries are linked from `libentry.a`, which `rt staticlib entry` proves and writes. The library needs nothing but the
+//! The entries are linked from `libentry.a`, which `host/archive.sh` proves and writes. The library needs nothing but the
 //! standard library. A host that keeps off the heap builds a [`Room`] from a card and asks it.
 
 pub mod alleles;

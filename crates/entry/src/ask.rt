@@ -7,8 +7,7 @@ use layout::lay;
 use layout::lay::{Answer, Said};
 use refusals::{MOST_SEGMENTS, MOST_STARTS};
 
-#[unsafe(no_mangle)]
-pub extern "C" fn txc_g_to_n(
+pub fn txc_g_to_n(
     head: &[i32; 9],
     genome: &[u32; MOST_STARTS],
     transcript: &[u32; MOST_STARTS],
@@ -34,8 +33,7 @@ pub extern "C" fn txc_g_to_n(
     )
 }
 
-#[unsafe(no_mangle)]
-pub extern "C" fn txc_g_to_c(
+pub fn txc_g_to_c(
     head: &[i32; 9],
     genome: &[u32; MOST_STARTS],
     transcript: &[u32; MOST_STARTS],
@@ -61,8 +59,7 @@ pub extern "C" fn txc_g_to_c(
     )
 }
 
-#[unsafe(no_mangle)]
-pub extern "C" fn txc_n_to_g(
+pub fn txc_n_to_g(
     head: &[i32; 9],
     genome: &[u32; MOST_STARTS],
     transcript: &[u32; MOST_STARTS],
@@ -88,8 +85,7 @@ pub extern "C" fn txc_n_to_g(
     ))
 }
 
-#[unsafe(no_mangle)]
-pub extern "C" fn txc_n_to_c(
+pub fn txc_n_to_c(
     head: &[i32; 9],
     genome: &[u32; MOST_STARTS],
     transcript: &[u32; MOST_STARTS],
@@ -115,8 +111,7 @@ pub extern "C" fn txc_n_to_c(
     ))
 }
 
-#[unsafe(no_mangle)]
-pub extern "C" fn txc_c_to_n(
+pub fn txc_c_to_n(
     head: &[i32; 9],
     genome: &[u32; MOST_STARTS],
     transcript: &[u32; MOST_STARTS],
@@ -144,8 +139,7 @@ pub extern "C" fn txc_c_to_n(
     ))
 }
 
-#[unsafe(no_mangle)]
-pub extern "C" fn txc_c_to_g(
+pub fn txc_c_to_g(
     head: &[i32; 9],
     genome: &[u32; MOST_STARTS],
     transcript: &[u32; MOST_STARTS],
@@ -178,8 +172,7 @@ pub extern "C" fn txc_c_to_g(
 }
 
 // Whether a g. interval lies in the bounds of the alignment.
-#[unsafe(no_mangle)]
-pub extern "C" fn txc_in_bounds(
+pub fn txc_in_bounds(
     head: &[i32; 9],
     genome: &[u32; MOST_STARTS],
     transcript: &[u32; MOST_STARTS],
@@ -203,8 +196,7 @@ pub extern "C" fn txc_in_bounds(
 }
 
 // Whether the transcript codes.
-#[unsafe(no_mangle)]
-pub extern "C" fn txc_is_coding(
+pub fn txc_is_coding(
     head: &[i32; 9],
     genome: &[u32; MOST_STARTS],
     transcript: &[u32; MOST_STARTS],

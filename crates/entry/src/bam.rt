@@ -11,8 +11,7 @@ use layout::lay::Length;
 use refusals::MOST_SEGMENTS;
 
 // How many elements words have, which then stand at the fronts of the two slices.
-#[unsafe(no_mangle)]
-pub extern "C" fn txc_read_bam(words: &[u32], counts: &mut [i32], letters: &mut [u8]) -> Length
+pub fn txc_read_bam(words: &[u32], counts: &mut [i32], letters: &mut [u8]) -> Length
     ensures value { result ≡ counted_laid (counted_of (read_words words.now (length counts.old) (length letters.old))) }
     ensures counts_after { counts.new ≡ counts_after counts.old (read_words words.now (length counts.old) (length letters.old)) }
     ensures letters_after { letters.new ≡ letters_after letters.old (read_words words.now (length counts.old) (length letters.old)) }
@@ -21,8 +20,7 @@ pub extern "C" fn txc_read_bam(words: &[u32], counts: &mut [i32], letters: &mut 
 }
 
 // How many words the first elements of the two tables are written with, at the front of the lent words.
-#[unsafe(no_mangle)]
-pub extern "C" fn txc_write_bam(
+pub fn txc_write_bam(
     number: usize,
     counts: &[i32; MOST_SEGMENTS],
     letters: &[u8; MOST_SEGMENTS],

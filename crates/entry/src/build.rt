@@ -26,8 +26,7 @@ fn numbers_of(strand: i32, cds: u32, start: i32, end: i32, count: usize) -> Numb
 }
 
 // A transcript from records that are laid out as in a card: 0, or a refusal's number.
-#[unsafe(no_mangle)]
-pub extern "C" fn txc_build(
+pub fn txc_build(
     strand: i32,
     cds: u32,
     cds_start: i32,
@@ -51,8 +50,7 @@ pub extern "C" fn txc_build(
 }
 
 // A transcript from a card: 0, or a refusal's number.
-#[unsafe(no_mangle)]
-pub extern "C" fn txc_build_card(
+pub fn txc_build_card(
     card: &[u8],
     head: &mut [i32; 9],
     genome: &mut [u32; MOST_STARTS],
@@ -70,8 +68,7 @@ pub extern "C" fn txc_build_card(
 }
 
 // A transcript from its length alone: 0, or a refusal's number.
-#[unsafe(no_mangle)]
-pub extern "C" fn txc_build_length(
+pub fn txc_build_length(
     length: i32,
     cds: u32,
     cds_start: i32,
@@ -86,8 +83,7 @@ pub extern "C" fn txc_build_length(
 }
 
 // How many bytes the card of building's input has, at the front of the buffer.
-#[unsafe(no_mangle)]
-pub extern "C" fn txc_write_card(
+pub fn txc_write_card(
     strand: i32,
     cds: u32,
     cds_start: i32,

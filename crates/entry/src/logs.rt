@@ -13,8 +13,7 @@ use refusals::{MOST_SEGMENTS, MOST_STARTS};
 use taking::question::Question;
 
 // What the mapping says that a question names.
-#[unsafe(no_mangle)]
-pub extern "C" fn txc_ask(
+pub fn txc_ask(
     head: &[i32; 9],
     genome: &[u32; MOST_STARTS],
     transcript: &[u32; MOST_STARTS],
@@ -29,8 +28,7 @@ pub extern "C" fn txc_ask(
 }
 
 // The question with what is said to it, behind the bytes of a log that are in use; and the log's new length.
-#[unsafe(no_mangle)]
-pub extern "C" fn txc_record(
+pub fn txc_record(
     head: &[i32; 9],
     genome: &[u32; MOST_STARTS],
     transcript: &[u32; MOST_STARTS],
@@ -50,8 +48,7 @@ pub extern "C" fn txc_record(
 }
 
 // The index of each entry of a log whose answer differs, a line each, then the total.
-#[unsafe(no_mangle)]
-pub extern "C" fn txc_replay<'a>(
+pub fn txc_replay<'a>(
     head: &'a [i32; 9],
     genome: &'a [u32; MOST_STARTS],
     transcript: &'a [u32; MOST_STARTS],

@@ -6,8 +6,7 @@ ghost use Rattle.entry.specs.Told.{told_steps, told_slots};
 use refusals::{MOST_SEGMENTS, MOST_STARTS};
 use worklist::{Slot, Steps};
 
-#[unsafe(no_mangle)]
-pub extern "C" fn txc_worklist<'a>(
+pub fn txc_worklist<'a>(
     head: &'a [i32; 9],
     genome: &'a [u32; MOST_STARTS],
     transcript: &'a [u32; MOST_STARTS],

@@ -11,8 +11,7 @@ use layout::lay::Length;
 use refusals::{MOST_SEGMENTS, MOST_STARTS};
 
 // How many bytes the turned allele has, at the front of the buffer.
-#[unsafe(no_mangle)]
-pub extern "C" fn txc_turn(allele: &[u8], buffer: &mut [u8]) -> Length
+pub fn txc_turn(allele: &[u8], buffer: &mut [u8]) -> Length
     ensures value { result ≡ text_laid (turning allele.now (length buffer.old)) }
     ensures buffer_after { buffer.new ≡ turned_into buffer.old (turning allele.now (length buffer.old)) }
 {
@@ -21,8 +20,7 @@ pub extern "C" fn txc_turn(allele: &[u8], buffer: &mut [u8]) -> Length
 }
 
 // g. to c., and what is left of the two alleles at the fronts of the two buffers.
-#[unsafe(no_mangle)]
-pub extern "C" fn txc_g_to_c_alleles(
+pub fn txc_g_to_c_alleles(
     head: &[i32; 9],
     genome: &[u32; MOST_STARTS],
     transcript: &[u32; MOST_STARTS],

@@ -11,8 +11,7 @@ use refusals::MOST_SEGMENTS;
 use results::Part;
 
 // How many elements a text has, which then stand at the front of the two tables.
-#[unsafe(no_mangle)]
-pub extern "C" fn txc_read_cigar(
+pub fn txc_read_cigar(
     text: &[u8],
     counts: &mut [i32; MOST_SEGMENTS],
     letters: &mut [u8; MOST_SEGMENTS],
@@ -25,8 +24,7 @@ pub extern "C" fn txc_read_cigar(
 }
 
 // How many bytes the first elements of the two tables are written with, at the front of the buffer.
-#[unsafe(no_mangle)]
-pub extern "C" fn txc_write_cigar(
+pub fn txc_write_cigar(
     number: usize,
     counts: &[i32; MOST_SEGMENTS],
     letters: &[u8; MOST_SEGMENTS],
@@ -39,24 +37,21 @@ pub extern "C" fn txc_write_cigar(
 }
 
 // How many bytes two alleles have in common from the front.
-#[unsafe(no_mangle)]
-pub extern "C" fn txc_trim_prefix(reference: &[u8], alternative: &[u8]) -> usize
+pub fn txc_trim_prefix(reference: &[u8], alternative: &[u8]) -> usize
     ensures { result ≡ prefix_len reference.now alternative.now }
 {
     sequences::trim_common_prefixes(reference, alternative)
 }
 
 // How many bytes two alleles have in common from the back.
-#[unsafe(no_mangle)]
-pub extern "C" fn txc_trim_suffix(reference: &[u8], alternative: &[u8]) -> usize
+pub fn txc_trim_suffix(reference: &[u8], alternative: &[u8]) -> usize
     ensures { result ≡ suffix_len reference.now alternative.now }
 {
     sequences::trim_common_suffixes(reference, alternative)
 }
 
 // Where the part of two alleles that changed stands.
-#[unsafe(no_mangle)]
-pub extern "C" fn txc_changed(reference: &[u8], alternative: &[u8]) -> Part
+pub fn txc_changed(reference: &[u8], alternative: &[u8]) -> Part
     ensures { result ≡ part_laid (changed_part reference.now alternative.now) }
 {
     results::part_laid(sequences::changed_part(reference, alternative))

@@ -1,19 +1,19 @@
 // Reads a card from standard input and writes its listing, or the line of its refusal.
 #![tactic(auto)]
 
-use libc::{STDIN_FILENO, STDOUT_FILENO};
 use lines::MOST_LISTING;
 use refusals::{MOST_CARD, MOST_SEGMENTS, MOST_STARTS};
+use std::io;
 
 // One byte more than the largest card is read, so that a card that is too large is seen to be.
-fn main() {
+fn main(rt: HostRuntime) -> io::Result<()> {
     let mut card = [0u8; MOST_CARD + 1];
     let mut genome = [0u32; MOST_STARTS];
     let mut transcript = [0u32; MOST_STARTS];
     let mut letters = [0u8; MOST_SEGMENTS];
     let mut exons = [0u16; MOST_SEGMENTS];
     let mut text = [0u8; MOST_LISTING];
-    let read = io::read_full(STDIN_FILENO, &mut card);
+    let read = intake::read_full(&mut rt.stdin(), &mut card)?;
     let size = lines::list_card(
         &card[..read],
         &mut genome,
@@ -22,5 +22,5 @@ fn main() {
         &mut exons,
         &mut text,
     );
-    io::write_all(STDOUT_FILENO, &text[..size]);
+    rt.write_all(&text[..size])
 }

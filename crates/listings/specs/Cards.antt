@@ -1,5 +1,5 @@
 -- Cards that stand one after the other, each with its size before it, and what listing them in turn leaves in lent memory. Assumes nothing.
-use Rattle.std.specs.Prelude.{ℕ, zero, suc, ◌+◌, ◌-◌, Bool, ◌||◌, List, [], ◌∷◌, ltb, length, take, drop, if◌then◌else◌}
+use Rattle.std.specs.Prelude.{ℕ, zero, suc, ◌≡◌, ◌+◌, ◌-◌, ◌≤◌, Bool, ◌||◌, List, [], ◌∷◌, ltb, length, take, drop, if◌then◌else◌}
 use Rattle.fields.specs.Fields.{le32}
 use Rattle.cigar.specs.Lent.{at_front}
 use Rattle.segments.specs.Tables.{Tables}
@@ -32,3 +32,8 @@ exons_all (card ∷ cards) e = exons_all cards (exons_after (judge_card card) e)
 unfoldable pub text_all : List (List ℕ) → List ℕ → List ℕ
 text_all [] text = text
 text_all (card ∷ cards) text = text_all cards (at_front (judgment_text (judge_card card)) text)
+
+-- listing some of the cards, the first ones, leaves them so
+abbrev pub LeavesAfterSome : List (List ℕ) → Tables → List ℕ → List ℕ → Tables → List ℕ → List ℕ → Type 0
+LeavesAfterSome cards t e text t' e' text' =
+    (k : ℕ) × (k ≤ length cards) × (t' ≡ tables_all (take k cards) t) × (e' ≡ exons_all (take k cards) e) × (text' ≡ text_all (take k cards) text)

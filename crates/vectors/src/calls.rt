@@ -1,5 +1,6 @@
 // The calls that rows name, by the numbers that they are recorded with.
 use crate::say;
+use std::io;
 
 pub const BUILD_CARD: usize = 1;
 
@@ -44,12 +45,12 @@ pub const WRITE_BAM: usize = 20;
 pub const END: usize = WRITE_BAM + 1;
 
 // Writes the name of a call.
-pub(crate) fn say(call: usize) {
+pub(crate) fn say(rt: &impl Print, call: usize) -> io::Result<()> {
     let names =
         b"no call\nbuild_card\nbuild\nbuild_length\ndamage\ng_to_n\ng_to_c\nn_to_g\nn_to_c\nc_to_n\nc_to_g\nin_bounds\nis_coding\nread_cigar\nwrite_cigar\nwrite_card\ntrim_prefix\ntrim_suffix\nchanged\nread_bam\nwrite_bam";
     if call < END {
-        say::line(names, call);
+        say::line(rt, names, call)
     } else {
-        say::line(names, 0);
+        say::line(rt, names, 0)
     }
 }

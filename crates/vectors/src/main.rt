@@ -2,7 +2,7 @@
 // made over memory kept here, its answer compared, and the counts are told.
 #![tactic(auto)]
 
-ghost use Rattle.std.specs.Prelude.{◌≡◌};
+ghost use Rattle.std.specs.Prelude.{◌≡◌, IfOk};
 ghost use Rattle.segments.specs.Tables.{tables};
 ghost use Rattle.vectors.specs.Tally.{counted};
 ghost use Rattle.vectors.specs.Replay.{agreed, head_next, tables_next, exons_next, replayed};
@@ -17,6 +17,7 @@ mod transcripts;
 
 use comparing::lent::HEAD;
 use refusals::{MOST_SEGMENTS, MOST_STARTS};
+use std::io;
 use tally::COUNTS;
 
 // Whether a row is answered as recorded.
@@ -52,18 +53,19 @@ fn agrees(
 }
 
 // Counts a row; one that differs is told.
-fn count(tally: &mut [u64; COUNTS], row: &[u8], agrees: bool)
+fn count(rt: &impl Print, tally: &mut [u64; COUNTS], row: &[u8], agrees: bool) -> io::Result<()>
     ensures { tally.new ≡ counted tally.old row.now agrees }
 {
     tally::count(tally, row, agrees);
     if !agrees {
-        tally::tell_difference(tally, row);
+        return tally::tell_difference(rt, tally, row);
     }
+    Ok(())
 }
 
 // The counts of rows that stand one after the other, up to one that is cut off.
-fn replay(file: &[u8]) -> [u64; COUNTS]
-    ensures { result ≡ replayed file.now }
+fn replay(rt: &impl Print, file: &[u8]) -> io::Result<[u64; COUNTS]>
+    ensures { IfOk result (λ tally. tally ≡ replayed file.now) }
 {
     let mut head = [0i32; HEAD];
     let mut genome = [0u32; MOST_STARTS];
@@ -75,8 +77,8 @@ fn replay(file: &[u8]) -> [u64; COUNTS]
     while at < file.len() {
         let size = rows::row_size(&file[at..]);
         if size == 0 {
-            tally::tell_cut_off(&tally);
-            return tally;
+            tally::tell_cut_off(rt, &tally)?;
+            return Ok(tally);
         }
         let row = rows::first(&file[at..], size);
         let agrees = agrees(
@@ -87,21 +89,21 @@ fn replay(file: &[u8]) -> [u64; COUNTS]
             &mut letters,
             &mut exons,
         );
-        count(&mut tally, row, agrees);
+        count(rt, &mut tally, row, agrees)?;
         at += size;
     }
-    tally
+    Ok(tally)
 }
 
-fn main() {
+fn main(rt: HostRuntime) -> io::Result<()> {
     let mut space = rows::space();
-    let n = io::read_full(libc::STDIN_FILENO, &mut space);
+    let n = intake::read_full(&mut rt.stdin(), &mut space)?;
     let file = &space[..n];
     if rows::has_head(file) {
-        let tally = replay(sequences::rest(file, rows::BLOCK));
-        tally::tell_promised(file, tally::rows_in(&tally));
-        tally::tell(&tally);
+        let tally = replay(&rt, sequences::rest(file, rows::BLOCK))?;
+        tally::tell_promised(&rt, file, tally::rows_in(&tally))?;
+        tally::tell(&rt, &tally)
     } else {
-        say::text(b"no recorded answers of version 2\n");
+        say::text(&rt, b"no recorded answers of version 2\n")
     }
 }

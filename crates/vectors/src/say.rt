@@ -1,18 +1,18 @@
 // What the program writes to standard output.
-use libc::STDOUT_FILENO;
+use std::io;
 
 // Writes a text.
-pub(crate) fn text(text: &[u8]) {
-    io::write_all(STDOUT_FILENO, text);
+pub(crate) fn text(rt: &impl Print, text: &[u8]) -> io::Result<()> {
+    rt.write_all(text)
 }
 
 // Writes a number in decimal digits.
-pub(crate) fn number(n: u64) {
-    io::print_decimal(STDOUT_FILENO, n);
+pub(crate) fn number(rt: &impl Print, n: u64) -> io::Result<()> {
+    rt.print(n)
 }
 
 // Writes one line of a text, counted from 0.
-pub(crate) fn line(lines: &[u8], n: usize) {
+pub(crate) fn line(rt: &impl Print, lines: &[u8], n: usize) -> io::Result<()> {
     let mut passed = 0;
     let mut i = 0;
     while i < lines.len() {
@@ -20,8 +20,9 @@ pub(crate) fn line(lines: &[u8], n: usize) {
             passed += 1;
         } else if passed == n {
             let end = i + 1;
-            text(&lines[i..end]);
+            text(rt, &lines[i..end])?;
         }
         i += 1;
     }
+    Ok(())
 }

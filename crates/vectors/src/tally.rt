@@ -4,6 +4,7 @@ ghost use Rattle.std.specs.Prelude.{◌≡◌, ◌+◌, ◌%◌, ◌^◌, ◌≤
 ghost use Rattle.vectors.specs.Tally.{counts, bumped, counted};
 
 use crate::{calls, say};
+use std::io;
 
 // The refusals' numbers, and 0 for none.
 const NUMBERS: usize = refusals::NOT_SPANNING as usize + 1;
@@ -73,108 +74,118 @@ fn differed(rows: u64, agreed: u64) -> u64
 }
 
 // Tells how many rows there are, and how many of them agreed.
-fn tell_agreed(rows: u64, agreed: u64) {
-    say::number(rows);
-    say::text(b" rows, ");
-    say::number(agreed);
-    say::text(b" agreed");
+fn tell_agreed(rt: &impl Print, rows: u64, agreed: u64) -> io::Result<()> {
+    say::number(rt, rows)?;
+    say::text(rt, b" rows, ")?;
+    say::number(rt, agreed)?;
+    say::text(rt, b" agreed")
 }
 
 // Tells of one call how many rows make it, how many agreed and how many differed.
-fn tell_call(call: usize, rows: u64, agreed: u64) {
-    calls::say(call);
-    say::text(b": ");
-    tell_agreed(rows, agreed);
-    say::text(b", ");
-    say::number(differed(rows, agreed));
-    say::text(b" differed\n");
+fn tell_call(rt: &impl Print, call: usize, rows: u64, agreed: u64) -> io::Result<()> {
+    calls::say(rt, call)?;
+    say::text(rt, b": ")?;
+    tell_agreed(rt, rows, agreed)?;
+    say::text(rt, b", ")?;
+    say::number(rt, differed(rows, agreed))?;
+    say::text(rt, b" differed\n")
 }
 
 // Tells how many rows have what was told before.
-fn tell_rows(rows: u64) {
-    say::text(b": ");
-    say::number(rows);
-    say::text(b" rows\n");
+fn tell_rows(rt: &impl Print, rows: u64) -> io::Result<()> {
+    say::text(rt, b": ")?;
+    say::number(rt, rows)?;
+    say::text(rt, b" rows\n")
 }
 
 // Tells how many rows expect one refusal, or none. A number that no row expects is passed over: the refusals' numbers have gaps.
-fn tell_number(number: usize, rows: u64) {
+fn tell_number(rt: &impl Print, number: usize, rows: u64) -> io::Result<()> {
     if rows == 0 {
-        return;
+        return Ok(());
     }
     if number == 0 {
-        say::text(b"no refusal");
+        say::text(rt, b"no refusal")?;
     } else {
-        say::text(b"refusal ");
-        say::number(number as u64);
+        say::text(rt, b"refusal ")?;
+        say::number(rt, number as u64)?;
     }
-    tell_rows(rows);
+    tell_rows(rt, rows)
 }
 
 // Tells how many expectations come from one origin.
-fn tell_origin(origin: usize, rows: u64) {
+fn tell_origin(rt: &impl Print, origin: usize, rows: u64) -> io::Result<()> {
     say::line(
+        rt,
         b"nothing expected\nexpected by the crate's answer\nexpected by the crate's error\nexpected by document 01, the crate panics\nexpected by document 01, which narrows the crate\nexpected by the documents, the crate has no such call\nexpected by document 02, which departs from the crate",
         origin,
-    );
-    tell_rows(rows);
+    )?;
+    tell_rows(rt, rows)
 }
 
 // Tells that the last row differs, unless many did before it.
-pub(crate) fn tell_difference(tally: &[u64; COUNTS], row: &[u8]) {
+pub(crate) fn tell_difference(
+    rt: &impl Print,
+    tally: &[u64; COUNTS],
+    row: &[u8],
+) -> io::Result<()> {
     let rows = tally[ROWS];
     if differed(rows, tally[AGREED]) <= MOST_TOLD {
-        say::text(b"row ");
-        say::number(rows);
-        say::text(b" differs: ");
-        calls::say(rows::call(row));
-        say::text(b"\n");
+        say::text(rt, b"row ")?;
+        say::number(rt, rows)?;
+        say::text(rt, b" differs: ")?;
+        calls::say(rt, rows::call(row))?;
+        say::text(rt, b"\n")?;
     }
+    Ok(())
 }
 
 // Tells that the row after the last one is cut off.
-pub(crate) fn tell_cut_off(tally: &[u64; COUNTS]) {
-    say::text(b"cut off after row ");
-    say::number(tally[ROWS]);
-    say::text(b"\n");
+pub(crate) fn tell_cut_off(rt: &impl Print, tally: &[u64; COUNTS]) -> io::Result<()> {
+    say::text(rt, b"cut off after row ")?;
+    say::number(rt, tally[ROWS])?;
+    say::text(rt, b"\n")
 }
 
 // Tells of each call how many rows make it and how many of them agreed.
-fn tell_calls(tally: &[u64; COUNTS]) {
+fn tell_calls(rt: &impl Print, tally: &[u64; COUNTS]) -> io::Result<()> {
     for call in calls::BUILD_CARD..calls::END {
-        tell_call(call, tally[CALLS + call], tally[CALLS_AGREED + call]);
+        tell_call(rt, call, tally[CALLS + call], tally[CALLS_AGREED + call])?;
     }
+    Ok(())
 }
 
 // Tells of each refusal how many rows expect it.
-fn tell_numbers(tally: &[u64; COUNTS]) {
+fn tell_numbers(rt: &impl Print, tally: &[u64; COUNTS]) -> io::Result<()> {
     for number in 0..NUMBERS {
-        tell_number(number, tally[BY_NUMBER + number]);
+        tell_number(rt, number, tally[BY_NUMBER + number])?;
     }
+    Ok(())
 }
 
 // Tells how many expectations come from where.
-fn tell_origins(tally: &[u64; COUNTS]) {
+fn tell_origins(rt: &impl Print, tally: &[u64; COUNTS]) -> io::Result<()> {
     for origin in 0..ORIGINS {
-        tell_origin(origin, tally[BY_ORIGIN + origin]);
+        tell_origin(rt, origin, tally[BY_ORIGIN + origin])?;
     }
+    Ok(())
 }
 
 // Tells how many rows a file's head promises, unless it has just so many.
-pub(crate) fn tell_promised(file: &[u8], rows: u64) {
+pub(crate) fn tell_promised(rt: &impl Print, file: &[u8], rows: u64) -> io::Result<()> {
     let promised = rows::size(file, 1) as u64;
     if promised != rows {
-        say::text(b"promised are ");
-        say::number(promised);
-        say::text(b" rows\n");
+        say::text(rt, b"promised are ")?;
+        say::number(rt, promised)?;
+        say::text(rt, b" rows\n")?;
     }
+    Ok(())
 }
 
 // Tells the counts, the whole last.
-pub(crate) fn tell(tally: &[u64; COUNTS]) {
-    tell_calls(tally);
-    tell_numbers(tally);
-    tell_origins(tally);
-    tell_agreed(tally[ROWS], tally[AGREED]);
-    say::text(b"\n");
+pub(crate) fn tell(rt: &impl Print, tally: &[u64; COUNTS]) -> io::Result<()> {
+    tell_calls(rt, tally)?;
+    tell_numbers(rt, tally)?;
+    tell_origins(rt, tally)?;
+    tell_agreed(rt, tally[ROWS], tally[AGREED])?;
+    say::text(rt, b"\n")
 }

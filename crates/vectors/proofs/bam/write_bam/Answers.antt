@@ -1,0 +1,29 @@
+-- The slice is the end of a larger one.
+use Rattle.std.proofs.Common.{ap, le-ltb, lt-ltb}
+use lib.ListN.{length-replicate}
+use Rattle.vectors.proofs.Zeros.{zeros_end}
+use Rattle.sequences.specs.Slices.{Slice}
+use Rattle.comparing.specs.Sizes.{most_words}
+use Rattle.comparing.specs.Bam.{write_bam_agrees}
+use Rattle.vectors.proofs.bam.write_bam.Goals as goal
+
+pub returns-then-elements-gt-MOST_SEGMENTS : goal.returns-then-elements-gt-MOST_SEGMENTS
+unfolding write_bam_agrees
+returns-then-elements-gt-MOST_SEGMENTS c = rw (lt-ltb _ _ (rw (simp (c.payload-bytes.ensures, c.bits.ensures) at c.first-elements.ensures) at c.if-elements-gt-MOST_SEGMENTS.true))
+
+pub returns-then-lent-gt-MOST_WORDS : goal.returns-then-lent-gt-MOST_WORDS
+unfolding write_bam_agrees
+returns-then-lent-gt-MOST_WORDS c =
+    rw (le-ltb _ _ (rw (simp (c.payload-bytes.ensures, c.bits.ensures) at c.first-elements.ensures) at c.if-elements-gt-MOST_SEGMENTS.false), lt-ltb _ _ (rw c.size-lent.ensures at c.if-lent-gt-MOST_WORDS.true))
+
+pub returns : goal.returns
+unfolding write_bam_agrees
+returns c =
+    let elements = simp (c.payload-bytes.ensures, c.bits.ensures) at c.first-elements.ensures in
+    let lent = c.size-lent in
+    let layout = simp (c.payload-bytes.ensures, c.bits.ensures) at (ap (λ (s : Slice). s.bytes) c.rest.ensures) in
+    let r = c.word_room-words in
+    let words = zeros_end 0 most_words lent.result r.result c.if-lent-gt-MOST_WORDS.false r.ensures.value in
+    let put = simp elements at c.put_elements.ensures in
+    rw (le-ltb _ _ (rw elements at c.if-elements-gt-MOST_SEGMENTS.false), ← lent.ensures, le-ltb _ _ c.if-lent-gt-MOST_WORDS.false)
+    (simp (words, length-replicate, put.counts_after, put.letters_after, layout) at c.writes.ensures.value)
