@@ -1,6 +1,5 @@
 -- A number of 32 bits is itself in 64.
 use Rattle.whole.specs.laws.Machine.{entry}
-use borrow.Author.Rules.{rules}
 use Rattle.comparing.proofs.answers.of_refusal.Goals as goal
 
 pub returns : goal.returns

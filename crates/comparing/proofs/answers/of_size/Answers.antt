@@ -4,7 +4,6 @@ use Prim.Native.Nat.{min}
 use native.Mathlib.Omega.{arith}
 use mir.Syntax.{w64}
 use mir.ValLaws.{to_z_pos}
-use borrow.Author.Rules.{rules}
 use Rattle.comparing.proofs.answers.of_size.Goals as goal
 
 pub returns-then-n-lt4294967296 : goal.returns-then-n-lt4294967296

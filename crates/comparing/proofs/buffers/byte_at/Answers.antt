@@ -1,7 +1,6 @@
 -- Past the end there is 0.
 use mathlib.Core.Path.{sym}
 use lib.ListN.{get_or-eq_default}
-use borrow.Author.Rules.{rules}
 use Rattle.comparing.proofs.buffers.byte_at.Goals as goal
 
 pub returns-else-i-s : goal.returns-else-i-s

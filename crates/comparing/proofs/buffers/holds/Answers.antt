@@ -1,10 +1,8 @@
 -- After each turn the flag says whether all bytes passed are those of the text.
-use Prim.Native.Nat.{ℕ, ◌≤◌, ◌-◌}
-use mathlib.Core.Path.{◌≡◌, ap}
+use mathlib.Core.Path.{ap}
 use mathlib.Core.Bool.{Bool, ◌&&◌}
 use lib.Dec.{eqb, leb}
-use lib.ListN.{length, get_or}
-use Rattle.segments.specs.Tables.{all_below}
+use lib.ListN.{length}
 use Rattle.segments.specs.laws.Gathering.{all_none, all_more, all_done}
 use Rattle.comparing.specs.Texts.{holds_text}
 use borrow.Author.Rules.{rules}

@@ -1,14 +1,10 @@
 -- After each turn the flag says whether all elements passed stand in the tables.
 use Prim.Native.Nat.{ℕ, ◌≤◌, ◌-◌}
-use mathlib.Core.Path.{◌≡◌, ap, ◌∙◌}
-use lib.IntN.{ℤ, pos}
+use mathlib.Core.Path.{◌≡◌}
+use lib.IntN.{pos}
 use lib.ListN.{get_or}
-use mir.Syntax.{w32}
-use Rattle.whole.specs.laws.Whole.{told}
 use Rattle.segments.specs.Tables.{all_below}
-use Rattle.segments.specs.laws.Gathering.{all_none, all_more, all_done}
-use Rattle.comparing.specs.Texts.{laid_out, is_element, begin_with}
-use borrow.Author.Rules.{rules}
+use Rattle.comparing.specs.Texts.{laid_out, is_element}
 use Rattle.comparing.proofs.elements.begin_with.Given as goal
 
 abbrev pub invariant-loop-i : goal.invariant-loop-i

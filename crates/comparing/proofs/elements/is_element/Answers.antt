@@ -5,7 +5,6 @@ use lib.IntN.{ℤ}
 use Rattle.whole.specs.Whole.{eq_z}
 use Rattle.whole.specs.laws.Machine.{same_32, other_32}
 use Rattle.comparing.specs.Texts.{recorded_count, is_element}
-use borrow.Author.Rules.{rules}
 use Rattle.comparing.proofs.elements.is_element.Goals as goal
 
 pub returns-then-own-count : goal.returns-then-own-count

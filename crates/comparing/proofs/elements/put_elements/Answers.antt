@@ -1,14 +1,14 @@
 -- After i turns the first i elements stand in the tables, which keep their lengths.
-use Prim.Native.Nat.{ℕ, ◌≤◌, ◌-◌}
+use Prim.Native.Nat.{ℕ}
 use native.Mathlib.Nat.{le_antisymm}
 use native.Mathlib.Numerals.{add-one}
-use mathlib.Core.Path.{◌≡◌, refl, ap, ap₂, ◌∙◌}
+use mathlib.Core.Path.{refl, ap, ap₂, ◌∙◌}
 use mathlib.Core.List.{List}
 use lib.IntN.{ℤ}
-use lib.ListN.{length, set, length-set}
+use lib.ListN.{set, length-set}
 use mir.Syntax.{w32}
 use Rattle.whole.specs.laws.Whole.{told}
-use Rattle.comparing.specs.Texts.{laid_out, counts_put, letters_put}
+use Rattle.comparing.specs.Texts.{counts_put, letters_put}
 use borrow.Author.Rules.{rules}
 use Rattle.comparing.proofs.elements.put_elements.Goals as goal
 

@@ -1,15 +1,8 @@
 -- After i turns the first i elements stand in the tables, which keep their lengths.
-use Prim.Native.Nat.{ℕ, ◌≤◌, ◌-◌}
-use native.Mathlib.Nat.{le_antisymm}
-use native.Mathlib.Numerals.{add-one}
-use mathlib.Core.Path.{◌≡◌, refl, ap, ap₂, ◌∙◌}
-use mathlib.Core.List.{List}
-use lib.IntN.{ℤ}
-use lib.ListN.{length, set, length-set}
-use mir.Syntax.{w32}
-use Rattle.whole.specs.laws.Whole.{told}
+use Prim.Native.Nat.{◌≤◌, ◌-◌}
+use mathlib.Core.Path.{◌≡◌}
+use lib.ListN.{length}
 use Rattle.comparing.specs.Texts.{laid_out, counts_put, letters_put}
-use borrow.Author.Rules.{rules}
 use Rattle.comparing.proofs.elements.put_elements.Given as goal
 
 abbrev pub invariant-loop-i : goal.invariant-loop-i

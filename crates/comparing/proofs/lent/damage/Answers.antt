@@ -7,7 +7,6 @@ use Rattle.whole.specs.laws.Whole.{told}
 use borrow.Author.Tests.{ne_eqb}
 use Rattle.segments.specs.Tables.{tables}
 use Rattle.comparing.specs.Changes.{head_damaged, starts_damaged, letters_damaged, exons_damaged}
-use borrow.Author.Rules.{rules}
 use Rattle.comparing.proofs.lent.damage.Goals as goal
 
 pub returns-then-table-eq0 : goal.returns-then-table-eq0

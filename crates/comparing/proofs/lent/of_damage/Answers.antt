@@ -1,7 +1,6 @@
 -- The test is that of the definition.
 use borrow.Author.Tests.{lt-ltb, le-ltb}
 use Rattle.comparing.specs.Changes.{damage_words}
-use borrow.Author.Rules.{rules}
 use Rattle.comparing.proofs.lent.of_damage.Goals as goal
 
 pub returns-then-size-places : goal.returns-then-size-places

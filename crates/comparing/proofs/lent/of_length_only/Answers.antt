@@ -6,7 +6,6 @@ use mir.Val.{SFits}
 use Rattle.whole.specs.laws.Whole.{read, fits_wider, widened}
 use borrow.Author.Tests.{eq-eqb, ne_eqb}
 use Rattle.comparing.specs.Changes.{length_only_words}
-use borrow.Author.Rules.{rules}
 use Rattle.comparing.proofs.lent.of_length_only.Goals as goal
 
 pub overflow_cast-length : goal.overflow_cast-length

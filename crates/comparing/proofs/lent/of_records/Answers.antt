@@ -8,7 +8,6 @@ use Rattle.whole.specs.laws.Whole.{read, fits_wider, widened}
 use Rattle.whole.specs.laws.Machine.{entry}
 use borrow.Author.Tests.{eq-eqb, ne_eqb}
 use Rattle.comparing.specs.Changes.{records_words}
-use borrow.Author.Rules.{rules}
 use Rattle.comparing.proofs.lent.of_records.Goals as goal
 
 pub overflow_cast-strand : goal.overflow_cast-strand

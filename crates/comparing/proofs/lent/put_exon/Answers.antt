@@ -1,7 +1,6 @@
 -- Where there is no such place, to set it changes nothing.
 use mathlib.Core.Path.{sym}
 use lib.Seq.{set_out}
-use borrow.Author.Rules.{rules}
 use Rattle.comparing.proofs.lent.put_exon.Goals as goal
 
 pub returns-then-table-i : goal.returns-then-table-i

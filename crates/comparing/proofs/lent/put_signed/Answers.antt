@@ -2,7 +2,6 @@
 use mathlib.Core.Path.{sym}
 use lib.Seq.{set_out}
 use Rattle.whole.specs.laws.Whole.{read}
-use borrow.Author.Rules.{rules}
 use Rattle.comparing.proofs.lent.put_signed.Goals as goal
 
 pub returns-then-table-i : goal.returns-then-table-i

@@ -1,7 +1,6 @@
 -- The test is that of the definition.
 use borrow.Author.Tests.{le-leb, lt-leb}
 use Rattle.comparing.specs.Changes.{total_of}
-use borrow.Author.Rules.{rules}
 use Rattle.comparing.proofs.lent.total.Goals as goal
 
 pub returns-then-count-ge-MOST_STARTS : goal.returns-then-count-ge-MOST_STARTS

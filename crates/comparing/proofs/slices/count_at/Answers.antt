@@ -4,7 +4,6 @@ use Rattle.whole.specs.laws.Whole.{read}
 use borrow.Author.Tests.{lt-ltb, le-ltb}
 use Rattle.comparing.specs.Bam.{count_or}
 use mir.Syntax.{w32}
-use borrow.Author.Rules.{rules}
 use Rattle.comparing.proofs.slices.count_at.Goals as goal
 
 pub returns-then-i-elements : goal.returns-then-i-elements

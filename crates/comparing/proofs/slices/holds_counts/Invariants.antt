@@ -1,17 +1,10 @@
 -- After each turn the flag says whether all counts passed are those of the layout.
 use Prim.Native.Nat.{ℕ, ◌≤◌, ◌-◌}
-use mathlib.Core.Path.{◌≡◌, ap, ◌∙◌}
-use mathlib.Core.Bool.{Bool, ◌&&◌}
-use lib.Dec.{leb}
+use mathlib.Core.Path.{◌≡◌}
 use lib.IntN.{pos}
 use lib.ListN.{length, get_or}
-use mir.Syntax.{w32}
-use Rattle.whole.specs.laws.Whole.{told}
 use Rattle.segments.specs.Tables.{all_below}
-use Rattle.segments.specs.laws.Gathering.{all_none, all_more, all_done}
-use Rattle.comparing.specs.Texts.{laid_out}
-use Rattle.comparing.specs.Bam.{is_count, holds_counts}
-use borrow.Author.Rules.{rules}
+use Rattle.comparing.specs.Bam.{is_count}
 use Rattle.comparing.proofs.slices.holds_counts.Given as goal
 
 abbrev pub invariant-loop-i : goal.invariant-loop-i

@@ -1,13 +1,11 @@
 -- After each turn the flag says whether all letters passed are those of the layout.
-use Prim.Native.Nat.{ℕ, ◌≤◌, ◌-◌}
-use mathlib.Core.Path.{◌≡◌, ap}
+use mathlib.Core.Path.{ap}
 use mathlib.Core.Bool.{Bool, ◌&&◌}
 use lib.Dec.{eqb, leb}
-use lib.ListN.{length, get_or}
-use Rattle.segments.specs.Tables.{all_below}
+use lib.ListN.{length}
 use Rattle.segments.specs.laws.Gathering.{all_none, all_more, all_done}
 use Rattle.comparing.specs.Texts.{laid_out}
-use Rattle.comparing.specs.Bam.{letter_or, holds_letters}
+use Rattle.comparing.specs.Bam.{holds_letters}
 use borrow.Author.Rules.{rules}
 use Rattle.comparing.proofs.slices.holds_letters.Goals as goal
 

@@ -1,12 +1,10 @@
 -- After each turn the flag says whether all words passed are those of the layout.
-use Prim.Native.Nat.{ℕ, ◌≤◌, ◌-◌}
-use mathlib.Core.Path.{◌≡◌, ap}
+use mathlib.Core.Path.{ap}
 use mathlib.Core.Bool.{Bool, ◌&&◌}
 use lib.Dec.{eqb, leb}
-use lib.ListN.{length, get_or}
-use Rattle.segments.specs.Tables.{all_below}
+use lib.ListN.{length}
 use Rattle.segments.specs.laws.Gathering.{all_none, all_more, all_done}
-use Rattle.comparing.specs.Bam.{words_laid, word_or, holds_words}
+use Rattle.comparing.specs.Bam.{words_laid, holds_words}
 use borrow.Author.Rules.{rules}
 use Rattle.comparing.proofs.slices.holds_words.Goals as goal
 

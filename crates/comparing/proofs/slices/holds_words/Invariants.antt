@@ -1,13 +1,10 @@
 -- After each turn the flag says whether all words passed are those of the layout.
 use Prim.Native.Nat.{ℕ, ◌≤◌, ◌-◌}
-use mathlib.Core.Path.{◌≡◌, ap}
-use mathlib.Core.Bool.{Bool, ◌&&◌}
-use lib.Dec.{eqb, leb}
+use mathlib.Core.Path.{◌≡◌}
+use lib.Dec.{eqb}
 use lib.ListN.{length, get_or}
 use Rattle.segments.specs.Tables.{all_below}
-use Rattle.segments.specs.laws.Gathering.{all_none, all_more, all_done}
-use Rattle.comparing.specs.Bam.{words_laid, word_or, holds_words}
-use borrow.Author.Rules.{rules}
+use Rattle.comparing.specs.Bam.{word_or}
 use Rattle.comparing.proofs.slices.holds_words.Given as goal
 
 abbrev pub invariant-loop-i : goal.invariant-loop-i

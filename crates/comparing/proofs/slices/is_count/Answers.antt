@@ -4,7 +4,6 @@ use lib.IntN.{ℤ}
 use Rattle.whole.specs.Whole.{eq_z}
 use Rattle.whole.specs.laws.Machine.{same_32, other_32}
 use Rattle.comparing.specs.Bam.{is_count}
-use borrow.Author.Rules.{rules}
 use Rattle.comparing.proofs.slices.is_count.Goals as goal
 
 pub returns-then-own-count : goal.returns-then-own-count

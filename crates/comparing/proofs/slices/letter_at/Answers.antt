@@ -1,7 +1,6 @@
 -- The test is that of the definition.
 use borrow.Author.Tests.{lt-ltb, le-ltb}
 use Rattle.comparing.specs.Bam.{letter_or}
-use borrow.Author.Rules.{rules}
 use Rattle.comparing.proofs.slices.letter_at.Goals as goal
 
 pub returns-then-i-elements : goal.returns-then-i-elements

@@ -1,10 +1,10 @@
 -- After i turns the first i words stand in the slice, which keeps its length.
-use Prim.Native.Nat.{ℕ, ◌≤◌, ◌-◌}
+use Prim.Native.Nat.{ℕ}
 use native.Mathlib.Nat.{le_antisymm}
 use native.Mathlib.Numerals.{add-one}
-use mathlib.Core.Path.{◌≡◌, refl, ap, ap₂, ◌∙◌}
+use mathlib.Core.Path.{refl, ap, ap₂, ◌∙◌}
 use mathlib.Core.List.{List}
-use lib.ListN.{length, set, length-set}
+use lib.ListN.{set, length-set}
 use Rattle.comparing.specs.Bam.{words_put}
 use borrow.Author.Rules.{rules}
 use Rattle.comparing.proofs.slices.put_words.Goals as goal

@@ -1,12 +1,8 @@
 -- After i turns the first i words stand in the slice, which keeps its length.
-use Prim.Native.Nat.{ℕ, ◌≤◌, ◌-◌}
-use native.Mathlib.Nat.{le_antisymm}
-use native.Mathlib.Numerals.{add-one}
-use mathlib.Core.Path.{◌≡◌, refl, ap, ap₂, ◌∙◌}
-use mathlib.Core.List.{List}
-use lib.ListN.{length, set, length-set}
+use Prim.Native.Nat.{◌≤◌, ◌-◌}
+use mathlib.Core.Path.{◌≡◌}
+use lib.ListN.{length}
 use Rattle.comparing.specs.Bam.{words_put}
-use borrow.Author.Rules.{rules}
 use Rattle.comparing.proofs.slices.put_words.Given as goal
 
 abbrev pub invariant-loop-i : goal.invariant-loop-i
