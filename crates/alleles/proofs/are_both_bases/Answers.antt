@@ -1,6 +1,5 @@
 -- `alleles::are_both_bases` meets its contract: the second allele is looked at where the first is of bases. Assumes nothing.
 use mathlib.Core.Path.{sym, ◌∙◌}
-use borrow.Author.Rules.{rules}
 use Rattle.alleles.proofs.are_both_bases.Goals as goal
 
 pub returns-then-are_bases : goal.returns-then-are_bases

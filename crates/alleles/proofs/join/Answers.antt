@@ -19,7 +19,6 @@ use Rattle.alleles.specs.Deciding.{enough, first_refusal}
 use Rattle.alleles.specs.laws.Ordering as order
 use Rattle.alleles.specs.laws.Ordering.{both_bases, have_room, laid_goes, reference_goes, alternative_goes}
 use Rattle.alleles.proofs.Parts.{part_read, part_length, part_bases, rooms_say}
-use borrow.Author.Rules.{rules}
 use Rattle.alleles.proofs.join.Goals as goal
 use Rattle.alleles.proofs.join.Tie as tie
 use Rattle.alleles.proofs.join.Lts as lts

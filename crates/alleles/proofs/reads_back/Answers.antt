@@ -7,7 +7,6 @@ use mir.Syntax.{w32}
 use mir.Val.{SFits}
 use Rattle.whole.specs.laws.Machine.{same_32, other_32}
 use Rattle.holding.specs.Holding.{of_records}
-use borrow.Author.Rules.{rules}
 use Rattle.alleles.proofs.reads_back.Goals as goal
 use Rattle.alleles.proofs.reads_back.Goals.{Then-kind-eq-OF_RECORDS}
 

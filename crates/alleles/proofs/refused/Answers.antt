@@ -1,5 +1,4 @@
 -- `alleles::refused` meets its contract: a refusal is laid out as the mapping's own is. Assumes nothing.
-use borrow.Author.Rules.{rules}
 use Rattle.alleles.proofs.refused.Goals as goal
 
 pub returns : goal.returns

@@ -1,5 +1,4 @@
 -- `alleles::told_with` meets its contract. Assumes nothing.
-use borrow.Author.Rules.{rules}
 use Rattle.alleles.proofs.told_with.Goals as goal
 
 pub returns : goal.returns

@@ -1,5 +1,4 @@
 -- `asking::answer_of` meets its contract: the kind says which mapping is asked, of the interval that the question has in that unit. Assumes nothing.
-use borrow.Author.Rules.{rules}
 use borrow.Author.Tests.{ne_eqb}
 use Rattle.asking.specs.Asking.{named}
 use Rattle.asking.proofs.answer_of.Goals as goal

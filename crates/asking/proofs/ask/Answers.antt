@@ -1,6 +1,5 @@
 -- `asking::ask` meets its contract. Assumes nothing.
 use mathlib.Core.Path.{sym, ◌∙◌}
-use borrow.Author.Rules.{rules}
 use Rattle.asking.specs.Asking.{asked}
 use Rattle.asking.proofs.ask.Goals as goal
 

@@ -1,5 +1,4 @@
 -- `asking::lay_recorded` meets its contract: an arm knows whether there is a length or a refusal. Assumes nothing.
-use borrow.Author.Rules.{rules}
 use Rattle.asking.proofs.lay_recorded.Goals as goal
 
 pub returns-in-Length : goal.returns-in-Length

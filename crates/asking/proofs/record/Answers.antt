@@ -1,6 +1,5 @@
 -- `asking::record` meets its contract: of a question that can be held, the entry that is appended is the question with what is said to it. Assumes nothing.
 use mathlib.Core.Path.{refl, sym, ap, ◌∙◌}
-use borrow.Author.Rules.{rules}
 use Rattle.asking.specs.Asking.{asked, recording, recorded_laid}
 use Rattle.asking.proofs.record.Goals as goal
 

@@ -25,7 +25,6 @@ use Rattle.lines.specs.Listing.{judgment_text}
 use Rattle.building.specs.laws.Standing.{Makes, makes, refuses}
 use Rattle.transcript.specs.laws.Heads.{plus_is}
 use Rattle.lines.proofs.Built.{strand_fits, made_holds, made_listed}
-use borrow.Author.Rules.{rules}
 use Rattle.lines.proofs.list_card.Goals as goal
 use Rattle.lines.proofs.list_card.Tie as tie
 use Rattle.lines.proofs.list_card.Lts as lts

@@ -9,7 +9,6 @@ use Rattle.card.specs.Layout.{mark}
 use Rattle.lines.specs.Listing.{sign_of, listing_header}
 use Rattle.card.specs.Putting.{Put}
 use Rattle.card.specs.laws.Putting.{then_put, put_length}
-use borrow.Author.Rules.{rules}
 use Rattle.lines.proofs.put_header.Goals as goal
 use Rattle.lines.proofs.put_header.Goals.{After-slice_known-3-1}
 

@@ -6,7 +6,6 @@ use Rattle.segments.specs.Tables.{tables}
 use Rattle.lines.specs.Tables.{line_at}
 use Rattle.card.specs.Putting.{Put}
 use Rattle.card.specs.laws.Putting.{byte_put, then_put, put_length}
-use borrow.Author.Rules.{rules}
 use Rattle.lines.proofs.put_line.Goals as goal
 use Rattle.lines.proofs.put_line.Goals.{After-slice_known-2-1}
 

@@ -2,10 +2,8 @@
 -- Assumes nothing.
 use mathlib.Core.Path.{◌≡◌}
 use native.Mathlib.Omega.{arith}
-use Prim.Native.Nat.{◌+◌, ◌*◌, ◌-◌, ◌≤◌}
 use Rattle.segments.specs.Tables.{tables}
 use Rattle.lines.specs.Tables.{lines_from}
-use Rattle.lines.specs.Lengths.{most_line}
 use Rattle.card.specs.Putting.{Put}
 use Rattle.card.specs.laws.Putting.{none_put, then_put, put_length}
 use Rattle.lines.proofs.Laws.{lines_none, lines_more}

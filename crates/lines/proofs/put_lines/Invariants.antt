@@ -1,15 +1,10 @@
 -- `lines::put_lines` meets its contract. The loop's invariant: the lines of the segments passed are put, and what is left has room.
 -- Assumes nothing.
-use mathlib.Core.Path.{◌≡◌}
-use native.Mathlib.Omega.{arith}
 use Prim.Native.Nat.{◌+◌, ◌*◌, ◌-◌, ◌≤◌}
 use Rattle.segments.specs.Tables.{tables}
 use Rattle.lines.specs.Tables.{lines_from}
 use Rattle.lines.specs.Lengths.{most_line}
 use Rattle.card.specs.Putting.{Put}
-use Rattle.card.specs.laws.Putting.{none_put, then_put, put_length}
-use Rattle.lines.proofs.Laws.{lines_none, lines_more}
-use borrow.Author.Rules.{rules}
 use Rattle.lines.proofs.put_lines.Given as goal
 
 abbrev pub invariant-loop-i : goal.invariant-loop-i

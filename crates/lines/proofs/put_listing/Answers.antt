@@ -5,7 +5,6 @@ use Rattle.lines.specs.Listing.{listing_text}
 use Rattle.lines.specs.laws.Tables.{listing_is}
 use Rattle.card.specs.Putting.{Put}
 use Rattle.card.specs.laws.Putting.{then_put, put_length}
-use borrow.Author.Rules.{rules}
 use Rattle.lines.proofs.put_listing.Goals as goal
 use Rattle.lines.proofs.put_listing.Goals.{After-slice_known-3-1}
 

@@ -6,7 +6,6 @@ use Rattle.lines.specs.Listing.{number_text}
 use Rattle.lines.specs.Lengths.{number_short}
 use Rattle.card.specs.Putting.{Put}
 use Rattle.card.specs.laws.Putting.{byte_put, then_put, put_length}
-use borrow.Author.Rules.{rules}
 use Rattle.lines.proofs.put_number.Goals as goal
 use Rattle.lines.proofs.put_number.Goals.{After-slice_known-2-1}
 

@@ -7,7 +7,6 @@ use lib.ListN.{set}
 use Rattle.lines.specs.Listing.{number_text, numbers_text}
 use Rattle.card.specs.Putting.{Put}
 use Rattle.card.specs.laws.Putting.{byte_put, then_put, put_length}
-use borrow.Author.Rules.{rules}
 use Rattle.lines.proofs.put_numbers.Goals as goal
 use Rattle.lines.proofs.put_numbers.Goals.{After-slice_known-4-1}
 

@@ -8,7 +8,6 @@ use lib.ListN.{set, length-set}
 use Rattle.lines.specs.Listing.{number_text, refusal_text}
 use Rattle.card.specs.Putting.{Put}
 use Rattle.card.specs.laws.Putting.{byte_put, then_put, put_length}
-use borrow.Author.Rules.{rules}
 use Rattle.lines.proofs.put_refusal.Goals as goal
 use Rattle.lines.proofs.put_refusal.Goals.{After-slice_known-2-1}
 

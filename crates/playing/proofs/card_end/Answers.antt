@@ -6,7 +6,6 @@ use borrow.Author.Tests.{lt-ltb, le-ltb}
 use lib.ListN.{length}
 use Rattle.refusals.specs.Numbers.{most_card}
 use Rattle.playing.specs.Played.{size_bytes, card_end}
-use borrow.Author.Rules.{rules}
 use Rattle.playing.proofs.card_end.Goals as goal
 
 pub returns-then-input-lt-SIZE : goal.returns-then-input-lt-SIZE

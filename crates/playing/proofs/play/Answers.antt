@@ -21,7 +21,6 @@ use Rattle.playing.specs.Played.{lent_by, played, played_text}
 use Rattle.playback.specs.laws.Replay.{replayed_short, replay_roomy}
 use Rattle.playing.specs.laws.Played.{played_made, played_refused}
 use Rattle.playing.proofs.Written.{text_is, refused_is, lent_made}
-use borrow.Author.Rules.{rules}
 use Rattle.playing.proofs.play.Goals as goal
 use Rattle.playing.proofs.play.Tie as tie
 use Rattle.playing.proofs.play.Lts as lts

@@ -15,7 +15,6 @@ use Rattle.card.specs.laws.Putting.{put_as, put_front}
 use Rattle.playing.specs.Played.{played, played_text, card_to, input_played}
 use Rattle.playing.specs.laws.Played.{input_made_lem, input_played_lem, no_input_made, no_input_played}
 use Rattle.playing.proofs.CardEnds.{Ends, ends, cut}
-use borrow.Author.Rules.{rules}
 use Rattle.playing.proofs.play_input.Goals as goal
 use Rattle.playing.proofs.play_input.Goals.{In-At}
 

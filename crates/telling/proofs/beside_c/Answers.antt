@@ -1,5 +1,4 @@
 -- `telling::beside_c` meets its contract: its n. interval and then n. to c., by the length that the transcript's table ends with. Assumes nothing.
-use borrow.Author.Rules.{rules}
 use Rattle.telling.proofs.beside_c.Goals as goal
 
 pub returns : goal.returns

@@ -15,7 +15,6 @@ use Rattle.mapper.specs.laws.Lying.{lying_c_to_g}
 use Rattle.lone.specs.Lone.{Seen}
 use Rattle.surely.specs.Surely.{Named}
 use Rattle.telling.proofs.Ways.{one_name, name_beside}
-use borrow.Author.Rules.{rules}
 use Rattle.telling.proofs.c_to_g.Goals as goal
 use Rattle.telling.proofs.c_to_g.Tie as tie
 use Rattle.telling.proofs.c_to_g.Lts as lts

@@ -13,7 +13,6 @@ use Rattle.knowing.specs.laws.Told.{told_lying, told_lies, told_apart, told_leng
 use Rattle.lone.specs.Lone.{Seen}
 use Rattle.telling.specs.Seeking.{Based}
 use Rattle.telling.proofs.Ways.{c_by_ends, one_base_c, base_beside_c}
-use borrow.Author.Rules.{rules}
 use Rattle.telling.proofs.g_to_c.Goals as goal
 use Rattle.telling.proofs.g_to_c.Tie as tie
 use Rattle.telling.proofs.g_to_c.Lts as lts

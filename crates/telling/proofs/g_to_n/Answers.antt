@@ -13,7 +13,6 @@ use Rattle.knowing.specs.laws.Told.{told_lying, told_lies, told_apart, told_leng
 use Rattle.lone.specs.Lone.{Seen}
 use Rattle.telling.specs.Seeking.{Based}
 use Rattle.telling.proofs.Ways.{n_by_ends, one_base, base_beside}
-use borrow.Author.Rules.{rules}
 use Rattle.telling.proofs.g_to_n.Goals as goal
 use Rattle.telling.proofs.g_to_n.Tie as tie
 use Rattle.telling.proofs.g_to_n.Lts as lts

@@ -3,7 +3,6 @@ use mathlib.Core.Path.{ap, ◌∙◌}
 use mir.Syntax.{w32}
 use Rattle.whole.specs.laws.Whole.{told}
 use Rattle.layout.specs.Layout.{n_laid, laid}
-use borrow.Author.Rules.{rules}
 use Rattle.telling.proofs.interval_n.Goals as goal
 
 pub returns-in-Ends : goal.returns-in-Ends

@@ -12,7 +12,6 @@ use Rattle.spots.specs.declared.Alignment.{Alignment}
 use Rattle.lone.specs.Lone.{SoughtAt}
 use Rattle.lone.specs.declared.Sought as code
 use Rattle.telling.specs.Seeking.{Based, SoughtBase}
-use borrow.Author.Rules.{rules}
 use Rattle.telling.proofs.seek_base.Goals as goal
 
 -- two ends that are one number

@@ -1,11 +1,9 @@
 -- `worklist::answer_list` meets its contract: where nothing speaks against it the list is walked, and the walk answers what the definition says; else it is refused as a whole, and no slot is written. Assumes nothing.
-use Rattle.std.proofs.Common.{◌≡◌, refl, sym, ap, ◌∙◌, arith, ne_eqb}
-use Rattle.std.specs.Prelude.{true, ℕ, Bool, List}
-use Rattle.refusals.specs.Outcome.{answered, refused}
+use Rattle.std.proofs.Common.{◌≡◌, sym, ap, ◌∙◌, ne_eqb}
+use Rattle.std.specs.Prelude.{true, ℕ, List}
+use Rattle.refusals.specs.Outcome.{refused}
 use Rattle.holding.specs.Holding.{Lent, lent, of_records, holds}
 use Rattle.holding.specs.laws.Held.{together, some as some_segment, few, held_segments, held_head}
-use Rattle.segments.specs.Tables.{tables}
-use Rattle.spots.specs.Aligned.{Aligns}
 use Rattle.worklist.specs.declared.Slot.{Slot}
 use Rattle.worklist.specs.Worklist.{positions_of, never_falls, steps_laid}
 use Rattle.worklist.specs.Walking.{why_not}

@@ -1,6 +1,5 @@
 -- `worklist::why_not` meets its contract: what is lent is known once, and each arm has the one refusal that is left. Assumes nothing.
 use mathlib.Core.Path.{sym, ◌∙◌}
-use borrow.Author.Rules.{rules}
 use Rattle.worklist.proofs.Judging.{why_aligned, why_length, why_broken}
 use Rattle.worklist.proofs.why_not.Goals as goal
 

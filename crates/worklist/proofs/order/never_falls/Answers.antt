@@ -1,8 +1,7 @@
 -- `worklist::order::never_falls` meets its contract: after the turns so far the flag is `all_below` of the steps before i, and after all of them that is what the definition says. Assumes nothing.
-use Rattle.std.proofs.Common.{◌≡◌, refl, sym, ap, ◌∙◌, ◌+◌, ◌-◌, ◌<◌, length, get_or, arith, ℕ}
-use Rattle.std.specs.Prelude.{List, ℤ, pos, Bool, map, ◌&&◌}
+use Rattle.std.proofs.Common.{◌≡◌, ap, ◌∙◌, ◌+◌, ◌-◌, length, get_or, arith, ℕ}
+use Rattle.std.specs.Prelude.{List, ℤ, pos}
 use lib.ListN.{length-map, get_or-map}
-use Rattle.std.specs.Int.Signed.{le_z}
 use Rattle.segments.specs.Tables.{all_below}
 use Rattle.segments.specs.laws.Gathering.{all_none, all_more}
 use Rattle.worklist.specs.declared.Slot.{Slot}

@@ -1,7 +1,6 @@
 -- `worklist::walk::answer_slot` meets its contract: the position stays, and beside it stands what g. to n. answers, laid out. Assumes nothing.
 use mir.Syntax.{w32}
 use Rattle.whole.specs.laws.Whole.{told}
-use borrow.Author.Rules.{rules}
 use Rattle.worklist.proofs.walk.answer_slot.Goals as goal
 
 pub returns : goal.returns

@@ -1,9 +1,8 @@
 -- `worklist::walk::fill` meets its contract: each turn answers the slot at i, which is still as it came, by the segment where the walk stands after it. Assumes nothing.
-use Rattle.std.proofs.Common.{◌≡◌, refl, sym, ap, subst, ◌∙◌, ◌+◌, ◌<◌, ◌≤◌, length, get_or, set, arith, ℕ}
+use Rattle.std.proofs.Common.{◌≡◌, refl, sym, ap, subst, ◌∙◌, ◌+◌, ◌<◌, length, get_or, set, arith, ℕ}
 use Rattle.std.specs.Prelude.{List, ℤ, pos, map, true}
 use lib.ListN.{length-map, get_or-map}
 use Rattle.segments.specs.Tables.{tables}
-use Rattle.transcript.specs.Transcript.{Transcript}
 use Rattle.spots.specs.Aligned.{aligned_by, Aligns, InSegment}
 use Rattle.spots.specs.declared.Alignment.{Alignment}
 use Rattle.worklist.specs.declared.Slot.{Slot}
@@ -11,7 +10,7 @@ use Rattle.worklist.specs.Worklist.{Track, positions_of, never_falls, steps_afte
 use Rattle.refusals.specs.Outcome.{answered}
 use Rattle.worklist.specs.Walking.{track_by, next_index, Ready, answered_by}
 use Rattle.worklist.specs.laws.Along.{index_begins, index_on, walk_ready, walk_next, walk_here}
-use Rattle.worklist.proofs.Front.{front, front_at, front_length, front_set, front_all}
+use Rattle.worklist.proofs.Front.{front, front_at, front_set, front_all}
 use Rattle.worklist.proofs.Values.{none}
 use Rattle.worklist.proofs.walk.fill.Goals as goal
 

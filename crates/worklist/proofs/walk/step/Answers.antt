@@ -5,7 +5,6 @@ use mir.Syntax.{w32, w64}
 use Rattle.whole.specs.laws.Whole.{told}
 use Rattle.worklist.specs.Worklist.{place_on, within}
 use Rattle.worklist.specs.Walking.{track_by}
-use borrow.Author.Rules.{rules}
 use Rattle.worklist.proofs.walk.step.Goals as goal
 use Rattle.worklist.proofs.walk.step.Tie as tie
 use Rattle.worklist.proofs.walk.step.Lts as lts
