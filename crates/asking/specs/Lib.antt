@@ -3,4 +3,3 @@
 --     Making    a log that was made on what is lent
 pub mod Asking
 pub mod Making
-pub mod laws

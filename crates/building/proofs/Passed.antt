@@ -25,8 +25,8 @@ use Rattle.transcript.specs.declared.Head.{Head}
 use Rattle.transcript.specs.declared.Numbers.{Numbers}
 use Rattle.reading.specs.declared.Sums.{Sums}
 use Rattle.reading.specs.declared.Tally.TheVariants as tally
-use Rattle.reading.specs.laws.Counted.{all_count}
-use Rattle.reading.specs.laws.Tallied.{either_strand}
+use Rattle.reading.proofs.laws.Counted.{all_count}
+use Rattle.reading.proofs.laws.Tallied.{either_strand}
 use Rattle.judging.specs.laws.Told.{Told}
 use Rattle.transcript.specs.laws.Heads.{plus_is}
 use Rattle.judging.specs.laws.Chain.{FirstIs, first_is}

@@ -11,15 +11,15 @@ use Rattle.cigar.specs.Text.{Reading}
 use Rattle.records.specs.Records.{Record, next_at, record_at, records_from}
 use Rattle.records.specs.laws.Walk.{records_one, records_none, records_length}
 use Rattle.transcript.specs.Building.{numbered_by, numbers_after, numbers_of}
-use Rattle.transcript.specs.laws.Numbered.{numbers_length}
+use Rattle.transcript.proofs.laws.Numbered.{numbers_length}
 use Rattle.reading.specs.Reading.{Exons, exon_of, spanned, genome_end_of, between, read_first, read_next, exons_after, exons_of}
 use Rattle.reading.specs.Tallies.{nothing, one_on, sums_on, tallied, tallied_after}
 use Rattle.filling.specs.Filling.{elements_all, numbers_past, numbers_all, SmallTally}
 use Rattle.reading.specs.declared.Sums.{Sums}
 use Rattle.reading.specs.declared.Tally.TheVariants as tally
-use Rattle.reading.specs.laws.Counted.{Many, after_many}
+use Rattle.reading.proofs.laws.Counted.{Many, after_many}
 use Rattle.reading.specs.laws.Spans.{before_all, ahead, followed, spanned_own, tallied_own}
-use Rattle.reading.specs.laws.Tallied.{parts_length}
+use Rattle.reading.proofs.laws.Tallied.{parts_length}
 use Rattle.filling.proofs.Taken.{never}
 
 module _ (forward : Bool) (s : List ℕ) (k at : ℕ) (some : 0 < k) where

@@ -19,7 +19,7 @@ use Rattle.reading.specs.declared.Sums.{Sums}
 use Rattle.reading.specs.declared.Tally.TheVariants as tally
 use Rattle.reading.specs.laws.Texts.{on_one}
 use Rattle.reading.specs.laws.Spans.{before_all, ahead, followed, spanned_own, tallied_own}
-use Rattle.reading.specs.laws.Tallied.{either_strand}
+use Rattle.reading.proofs.laws.Tallied.{either_strand}
 use Rattle.filling.proofs.Fills.{sums_reverse, fill_append}
 use Rattle.filling.proofs.Taken.{never, ends_at}
 

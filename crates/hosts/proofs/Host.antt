@@ -22,7 +22,7 @@ use Rattle.judging.specs.Input.{Input}
 use Rattle.judging.specs.Judging.{Made, Measured, elements_made, judge, judge_length}
 use Rattle.judging.specs.laws.Accepted.{Sane, judged_sane, measured_means, measured_inside}
 use Rattle.building.specs.Afterwards.{head_of, length_head, built_answer, length_answer, tables_after, exons_after}
-use Rattle.building.specs.laws.Standing.{beside, built_holds, built_stands, measured_holds, measured_stands}
+use Rattle.building.proofs.laws.Standing.{beside, built_holds, built_stands, measured_holds, measured_stands}
 use Rattle.card.specs.Layout.{records_at}
 use Rattle.card.specs.Card.{read_card, numbers_in}
 use Rattle.card.specs.Writing.{judge_read, judge_card}

@@ -2,7 +2,7 @@
 use Rattle.std.specs.Prelude.{ℕ, ◌+◌, ◌*◌, ◌^◌, ◌≤◌, ◌<◌, length}
 use Rattle.std.proofs.Common.{arith}
 use Rattle.refusals.specs.Numbers.{most_segments}
-use Rattle.spelling.specs.laws.Decimal.{decimal_short}
+use Rattle.spelling.proofs.laws.Decimal.{decimal_short}
 use Rattle.lines.specs.Listing.{number_text}
 
 -- a space and a number, three of them and the newline, a header, a line

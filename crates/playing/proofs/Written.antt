@@ -15,7 +15,7 @@ use Rattle.transcript.specs.declared.Head.{Head}
 use Rattle.holding.specs.Holding.{lent}
 use Rattle.judging.specs.Judging.{Made}
 use Rattle.building.specs.Afterwards.{head_of, tables_after, exons_after}
-use Rattle.building.specs.laws.Standing.{beside, Makes}
+use Rattle.building.proofs.laws.Standing.{beside, Makes}
 use Rattle.playing.specs.Played.{lent_by}
 
 -- ---- by the answer of writing

@@ -16,7 +16,7 @@ use Rattle.finding.specs.Finding.{index_of}
 use Rattle.segments.specs.Places.End.{start, stop}
 use Rattle.segments.specs.laws.Totals.{total_append}
 use Rattle.segments.specs.laws.Made.{nowhere, letter_at, entry_at, entry_next}
-use Rattle.segments.specs.laws.Spotting.{inside}
+use Rattle.segments.proofs.laws.Spotting.{inside}
 use Rattle.promises.proofs.Fits.{Within}
 
 pub record Near (limit : ℕ) (z : ℤ) : Type 0 where

@@ -32,7 +32,7 @@ use Rattle.judging.specs.laws.Accepted.{RecordsPass, records_mean, split, AllSpa
 use Rattle.segments.specs.Tables.{padded, tables_of}
 use Rattle.holding.specs.Holding.{Lent, holds, source_of}
 use Rattle.building.specs.Afterwards.{head_of}
-use Rattle.building.specs.laws.Standing.{beside, built_holds, built_stands}
+use Rattle.building.proofs.laws.Standing.{beside, built_holds, built_stands}
 use Rattle.promises.specs.Demands.{cigar_of, AllSpan, made_of, Builds}
 use Rattle.promises.proofs.Rooms.{reads_alike}
 use Rattle.promises.proofs.Records.{Spans}

@@ -14,7 +14,7 @@ use Rattle.cigar.specs.Elements.Kind.{matches, inserts, deletes, skips}
 use Rattle.segments.specs.Places.{no_edge, surely, End, spot_in, map_place}
 use Rattle.promises.specs.Bases.{is_match}
 use Rattle.segments.specs.laws.Totals.{total_append}
-use Rattle.segments.specs.laws.Amid.{slid, place_amid, one_place}
+use Rattle.segments.proofs.laws.Amid.{slid, place_amid, one_place}
 
 -- the place p on the one side and the place q on the other are one column of a matching element
 pub record Column (from to : Side) (es : List Element) (p q : ℕ) : Type 0 where

@@ -19,7 +19,7 @@ use Rattle.promises.specs.Bases.{Lies, Matched, upstream_in, upstream_of, exon_n
 use Rattle.promises.specs.Demands.{ours, Named, FromNearest, BasesNamed}
 use Rattle.promises.proofs.InRange.{InRange}
 use Rattle.segments.specs.laws.Totals.{total_append}
-use Rattle.segments.specs.laws.Amid.{slid, place_amid, one_place}
+use Rattle.segments.proofs.laws.Amid.{slid, place_amid, one_place}
 use Rattle.promises.proofs.Turns.{across}
 use Rattle.promises.proofs.Columns.{Column, match_kind, match_genome, match_transcript, skip_genome, skip_transcript, column_maps, column_within, across_column, total_one}
 use Rattle.promises.proofs.Edges.{edge_before, edge_after}

@@ -19,8 +19,8 @@ use Rattle.segments.specs.Places.{Spot, Edge, no_edge, left_edge, right_edge, En
 use Rattle.segments.specs.Places.End.{start, stop}
 use Rattle.segments.specs.Exons.{exon_found, exon_chosen}
 use Rattle.segments.specs.laws.Totals.{total_append}
-use Rattle.segments.specs.laws.Spotting.{inside, number_below}
-use Rattle.segments.specs.laws.Amid.{slid, place_amid}
+use Rattle.segments.proofs.laws.Spotting.{inside, number_below}
+use Rattle.segments.proofs.laws.Amid.{slid, place_amid}
 use Rattle.transcript.specs.Transcript.{Transcript, exon_number, genome_length, transcript_length}
 use Rattle.transcript.specs.Transcript.Cds.{cds}
 use Rattle.positions.specs.Positions.{Interval, each, NAsked, CAsked, GPosition, NPosition, CPosition, asks_n}

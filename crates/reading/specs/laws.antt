@@ -2,10 +2,6 @@
 --     Sizes      what a record reads as, by its CIGAR's size
 --     Texts      a text is tallied element by element
 --     Spans      a record's reading and 32
---     Counted    records that were read are as many as the records
---     Tallied    the records are tallied one by one
 pub mod Sizes
 pub mod Texts
 pub mod Spans
-pub mod Counted
-pub mod Tallied

@@ -3,17 +3,13 @@
 --     Gathering  a flag that a loop gathers over numbers below another
 --     Totals     how far a list of elements goes, by its parts
 --     Made       the tables that elements make: what stands at every index, that they hold together, and that they read as the elements
---     Spotting   a place and its segment
 --     Exons      the exon numbers that are read from a table, and where they lie
 --     Sizes      how large a spot's numbers are
 --     Reading    tables that hold together map a place as their elements do
---     Amid       a place of the middle part of a list of elements is found there, and goes where the middle part alone sends it, slid along
 pub mod Meaning
 pub mod Gathering
 pub mod Totals
 pub mod Made
-pub mod Spotting
 pub mod Exons
 pub mod Sizes
 pub mod Reading
-pub mod Amid

@@ -1,4 +1,3 @@
 -- What the contracts of `spelling` cite, and the laws that its callers use.
 --     Write        what elements are written as
 pub mod Write
-pub mod laws

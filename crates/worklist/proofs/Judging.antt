@@ -25,7 +25,7 @@ use Rattle.layout.specs.Layout.{n_laid, laid}
 use Rattle.layout.specs.declared.lay.Answer.{Answer}
 use Rattle.worklist.specs.Worklist.{answered_slot, positions_of, never_falls, steps_of, ask_steps, listed, slots_after}
 use Rattle.worklist.specs.Walking.{track_by, answered_by, why_not}
-use Rattle.worklist.specs.laws.Alike.{steps_by_table}
+use Rattle.worklist.proofs.laws.Alike.{steps_by_table}
 use Rattle.worklist.specs.declared.Slot.{Slot}
 
 -- a test of the machine

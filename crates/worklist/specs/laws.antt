@@ -1,17 +1,13 @@
 -- What is shown of the definitions.
 --     Largest    `largest` is the largest place within strict bounds, where there is one
---     Alike      the table of genome starts is walked as its elements are
 --     Slots      as many slots as before, each with its position; a refusal changes none
 --     Along      where the walk stands after i slots: it may go on from there, and never steps back
---     Looking    it looks at fewer entries than there are segments and slots
 --     Refusing   which refusals there are, each with an example
 --     Worked     a worked list
 --     Shared     the four tables as a proof by hand holds them
 pub mod Largest
-pub mod Alike
 pub mod Slots
 pub mod Along
-pub mod Looking
 pub mod Refusing
 pub mod Worked
 pub mod Shared

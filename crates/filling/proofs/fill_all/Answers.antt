@@ -16,7 +16,7 @@ use Rattle.segments.specs.Tables.{tables}
 use Rattle.filling.specs.Filling.{fill, ordered, elements_past, numbers_past, SmallSums, SmallTally}
 use Rattle.reading.specs.declared.Sums.{Sums}
 use Rattle.reading.specs.declared.Tally.TheVariants as tally
-use Rattle.reading.specs.laws.Tallied.{first_sums, first_refused}
+use Rattle.reading.proofs.laws.Tallied.{first_sums, first_refused}
 use Rattle.filling.proofs.Fills.{long_after}
 use Rattle.filling.proofs.Past.{fill_then, small_so_far, first_told, first_ends, all_one}
 use Rattle.filling.proofs.Numbers.{numbers_first}

@@ -15,7 +15,7 @@ use Rattle.transcript.specs.Building.{numbered_by}
 use Rattle.filling.specs.Filling.{fill, next_elements, elements_past, numbers_past, SmallSums, SmallTally}
 use Rattle.reading.specs.declared.Sums.{Sums}
 use Rattle.reading.specs.declared.Tally.TheVariants as tally
-use Rattle.reading.specs.laws.Tallied.{rest_sums, rest_refused}
+use Rattle.reading.proofs.laws.Tallied.{rest_sums, rest_refused}
 use Rattle.filling.proofs.Fills.{long_after}
 use Rattle.filling.proofs.Past.{fill_then, small_so_far, next_told, next_ends, past_one, past_none}
 use Rattle.filling.proofs.Numbers.{numbers_one, numbers_none}

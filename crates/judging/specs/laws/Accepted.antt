@@ -31,8 +31,8 @@ use Rattle.transcript.specs.Building.{Exon, parts_of, elements_after, elements_o
 use Rattle.judging.specs.Input.{Input, input_of}
 use Rattle.reading.specs.Reading.{genome_end_of as genome_end, exon_of, Exons, is_spanned, spanned, followed_by, read_first, read_next, exons_after, exons_of}
 use Rattle.reading.specs.laws.Spans.{before_all, ahead, followed, spanned_is}
-use Rattle.reading.specs.laws.Counted.{all_count}
-use Rattle.reading.specs.laws.Tallied.{parts_length}
+use Rattle.reading.proofs.laws.Counted.{all_count}
+use Rattle.reading.proofs.laws.Tallied.{parts_length}
 use Rattle.judging.specs.Judging.{Made, Measured, half_fault, range_fault, cds_fault, cds_of, last_fault, judge_exons, judge_on, judge_input, judge, length_fault, judge_length, elements_made}
 use Rattle.transcript.specs.Heads.{both_bits, start_of, end_of, number_of, bits_of, start_in, end_in, strand_of}
 use Rattle.transcript.specs.declared.Bound.{Bound}

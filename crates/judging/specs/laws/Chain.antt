@@ -16,7 +16,7 @@ use Rattle.reading.specs.Tallies.{sums_of, tallied_all}
 use Rattle.reading.specs.declared.Sums.{Sums}
 use Rattle.reading.specs.declared.Tally.TheVariants as tally
 use Rattle.reading.specs.laws.Spans.{before_all, ahead, followed}
-use Rattle.reading.specs.laws.Tallied.{either_strand}
+use Rattle.reading.proofs.laws.Tallied.{either_strand}
 
 -- ---- a test in the chain
 

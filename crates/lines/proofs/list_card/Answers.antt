@@ -22,7 +22,7 @@ use Rattle.card.specs.laws.Putting.{put_length, put_as, put_front}
 use Rattle.card.specs.laws.Taken.{card_sane}
 use Rattle.card.specs.Writing.{judge_card}
 use Rattle.lines.specs.Listing.{judgment_text}
-use Rattle.building.specs.laws.Standing.{Makes, makes, refuses}
+use Rattle.building.proofs.laws.Standing.{Makes, makes, refuses}
 use Rattle.transcript.specs.laws.Heads.{plus_is}
 use Rattle.lines.proofs.Built.{strand_fits, made_holds, made_listed}
 use Rattle.lines.proofs.list_card.Goals as goal

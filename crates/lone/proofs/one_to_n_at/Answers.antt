@@ -8,7 +8,7 @@ use Rattle.whole.specs.laws.Whole.{read, told}
 use Rattle.spots.specs.laws.Spans.{same_number}
 use Rattle.lone.specs.laws.Once.{one_answered, one_refused, spot_at}
 use Rattle.segments.specs.Places.{segment_at}
-use Rattle.segments.specs.laws.Spotting.{spot_number}
+use Rattle.segments.proofs.laws.Spotting.{spot_number}
 use Rattle.spots.specs.Mapping.{inside, place_of_g}
 use Rattle.lone.proofs.one_to_n_at.Goals as goal
 use Rattle.lone.proofs.one_to_n_at.Tie as tie

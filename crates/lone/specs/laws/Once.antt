@@ -10,7 +10,7 @@ use Rattle.cigar.specs.Elements.{genome, transcript}
 use Rattle.segments.specs.Places.{Spot, segment_at, spot_of, stop_of, map_by_tables}
 use Rattle.finding.specs.Finding.{index_of}
 use Rattle.segments.specs.Places.End.{start}
-use Rattle.segments.specs.laws.Spotting.{stop_of_place}
+use Rattle.segments.proofs.laws.Spotting.{stop_of_place}
 use Rattle.segments.specs.laws.Meaning.{holds_means}
 use Rattle.segments.specs.Exons.{exon_found, exon_chosen}
 use Rattle.segments.specs.laws.Reading.{by_genome}

@@ -9,7 +9,7 @@ use Rattle.std.specs.Prelude.{◌≡◌, refl, List, [], ◌∷◌, ◌++◌, �
 use Rattle.std.proofs.Common.{ap, append_assoc, append-nil, arith, length-append}
 use Rattle.std.proofs.Math.Decide.{dec_lt}
 use Rattle.spelling.specs.Write.{decimal}
-use Rattle.spelling.specs.laws.Decimal.{decimal_one, length_more}
+use Rattle.spelling.proofs.laws.Decimal.{decimal_one, length_more}
 use Rattle.playback.specs.Lines.{line_of, lines_of, most_entries, all_lines, most_replay}
 
 pub line_length : (n : ℕ) → length (line_of n) ≡ length (decimal n) + 1

@@ -11,7 +11,7 @@ use Rattle.spelling.specs.Write.{written_answer, buffer_after}
 use Rattle.segments.specs.Tables.{tables}
 use Rattle.transcript.specs.declared.Head.{Head}
 use Rattle.holding.specs.Holding.{Lent, lent}
-use Rattle.building.specs.laws.Standing.{Makes, makes, refuses}
+use Rattle.building.proofs.laws.Standing.{Makes, makes, refuses}
 use Rattle.card.specs.Putting.{Put}
 use Rattle.card.specs.Writing.{judge_card}
 use Rattle.card.specs.laws.Putting.{put_as, put_front}

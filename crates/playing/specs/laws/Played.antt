@@ -9,7 +9,7 @@ use Rattle.std.proofs.Common.{ap, ◌∙◌}
 use Rattle.refusals.specs.Outcome.{answered, refused}
 use Rattle.holding.specs.Holding.{holds}
 use Rattle.judging.specs.Judging.{Made}
-use Rattle.building.specs.laws.Standing.{built_holds}
+use Rattle.building.proofs.laws.Standing.{built_holds}
 use Rattle.card.specs.Writing.{judge_card}
 use Rattle.card.specs.laws.Taken.{card_sane}
 use Rattle.journal.specs.Logs.{read_log}

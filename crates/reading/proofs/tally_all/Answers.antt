@@ -2,7 +2,7 @@
 use mathlib.Core.Path.{sym, subst, ◌∙◌}
 use native.Mathlib.Omega.{arith}
 use Rattle.reading.specs.Tallies.{BoundedTally}
-use Rattle.reading.specs.laws.Tallied.{first_sums, first_refused}
+use Rattle.reading.proofs.laws.Tallied.{first_sums, first_refused}
 use Rattle.reading.proofs.tally_all.Goals as goal
 
 pub tally_first-requires : goal.tally_first-requires

@@ -5,7 +5,7 @@ use Rattle.records.specs.Records.{record_at}
 use Rattle.records.specs.Walk.{Turn}
 use Rattle.records.specs.laws.Walk.{turn}
 use Rattle.reading.specs.Tallies.{BoundedTally}
-use Rattle.reading.specs.laws.Tallied.{rest_sums, rest_refused, rest_none}
+use Rattle.reading.proofs.laws.Tallied.{rest_sums, rest_refused, rest_none}
 use borrow.Author.Rules.{rules}
 use Rattle.reading.proofs.tally_rest.Goals as goal
 use Rattle.reading.proofs.tally_rest.Goals.{In-loop-k}

@@ -1,7 +1,7 @@
 -- `spelling::digits_len` meets its contract: one digit below 10, and otherwise one more than its tenth has (`length_more`), at most ten (`decimal_short`). Assumes nothing.
 use Rattle.std.proofs.Common.{◌≡◌, sym, ap, arith, length, ◌+◌, ◌/◌}
 use Rattle.spelling.specs.Write.{decimal}
-use Rattle.spelling.specs.laws.Decimal.{decimal_one, length_more, decimal_short}
+use Rattle.spelling.proofs.laws.Decimal.{decimal_one, length_more, decimal_short}
 use Rattle.spelling.proofs.+digits_len.Goals as goal
 
 pub returns-then-n-lt10 : goal.returns-then-n-lt10

@@ -2,7 +2,7 @@
 -- Assumes nothing.
 use Rattle.std.proofs.Common.{◌≡◌, refl, ap, [], ◌∷◌, arith, length, set, ◌+◌, ◌/◌, ◌%◌}
 use Rattle.spelling.specs.Write.{decimal}
-use Rattle.spelling.specs.laws.Decimal.{decimal_one, decimal_more, length_more}
+use Rattle.spelling.proofs.laws.Decimal.{decimal_one, decimal_more, length_more}
 use Rattle.cigar.specs.laws.Stores.{sets_snoc}
 use Rattle.spelling.proofs.+put_digits.Goals as goal
 

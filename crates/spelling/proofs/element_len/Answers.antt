@@ -2,7 +2,7 @@
 use mathlib.Core.Path.{sym, ap}
 use native.Mathlib.Omega.{arith}
 use lib.ListN.{length}
-use Rattle.spelling.specs.laws.Decimal.{text_one, text_length}
+use Rattle.spelling.proofs.laws.Decimal.{text_one, text_length}
 use Rattle.spelling.proofs.element_len.Goals as goal
 
 pub returns-then-count-eq1 : goal.returns-then-count-eq1

@@ -4,7 +4,7 @@ use mathlib.Core.Path.{refl, ap}
 use native.Mathlib.Omega.{arith}
 use lib.ListN.{length}
 use Rattle.spelling.specs.Write.{decimal}
-use Rattle.spelling.specs.laws.Decimal.{text_one, text_more, text_length}
+use Rattle.spelling.proofs.laws.Decimal.{text_one, text_more, text_length}
 use Rattle.cigar.specs.laws.Stores.{sets_snoc}
 use Rattle.spelling.proofs.put_element.Goals as goal
 

@@ -8,7 +8,7 @@ use Rattle.segments.specs.Tables.{Tables, read}
 use Rattle.cigar.specs.Elements.{genome, transcript}
 use Rattle.segments.specs.Places.{Spot, End}
 use Rattle.segments.specs.Places.End.{start, stop}
-use Rattle.segments.specs.laws.Spotting.{number_below}
+use Rattle.segments.proofs.laws.Spotting.{number_below}
 use Rattle.segments.specs.laws.Meaning.{holds_means}
 use Rattle.segments.specs.Exons.{last_number, exon_found, exon_chosen}
 use Rattle.segments.specs.laws.Exons.{read_number}

@@ -13,10 +13,10 @@ use Rattle.cigar.specs.Elements.{Element, letter_d, letter_i}
 use Rattle.cigar.specs.Text.{before, read_from, read_all}
 use Rattle.cigar.specs.Read.{counts_after, letters_after}
 use Rattle.spelling.specs.Write.{decimal, text_of, writing}
-use Rattle.spelling.specs.laws.Decimal.{decimal_one, decimal_more}
+use Rattle.spelling.proofs.laws.Decimal.{decimal_one, decimal_more}
 use Rattle.cigar.specs.laws.Sound.{AllSound}
-use Rattle.spelling.specs.laws.RoundTrip.{read_count, read_letter}
-use Rattle.spelling.specs.laws.BothWays.{given_back}
+use Rattle.spelling.proofs.laws.RoundTrip.{read_count, read_letter}
+use Rattle.spelling.proofs.laws.BothWays.{given_back}
 use Rattle.words.specs.Words.{bam_letter, exchanged, letter_of, length_in, code_in, element_of_word, is_known, all_known, read_words}
 use Rattle.words.specs.Retyping.{aligners_text, retyped}
 use Rattle.words.specs.laws.RoundTrips.{AllFit, AllWordable, elements_wordable, read_says}

@@ -18,7 +18,7 @@ use Rattle.journal.specs.laws.Appending.{grown, grown_reads, takes_first, takes_
 use Rattle.entries.specs.declared.Entry.{Entry}
 use Rattle.asking.specs.Asking.{recorded, recording}
 use Rattle.asking.specs.Making.{all_recorded, Made, none_yet, one_more}
-use Rattle.asking.specs.laws.Saying.{recorded_canonical, recorded_fits}
+use Rattle.asking.proofs.laws.Saying.{recorded_canonical, recorded_fits}
 
 module _ (x : Lent) where
   recorded_more : (qs : List Question) (q : Question) → all_recorded x (qs ++ q ∷ []) ≡ all_recorded x qs ++ recorded x q ∷ []

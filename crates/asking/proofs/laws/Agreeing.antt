@@ -13,7 +13,7 @@ use Rattle.taking.specs.Taking.{g_end, g_asked, n_asked, c_asked}
 use Rattle.taking.specs.Questions.{map_g_to_n, map_n_to_g, map_n_to_c, map_c_to_n, map_g_to_c, map_c_to_g, from_g, from_c, is_star, is_missing, g_of, n_of, c_of}
 use Rattle.canonical.specs.Canonical.{end_holdable, holdable}
 use Rattle.asking.specs.Asking.{named, asked, missing_mark, unless_missing, g_question, n_question, c_question}
-use Rattle.asking.specs.laws.Saying.{asked_is}
+use Rattle.asking.proofs.laws.Saying.{asked_is}
 
 -- ---- such a question can be held
 

@@ -19,7 +19,7 @@ use Rattle.transcript.specs.Transcript.{Cds}
 use Rattle.transcript.specs.Transcript.Cds.{no_cds, cds}
 use Rattle.transcript.specs.Transcript.Source.{aligned, length_only}
 use Rattle.transcript.specs.Building.{Exon, elements_of, numbers_of, build}
-use Rattle.transcript.specs.laws.Numbered.{numbers_length, numbers_hold_lem}
+use Rattle.transcript.proofs.laws.Numbered.{numbers_length, numbers_hold_lem}
 use Rattle.holding.specs.Holding.{Lent, is_forward, is_backward, holds, head_cds, source_of}
 use Rattle.holding.specs.laws.Held.{CdsRight, Together, held_where}
 use Rattle.judging.specs.Judging.{Made, Measured, elements_made}

@@ -15,7 +15,7 @@ use Rattle.segments.specs.Places.End.{start, stop}
 use Rattle.segments.specs.laws.Totals.{total_append}
 use Rattle.segments.specs.laws.Made.{nowhere, entry_at, letter_at}
 use Rattle.finding.specs.laws.Index.{Found, index_says, index_is}
-use Rattle.segments.specs.laws.Spotting.{Inside, inside}
+use Rattle.segments.proofs.laws.Spotting.{Inside, inside}
 
 -- ---- entries and letters
 

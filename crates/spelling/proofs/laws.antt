@@ -1,4 +1,4 @@
--- What is shown of the definitions.
+-- What is shown of the definitions, where wrong programs change one of those that it rests on.
 --     Decimal      a number's digits
 --     RoundTrip    what is written reads as what it was written from
 --     BothWays     and what is read is written as it can be

@@ -20,7 +20,7 @@ use Rattle.cigar.specs.laws.Sound.{Sound, AllSound, read_sound, read_room}
 use Rattle.cigar.specs.Lent.{at_front}
 use Rattle.cigar.specs.Read.{read_text, counts_of, letters_of}
 use Rattle.spelling.specs.Write.{elements_text, given_from, elements_given, text_of, writing}
-use Rattle.spelling.specs.laws.RoundTrip.{read_back, shorter}
+use Rattle.spelling.proofs.laws.RoundTrip.{read_back, shorter}
 
 -- elements that stand after some others in both tables
 given_after : (es : List Element) (cs : List ℤ) (ls : List ℕ) (counts : List ℤ) (letters : List ℕ) (i : ℕ) → length cs ≡ i → length ls ≡ i → AllSound es

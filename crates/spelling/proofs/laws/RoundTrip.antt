@@ -20,7 +20,7 @@ use Rattle.cigar.specs.Text.{is_digit, count_of, Reading, before, element, taken
 use Rattle.cigar.specs.Read.{read_text}
 use Rattle.cigar.specs.laws.Sound.{AllSound, read_sound, read_room}
 use Rattle.spelling.specs.Write.{digits_by, decimal, element_text, elements_text}
-use Rattle.spelling.specs.laws.Decimal.{decimal_one, decimal_more, length_more, text_one, text_more, text_length}
+use Rattle.spelling.proofs.laws.Decimal.{decimal_one, decimal_more, length_more, text_one, text_more, text_length}
 
 -- a digit in front
 read_digit : (room : ℕ) (given : Bool) (m d : ℕ) (s : List ℕ) → d < 10 → read_from room given m ((48 + d) ∷ s) ≡ read_from room true (m * 10 + d) s

@@ -1,0 +1,3 @@
+-- What the proofs of several functions use.
+--     laws    what is shown of the definitions
+pub mod laws
