@@ -5,7 +5,7 @@ usage: tools/snake_names.py [--check]     at the top of the repository, once, af
 
 What turns: each name of specs/ and proofs/ that has a dash or a capital inside (`n-back`, `nOfPlace`, `Demand-2`), where it is declared and where it is used.
 What stays: a name that a file imports from elsewhere than this repository, a name behind a dot that is no field of a record here (those are Rattle's own),
-names of operators, everything of src/ outside clauses, strings. Names that would fall together get the spelling of OTHER.
+names of operators, everything of src/ outside clauses. A string that holds such a name turns too, and is mended by hand. Names that would fall together get the spelling of OTHER.
 --check writes nothing. Names that fall together in one file, or that would be hidden by a parameter, are printed, and nothing is written.
 """
 

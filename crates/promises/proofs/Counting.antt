@@ -191,7 +191,7 @@ counts x t f =
     let rs = x.records in
     subst (λ (u : Transcript). CountsRecords x u (by_elements u)) (sym f.is) (record {
       exon_base = λ p b. in_own forward rs f.whole f.all_spanning f.spans f.in_order p b.lies b.match (found forward rs f.some f.spans f.in_order p b.lies);
-      gap_base = λ p b k l g some_before SomeAfter u d.
+      gap_base = λ p b k l g some_before some_after u d.
           let w = subst AllWhole g.stands f.whole in
           let s = subst AllSpan g.stands f.all_spanning in
           let from = from_whole g.before.alt_end _ (end_whole g.left g.before (g.after ∷ g.right) w s) g.from in
@@ -199,7 +199,7 @@ counts x t f =
             left_alike forward rs f.whole f.all_spanning f.spans f.in_order p b.lies g.left g.before g.after g.right g.stands from to
                 (below_whole g.before.alt_start g.before.alt_end (start_whole g.left g.before (g.after ∷ g.right) w) some_before) _ refl u.lies,
             right_alike forward rs f.whole f.all_spanning f.spans f.in_order p b.lies g.left g.before g.after g.right g.stands from to
-                (below_whole g.after.alt_start g.after.alt_end (next_whole g.left g.before g.after g.right w) SomeAfter) _ refl d.lies,
+                (below_whole g.after.alt_start g.after.alt_end (next_whole g.left g.before g.after g.right w) some_after) _ refl d.lies,
           );
       intron_base = λ p b. sides forward rs f.whole f.all_spanning f.spans f.in_order p b.lies (found forward rs f.some f.spans f.in_order p b.lies);
     })

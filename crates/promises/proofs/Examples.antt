@@ -28,7 +28,7 @@ use Rattle.promises.proofs.Promises.{demand_2, demand_3}
 abbrev row : ℕ → ℕ → ℕ → ℕ → ℕ → List ℕ → Record
 row a b c d o text = record { alt_start = pos a; alt_end = pos b; tx_start = pos c; tx_end = pos d; ord = pos o; cigar = text }
 
--- `10_m`, a `4M` of another digit, and `4M2I4M` of another letter
+-- `10M`, a `4M` of another digit, and `4M2I4M` of another letter
 abbrev 10_m : List ℕ
 10_m = digit 1 ∷ digit 0 ∷ letter_m ∷ []
 

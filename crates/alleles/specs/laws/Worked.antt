@@ -75,7 +75,7 @@ pub worked_backward : joined backward true three cac (rooms 2 0) ≡ through (be
 unfolding computing
 worked_backward = refl
 
--- on strand 1 they are not turned, and leave `Ac` and nothing
+-- on strand 1 they are not turned, and leave `AC` and nothing
 pub worked_forward : joined forward true three cac (rooms 2 0) ≡ through (beside (leaving (bytes ("A" ∷ "C" ∷ [])))) (checked forward (ask_g_to_c true three))
 unfolding computing
 worked_forward = refl
