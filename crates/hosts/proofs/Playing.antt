@@ -20,7 +20,7 @@ use Rattle.entries.specs.declared.Entry.{Entry}
 use Rattle.asking.specs.Asking.{recorded}
 use Rattle.asking.proofs.laws.Making.{made_is}
 use Rattle.playback.specs.Replay.{differs, differing, replay_text, roomed}
-use Rattle.playback.specs.laws.Replay.{AllRecorded, no_entry, one_more, differs_not, differs_says, listed_where, indices_rise, nothing_written, replay_broken, replay_answered, replay_refused}
+use Rattle.playback.proofs.laws.Replay.{AllRecorded, no_entry, one_more, differs_not, differs_says, listed_where, indices_rise, nothing_written, replay_broken, replay_answered, replay_refused}
 use Rattle.hosts.specs.Playing.{zero_line, OwnLog0, Lists, ListsDiffering}
 
 all_recorded : (x : Lent) (qs : List Question) → AllRecorded x (map (recorded x) qs)

@@ -11,7 +11,7 @@ use Rattle.entries.specs.declared.Entry.{Entry}
 use Rattle.asking.specs.Asking.{asked}
 use Rattle.asking.specs.Making.{Made}
 use Rattle.playback.specs.Replay.{replay_text, replaying}
-use Rattle.playback.specs.laws.Replay.{Rising}
+use Rattle.playback.proofs.laws.Replay.{Rising}
 
 -- the line of the total alone
 abbrev pub zero_line : List ℕ

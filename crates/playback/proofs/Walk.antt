@@ -21,7 +21,7 @@ use Rattle.journal.specs.laws.LogTrips.{from_length}
 use Rattle.playback.specs.Lines.{lines_of, index_if}
 use Rattle.playback.specs.Replay.{differs, indices_from, differing}
 use Rattle.playback.specs.laws.Lines.{lines_append, no_line}
-use Rattle.playback.specs.laws.Replay.{indices_append}
+use Rattle.playback.proofs.laws.Replay.{indices_append}
 
 entries_append : (m n : ℕ) (s : List ℕ) (at : ℕ) → entries_from (m + n) s at ≡ entries_from m s at ++ entries_from n s (at + entry_size * m)
 unfolding entries_from

@@ -1,3 +1,2 @@
 -- What is shown of the definitions.
 pub mod Lines
-pub mod Replay

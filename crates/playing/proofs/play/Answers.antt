@@ -18,7 +18,7 @@ use Rattle.card.specs.laws.Putting.{put_as, put_front}
 use Rattle.lines.specs.Listing.{refusal_text}
 use Rattle.playback.specs.Replay.{replaying}
 use Rattle.playing.specs.Played.{lent_by, played, played_text}
-use Rattle.playback.specs.laws.Replay.{replayed_short, replay_roomy}
+use Rattle.playback.proofs.laws.Replay.{replayed_short, replay_roomy}
 use Rattle.playing.specs.laws.Played.{played_made, played_refused}
 use Rattle.playing.proofs.Written.{text_is, refused_is, lent_made}
 use Rattle.playing.proofs.play.Goals as goal

@@ -16,7 +16,7 @@ use Rattle.journal.specs.Logs.{read_log}
 use Rattle.entries.specs.declared.Entry.{Entry}
 use Rattle.playback.specs.Replay.{replayed}
 use Rattle.playing.specs.Played.{lent_by, played, card_end, card_to, input_made, input_played}
-use Rattle.playback.specs.laws.Replay.{AllRecorded, replayed_answered, nothing_written}
+use Rattle.playback.proofs.laws.Replay.{AllRecorded, replayed_answered, nothing_written}
 
 -- ---- by what the card makes
 

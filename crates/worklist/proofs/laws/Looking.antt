@@ -8,7 +8,7 @@ use Rattle.finding.specs.Finding.{ends_above, index_of}
 use Rattle.finding.specs.laws.Index.{walk_goes_on}
 use Rattle.worklist.specs.Worklist.{Track, place_on, within, steps_after, steps_of, never_falls}
 use Rattle.worklist.specs.Looks.{looks_from, looks_at, looks_after}
-use Rattle.worklist.specs.laws.Along.{index_on, walk_ready, walk_here, walk_stays}
+use Rattle.worklist.proofs.laws.Along.{index_on, walk_ready, walk_here, walk_stays}
 
 -- one position: an entry for each segment that is left, and at most one more
 looks_few : (starts : List ℕ) (n : ℕ) (p : ℤ) → 0 < n → (m i : ℕ) → i + m ≡ n - 1 → i ≤ index_of starts n p → looks_from starts p i m + i ≤ index_of starts n p + 1

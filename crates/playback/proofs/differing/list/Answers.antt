@@ -14,7 +14,7 @@ use Rattle.journal.specs.laws.LogTrips.{from_length}
 use Rattle.journal.specs.Layout.{entries_at}
 use Rattle.playback.specs.Lines.{line_of, most_replay}
 use Rattle.playback.specs.Replay.{replay_text}
-use Rattle.playback.specs.laws.Replay.{text_length, replay_short}
+use Rattle.playback.proofs.laws.Replay.{text_length, replay_short}
 use Rattle.playback.proofs.Walk.{found}
 use Rattle.playback.proofs.differing.list.Goals as goal
 use Rattle.playback.proofs.differing.list.Tie as tie

@@ -9,7 +9,7 @@ use Rattle.worklist.specs.declared.Slot.{Slot}
 use Rattle.worklist.specs.Worklist.{Track, positions_of, never_falls, steps_after, steps_laid}
 use Rattle.refusals.specs.Outcome.{answered}
 use Rattle.worklist.specs.Walking.{track_by, next_index, Ready, answered_by}
-use Rattle.worklist.specs.laws.Along.{index_begins, index_on, walk_ready, walk_next, walk_here}
+use Rattle.worklist.proofs.laws.Along.{index_begins, index_on, walk_ready, walk_next, walk_here}
 use Rattle.worklist.proofs.Front.{front, front_at, front_set, front_all}
 use Rattle.worklist.proofs.Values.{none}
 use Rattle.worklist.proofs.walk.fill.Goals as goal
