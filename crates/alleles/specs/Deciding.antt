@@ -1,6 +1,6 @@
 -- Which refusal of the join comes first, by what the code has at hand. Assumes nothing.
 use Rattle.std.specs.Prelude.{ℕ, Bool, false, not, eqb, ltb, if◌then◌else◌}
-use Rattle.refusals.specs.Numbers.{no_room, no_base, not_together}
+use Rattle.refusals.specs.Numbers.{NoRoom, NoBase, NotTogether}
 use Rattle.transcript.specs.declared.Head.{Head}
 use Rattle.holding.specs.Holding.{of_records, is_forward}
 
@@ -14,4 +14,4 @@ enough room n = not (ltb room n)
 
 -- the mapping's own number comes after 34 and 20, but for 23, which comes before
 abbrev pub first_refusal : ℕ → Bool → Bool → ℕ
-first_refusal asked bases room = if eqb asked not_together then not_together else (if bases then (if room then asked else no_room) else no_base)
+first_refusal asked bases room = if eqb asked NotTogether then NotTogether else (if bases then (if room then asked else NoRoom) else NoBase)

@@ -2,7 +2,7 @@
 #![tactic(auto)]
 
 ghost use Rattle.std.specs.Prelude.{◌≡◌, ◌&&◌, length};
-ghost use Rattle.refusals.specs.Outcome.{number_of, Outcome.refused};
+ghost use Rattle.refusals.specs.Outcome.{number_of};
 ghost use Rattle.holding.specs.Holding.{lent};
 ghost use Rattle.positions.specs.Paper.{paper_g_question, paper_c};
 ghost use Rattle.strands.specs.Turned.{are_bases};
@@ -12,7 +12,7 @@ ghost use Rattle.alleles.specs.Deciding.{head_reads_back, enough, first_refusal}
 use layout::lay;
 use layout::lay::Answer;
 use positions::{CAnswer, GQuestion};
-use refusals::{MOST_SEGMENTS, MOST_STARTS, NO_BASE, NO_ROOM, NOT_TOGETHER};
+use refusals::{MOST_SEGMENTS, MOST_STARTS, Refusal};
 use strands::{Removed, turn};
 use transcript::{Head, OF_RECORDS};
 
@@ -84,16 +84,16 @@ fn number_of(told: CAnswer) -> u8
 fn first_refusal(asked: u8, bases: bool, room: bool) -> u8
     ensures { result ≡ first_refusal asked bases room }
 {
-    if asked == NOT_TOGETHER {
-        return NOT_TOGETHER;
+    if asked == Refusal::NotTogether {
+        return Refusal::NotTogether;
     }
     if bases {
         if room {
             return asked;
         }
-        return NO_ROOM;
+        return Refusal::NoRoom;
     }
-    NO_BASE
+    Refusal::NoBase
 }
 
 // An answer, with what went and what is left.
@@ -114,7 +114,7 @@ fn told_with(told: CAnswer, gone: Removed, reference: usize, alternative: usize)
 
 // A refusal.
 fn refused(number: u8) -> Joined
-    ensures { result ≡ joined_laid (refused number) }
+    ensures { result ≡ joined_laid (Err number) }
 {
     let answer = lay::lay_c(CAnswer::Refused(number));
     Joined {

@@ -7,10 +7,9 @@ ghost use Rattle.journal.specs.Logs.{appended_of, log_after};
 ghost use Rattle.asking.specs.Asking.{named, asked, recording, recorded_laid};
 
 use entries::Entry;
-use journal::Appended;
 use layout::lay;
 use layout::lay::Answer;
-use refusals::{MOST_SEGMENTS, MOST_STARTS, NO_LOG};
+use refusals::{MOST_SEGMENTS, MOST_STARTS, Refusal};
 use taking::question;
 use taking::question::{C_TO_N, G_TO_C, G_TO_N, N_TO_C, N_TO_G, Question};
 use transcript::Head;
@@ -78,19 +77,19 @@ pub fn ask(
     if canonical::is_holdable(q) {
         return answer_of(head, genome, transcript, letters, exons, q);
     }
-    lay::refusal_of(NO_LOG)
+    lay::refusal_of(Refusal::NoLog)
 }
 
-fn lay_recorded(answer: Answer, appended: Appended) -> Recorded
+fn lay_recorded(answer: Answer, appended: Result<usize, Refusal>) -> Recorded
     ensures { result ≡ recorded_laid answer appended }
 {
     match appended {
-        Appended::Length(length) => Recorded {
+        Ok(length) => Recorded {
             number: 0,
             length,
             answer,
         },
-        Appended::Refused(k) => {
+        Err(k) => {
             let none = lay::refusal_of(0);
             Recorded {
                 number: k as u32,
@@ -123,5 +122,5 @@ pub fn record(
         };
         return lay_recorded(answer, journal::append(log, used, entry));
     }
-    lay_recorded(lay::refusal_of(0), Appended::Refused(NO_LOG))
+    lay_recorded(lay::refusal_of(0), Err(Refusal::NoLog))
 }

@@ -1,7 +1,7 @@
 -- The questions and answers that an entry can hold. Every other entry is 35: `holdable` and `sayable` have the reasons one by one, and there is no other.
 -- Assumes nothing.
 use Rattle.std.specs.Prelude.{ℕ, Bool, true, ◌&&◌, ◌||◌, List, [], ◌∷◌, eqb, ltb, leb, ℤ, pos, if◌then◌else◌}
-use Rattle.refusals.specs.Numbers.{not_coding, outside, n_outside, c_outside, too_wide, no_genome, missing_end, not_together}
+use Rattle.refusals.specs.Numbers.{NotCoding, Outside, NOutside, COutside, TooWide, NoGenome, MissingEnd, NotTogether}
 use Rattle.refusals.specs.Refusing.{one_of}
 use Rattle.whole.specs.Whole.{eq_z}
 use Rattle.taking.specs.Questions.{map_g_to_n, map_n_to_g, map_n_to_c, map_c_to_n, map_g_to_c, map_c_to_g, from_g, from_c, to_g, to_c, is_plain, is_star, is_missing}
@@ -46,12 +46,12 @@ holdable q =
 -- the refusals that a kind can give, strict or not
 unfoldable pub refusals_of : ℕ → List ℕ
 refusals_of kind =
-    if eqb kind map_g_to_n then outside ∷ too_wide ∷ no_genome ∷ missing_end ∷ not_together ∷ []
-    else if eqb kind map_n_to_g then outside ∷ too_wide ∷ no_genome ∷ not_together ∷ []
-    else if eqb kind map_n_to_c then not_coding ∷ n_outside ∷ too_wide ∷ not_together ∷ []
-    else if eqb kind map_c_to_n then not_coding ∷ c_outside ∷ too_wide ∷ not_together ∷ []
-    else if eqb kind map_g_to_c then not_coding ∷ outside ∷ n_outside ∷ too_wide ∷ no_genome ∷ missing_end ∷ not_together ∷ []
-    else not_coding ∷ c_outside ∷ too_wide ∷ no_genome ∷ not_together ∷ []
+    if eqb kind map_g_to_n then Outside ∷ TooWide ∷ NoGenome ∷ MissingEnd ∷ NotTogether ∷ []
+    else if eqb kind map_n_to_g then Outside ∷ TooWide ∷ NoGenome ∷ NotTogether ∷ []
+    else if eqb kind map_n_to_c then NotCoding ∷ NOutside ∷ TooWide ∷ NotTogether ∷ []
+    else if eqb kind map_c_to_n then NotCoding ∷ COutside ∷ TooWide ∷ NotTogether ∷ []
+    else if eqb kind map_g_to_c then NotCoding ∷ Outside ∷ NOutside ∷ TooWide ∷ NoGenome ∷ MissingEnd ∷ NotTogether ∷ []
+    else NotCoding ∷ COutside ∷ TooWide ∷ NoGenome ∷ NotTogether ∷ []
 
 -- the tags, which are an answer's marks: refused, certain, uncertain, unmarked
 abbrev pub refused_tag : ℕ

@@ -8,9 +8,7 @@ ghost use Rattle.canonical.specs.Canonical.{is_zero, ◌only◌, end_holdable, h
 
 use entries::Entry;
 use layout::lay::{Answer, Position};
-use refusals::{
-    C_OUTSIDE, MISSING_END, N_OUTSIDE, NO_GENOME, NOT_CODING, NOT_TOGETHER, OUTSIDE, TOO_WIDE,
-};
+use refusals::Refusal;
 use taking::question;
 use taking::question::{C_TO_G, C_TO_N, G_TO_C, G_TO_N, N_TO_C, N_TO_G, Question};
 
@@ -117,35 +115,35 @@ fn can_refuse(kind: u32, refusal: u32) -> bool
     if kind == G_TO_N {
         return is_listed(
             refusal,
-            &[OUTSIDE, TOO_WIDE, NO_GENOME, MISSING_END, NOT_TOGETHER],
+            &[Refusal::Outside, Refusal::TooWide, Refusal::NoGenome, Refusal::MissingEnd, Refusal::NotTogether],
         );
     }
     if kind == N_TO_G {
-        return is_listed(refusal, &[OUTSIDE, TOO_WIDE, NO_GENOME, NOT_TOGETHER]);
+        return is_listed(refusal, &[Refusal::Outside, Refusal::TooWide, Refusal::NoGenome, Refusal::NotTogether]);
     }
     if kind == N_TO_C {
-        return is_listed(refusal, &[NOT_CODING, N_OUTSIDE, TOO_WIDE, NOT_TOGETHER]);
+        return is_listed(refusal, &[Refusal::NotCoding, Refusal::NOutside, Refusal::TooWide, Refusal::NotTogether]);
     }
     if kind == C_TO_N {
-        return is_listed(refusal, &[NOT_CODING, C_OUTSIDE, TOO_WIDE, NOT_TOGETHER]);
+        return is_listed(refusal, &[Refusal::NotCoding, Refusal::COutside, Refusal::TooWide, Refusal::NotTogether]);
     }
     if kind == G_TO_C {
         return is_listed(
             refusal,
             &[
-                NOT_CODING,
-                OUTSIDE,
-                N_OUTSIDE,
-                TOO_WIDE,
-                NO_GENOME,
-                MISSING_END,
-                NOT_TOGETHER,
+                Refusal::NotCoding,
+                Refusal::Outside,
+                Refusal::NOutside,
+                Refusal::TooWide,
+                Refusal::NoGenome,
+                Refusal::MissingEnd,
+                Refusal::NotTogether,
             ],
         );
     }
     is_listed(
         refusal,
-        &[NOT_CODING, C_OUTSIDE, TOO_WIDE, NO_GENOME, NOT_TOGETHER],
+        &[Refusal::NotCoding, Refusal::COutside, Refusal::TooWide, Refusal::NoGenome, Refusal::NotTogether],
     )
 }
 

@@ -16,10 +16,8 @@ ghost use Rattle.card.specs.Card.{strand_byte, given_bit, cds_byte, header_text,
 ghost use Rattle.judging.specs.Input.{input_of};
 ghost use Rattle.card.specs.Writing.{judge_card, card_writing};
 
-use reading::Tally;
-use refusals::{BAD_VERSION, MOST_CARD, MOST_SEGMENTS, MOST_STARTS, NO_CARD, NO_ROOM, TOO_MUCH};
-use spelling::Written;
-use transcript::{BOTH_BITS, Bound, Built, Numbers};
+use refusals::{MOST_CARD, MOST_SEGMENTS, MOST_STARTS, Refusal};
+use transcript::{BOTH_BITS, Numbers};
 
 const VERSION: u32 = 1;
 
@@ -144,22 +142,22 @@ fn is_card(card: &[u8]) -> bool
 }
 
 // The numbers of the input that a card holds, or a refusal.
-pub fn read_card(card: &[u8]) -> ReadCard
+pub fn read_card(card: &[u8]) -> Result<Numbers, Refusal>
     ensures { result ≡ read_card card.now }
 {
     if MOST_CARD < card.len() {
-        return ReadCard::Refused(TOO_MUCH);
+        return Err(Refusal::TooMuch);
     }
     if is_marked(card) {
         if fields::u16_at(card, VERSION_AT) == VERSION {
             if is_card(card) {
-                return ReadCard::Card(read_numbers(card));
+                return Ok(read_numbers(card));
             }
-            return ReadCard::Refused(NO_CARD);
+            return Err(Refusal::NoCard);
         }
-        return ReadCard::Refused(BAD_VERSION);
+        return Err(Refusal::BadVersion);
     }
-    ReadCard::Refused(NO_CARD)
+    Err(Refusal::NoCard)
 }
 
 // The transcript that a card's input makes, or a refusal, which leaves the tables as they are.
@@ -169,16 +167,16 @@ pub fn build_card(
     transcript: &mut [u32; MOST_STARTS],
     letters: &mut [u8; MOST_SEGMENTS],
     exons: &mut [u16; MOST_SEGMENTS],
-) -> Built
+) -> Result<Head, Refusal>
     ensures value { result ≡ built_answer (judge_card card.now) }
     ensures letters_after { tables genome.new transcript.new letters.new ≡ tables_after (judge_card card.now) (tables genome.old transcript.old letters.old) }
     ensures exons_after { exons.new ≡ exons_after (judge_card card.now) exons.old }
 {
     match read_card(card) {
-        ReadCard::Card(n) => {
+        Ok(n) => {
             building::build(n, &card[RECORDS_AT..], genome, transcript, letters, exons)
         }
-        ReadCard::Refused(k) => Built::Refused(k),
+        Err(k) => Err(k),
     }
 }
 
@@ -205,17 +203,17 @@ fn strand_byte(strand: i64) -> u8
 }
 
 // Whether a bound is given, as a bit.
-fn given_bit(bound: Bound) -> u8
+fn given_bit(bound: Option<i32>) -> u8
     ensures { (result ≡ given_bit bound) × (result ≤ 1) }
 {
     match bound {
-        Bound::Given(_) => 1,
-        Bound::Absent => 0,
+        Some(_) => 1,
+        None => 0,
     }
 }
 
 // The CDS byte.
-fn cds_byte(start: Bound, end: Bound) -> u8
+fn cds_byte(start: Option<i32>, end: Option<i32>) -> u8
     ensures { result ≡ cds_byte start end }
 {
     given_bit(start) + 2 * given_bit(end)
@@ -233,7 +231,7 @@ fn put_front(buffer: &mut [u8], strand: u8, cds: u8)
 }
 
 // Writes what stands before the records.
-fn put_header(buffer: &mut [u8], strand: i32, start: Bound, end: Bound, count: u32)
+fn put_header(buffer: &mut [u8], strand: i32, start: Option<i32>, end: Option<i32>, count: u32)
     requires { records_at ≤ length buffer.old }
     ensures { buffer.new ≡ sets buffer.old 0 (header_text strand start end count) }
 {
@@ -244,32 +242,32 @@ fn put_header(buffer: &mut [u8], strand: i32, start: Bound, end: Bound, count: u
 }
 
 // The card of records that stand in bytes, unless it is too large (3) or too long for the buffer (20).
-fn write_taken(numbers: Numbers, records: &[u8], buffer: &mut [u8]) -> Written
+fn write_taken(numbers: Numbers, records: &[u8], buffer: &mut [u8]) -> Result<usize, Refusal>
     requires { (numbers.count ≤ most_records) × (exactly numbers.count records.now 0 ≡ true) }
     ensures value { result ≡ written_answer (fitted most_card (length buffer.old) (card_text (input_of numbers records.now))) }
     ensures buffer_after { buffer.new ≡ buffer_after buffer.old (fitted most_card (length buffer.old) (card_text (input_of numbers records.now))) }
 {
     let size = RECORDS_AT + records.len();
     if MOST_CARD < size {
-        return Written::Refused(TOO_MUCH);
+        return Err(Refusal::TooMuch);
     }
     if buffer.len() < size {
-        return Written::Refused(NO_ROOM);
+        return Err(Refusal::NoRoom);
     }
     let from = transcript::start_of(numbers.cds, numbers.start);
     let to = transcript::end_of(numbers.cds, numbers.end);
     put_header(buffer, numbers.strand, from, to, numbers.count as u32);
     put_bytes(buffer, RECORDS_AT, records);
-    Written::Text(size)
+    Ok(size)
 }
 
 // The card of building's input at the front of a lent buffer, or a refusal, which leaves the buffer as it is.
-pub fn write_card(numbers: Numbers, records: &[u8], buffer: &mut [u8]) -> Written
+pub fn write_card(numbers: Numbers, records: &[u8], buffer: &mut [u8]) -> Result<usize, Refusal>
     ensures value { result ≡ written_answer (card_writing numbers records.now (length buffer.old)) }
     ensures buffer_after { buffer.new ≡ buffer_after buffer.old (card_writing numbers records.now (length buffer.old)) }
 {
     match judging::judge(numbers, records) {
-        Tally::Sums(_) => write_taken(numbers, records, buffer),
-        Tally::Refused(k) => Written::Refused(k),
+        Ok(_) => write_taken(numbers, records, buffer),
+        Err(k) => Err(k),
     }
 }

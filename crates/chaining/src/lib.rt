@@ -3,7 +3,7 @@
 
 ghost use Rattle.std.specs.Prelude.{◌≡◌, ◌≤◌, get_or};
 ghost use Rattle.refusals.specs.Numbers.{no_genome, most_segments};
-ghost use Rattle.refusals.specs.Outcome.{and_then, through, Outcome.answered, Outcome.refused};
+ghost use Rattle.refusals.specs.Outcome.{and_then, through};
 ghost use Rattle.segments.specs.Tables.{tables};
 ghost use Rattle.positions.specs.Positions.{asks_n};
 ghost use Rattle.positions.specs.Answers.{chain};
@@ -19,7 +19,7 @@ use positions::{
     CAnswer, CPlain, CQuestion, GAnswer, GAsked, GQuestion, NAnswer, NPlain, NQuestion, Said,
     fitting,
 };
-use refusals::{MISSING_END, MOST_SEGMENTS, MOST_STARTS, NO_GENOME, NOT_CODING};
+use refusals::{MOST_SEGMENTS, MOST_STARTS, Refusal};
 use spots::Alignment;
 
 // The two ends of a g. interval that are given, or the word that one is missing.
@@ -61,7 +61,7 @@ pub fn g_to_n(
         Given::Ends(from, to) => places::to_n(
             at, genome, transcript, letters, exons, from, to, strict,
         ),
-        Given::Missing => NAnswer::Refused(MISSING_END),
+        Given::Missing => NAnswer::Refused(Refusal::MissingEnd),
     }
 }
 
@@ -71,7 +71,7 @@ pub fn n_to_c(length: u32, cds: Coding, q: NQuestion, strict: bool) -> CPlain
 {
     match cds {
         Coding::Cds(s, e) => coding::to_c(strict, length, s, e, q),
-        Coding::Missing => CPlain::Refused(NOT_CODING),
+        Coding::Missing => CPlain::Refused(Refusal::NotCoding),
     }
 }
 
@@ -81,7 +81,7 @@ pub fn c_to_n(length: u32, cds: Coding, q: CQuestion, strict: bool) -> NPlain
 {
     match cds {
         Coding::Cds(s, e) => coding::to_n(strict, length, s, e, q),
-        Coding::Missing => NPlain::Refused(NOT_CODING),
+        Coding::Missing => NPlain::Refused(Refusal::NotCoding),
     }
 }
 
@@ -126,17 +126,17 @@ pub fn then_n_to_g(
 
 // The same of a transcript that is known by its length alone: 18 after the first step.
 pub fn then_no_genome(n: NPlain) -> GAnswer
-    ensures { paper_g result ≡ chain asks_n (paper_n_plain n) (λ i. refused no_genome) }
+    ensures { paper_g result ≡ chain asks_n (paper_n_plain n) (λ i. Err no_genome) }
 {
     match n {
-        NPlain::Told(_) => GAnswer::Refused(NO_GENOME),
+        NPlain::Told(_) => GAnswer::Refused(Refusal::NoGenome),
         NPlain::Refused(k) => GAnswer::Refused(k),
     }
 }
 
 // Whether there is a CDS.
 pub fn is_coding(cds: Coding) -> Said
-    ensures { paper_said result ≡ answered (codes (paper_coding cds)) }
+    ensures { paper_said result ≡ Ok (codes (paper_coding cds)) }
 {
     match cds {
         Coding::Cds(_, _) => Said::Yes,
@@ -157,6 +157,6 @@ pub fn is_in_bounds(at: Alignment, genome: &[u32; MOST_STARTS], q: GQuestion) ->
                 Said::No
             }
         }
-        Given::Missing => Said::Refused(MISSING_END),
+        Given::Missing => Said::Refused(Refusal::MissingEnd),
     }
 }

@@ -20,7 +20,7 @@ use lib.Seq.{drop-cons}
 use borrow.Author.Tests.{lt-ltb}
 use Rattle.cigar.specs.declared.Step.{Step}
 use Rattle.cigar.specs.declared.Step.TheVariants.{Refused, End}
-use Rattle.refusals.specs.Numbers.{no_element, most_count}
+use Rattle.refusals.specs.Numbers.{NoElement, most_count}
 use Rattle.cigar.specs.Elements.{is_letter}
 use Rattle.cigar.specs.Text.{is_digit, count_of, finished, element_from, step_of, step_at}
 
@@ -29,7 +29,7 @@ saturated : (n m : ℕ) → most_count + 1 ≤ n → most_count + 1 ≤ m → (a
 unfolding element_from
 saturated n m hn hm at [] = refl
 saturated n m hn hm at (b ∷ s) =
-    ap₂ (λ (x y : Step). if is_digit b then x else if is_letter b then y else Refused no_element)
+    ap₂ (λ (x y : Step). if is_digit b then x else if is_letter b then y else Refused NoElement)
     (saturated (n * 10 + (b - 48)) (m * 10 + (b - 48)) (omega arith) (omega arith) (at + 1) s)
     (rw (lt-ltb most_count n hn, lt-ltb most_count m hm))
 
@@ -48,11 +48,11 @@ module _ (text : List ℕ) (given : Bool) (n i : ℕ) (inside : i < length text)
   unfolding element_from
   letter_step e l = rw (drop-cons text i 0 inside, e, l)
 
-  pub other_step : is_digit (get_or text i 0) ≡ false → is_letter (get_or text i 0) ≡ false → element_from given n i (drop i text) ≡ Refused no_element
+  pub other_step : is_digit (get_or text i 0) ≡ false → is_letter (get_or text i 0) ≡ false → element_from given n i (drop i text) ≡ Refused NoElement
   unfolding element_from
   other_step e l = rw (drop-cons text i 0 inside, e, l)
 
-pub cut_off : (text : List ℕ) (given : Bool) (n i : ℕ) → length text ≤ i → element_from given n i (drop i text) ≡ Refused no_element
+pub cut_off : (text : List ℕ) (given : Bool) (n i : ℕ) → length text ≤ i → element_from given n i (drop i text) ≡ Refused NoElement
 unfolding element_from
 cut_off text given n i h = rw (drop_of_length-le text h)
 

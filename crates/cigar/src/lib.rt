@@ -9,7 +9,7 @@ ghost use Rattle.refusals.specs.Outcome.{Answered};
 ghost use Rattle.cigar.specs.Text.{is_digit, count_of, finished, step_at, read_all, elements_in, counted_of};
 ghost use Rattle.cigar.specs.Read.{read_text, counts_after, letters_after, FullLength, Filled};
 
-use refusals::{BAD_COUNT, MOST_COUNT, MOST_SEGMENTS, MOST_TEXT, NO_ELEMENT, TOO_MUCH};
+use refusals::{MOST_COUNT, MOST_SEGMENTS, MOST_TEXT, Refusal};
 
 // What reading at a place finds.
 #[derive(Clone, Copy)]
@@ -71,7 +71,7 @@ fn finish(given: bool, n: u64, letter: u8, next: usize) -> Step
             let count = n as u32;
             return Step::Element(count, letter, next);
         }
-        return Step::Refused(BAD_COUNT);
+        return Step::Refused(Refusal::BadCount);
     }
     Step::Element(1, letter, next)
 }
@@ -96,14 +96,14 @@ pub fn step_at(text: &[u8], at: usize) -> Step
             if is_letter(b) {
                 return finish(given, n, b, i + 1);
             }
-            return Step::Refused(NO_ELEMENT);
+            return Step::Refused(Refusal::NoElement);
         }
     }
-    Step::Refused(NO_ELEMENT)
+    Step::Refused(Refusal::NoElement)
 }
 
 // How many elements a text has, or the first refusal: each element's 7, 8, and 3 where there is no room for it.
-pub fn count_elements(text: &[u8]) -> Counted
+pub fn count_elements(text: &[u8]) -> Result<usize, Refusal>
     ensures { result ≡ counted_of (read_all most_segments text.now) }
 {
     let mut at = 0;
@@ -112,13 +112,13 @@ pub fn count_elements(text: &[u8]) -> Counted
         match step_at(text, at) {
             Step::Element(_, _, next) => {
                 if n == MOST_SEGMENTS {
-                    return Counted::Refused(TOO_MUCH);
+                    return Err(Refusal::TooMuch);
                 }
                 at = next;
                 n += 1;
             }
-            Step::Refused(k) => return Counted::Refused(k),
-            Step::End => return Counted::Count(n),
+            Step::Refused(k) => return Err(k),
+            Step::End => return Ok(n),
         }
     }
 }
@@ -159,20 +159,20 @@ pub fn read_cigar(
     text: &[u8],
     counts: &mut [i32; MOST_SEGMENTS],
     letters: &mut [u8; MOST_SEGMENTS],
-) -> Counted
+) -> Result<usize, Refusal>
     ensures value { result ≡ counted_of (read_text text.now) }
     ensures counts_after { counts.new ≡ counts_after counts.old (read_text text.now) }
     ensures letters_after { letters.new ≡ letters_after letters.old (read_text text.now) }
 {
     if MOST_TEXT < text.len() {
-        return Counted::Refused(TOO_MUCH);
+        return Err(Refusal::TooMuch);
     }
     match count_elements(text) {
-        Counted::Count(n) => {
+        Ok(n) => {
             fill_elements(text, counts, letters);
-            Counted::Count(n)
+            Ok(n)
         }
-        Counted::Refused(k) => Counted::Refused(k),
+        Err(k) => Err(k),
     }
 }
 

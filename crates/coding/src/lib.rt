@@ -10,6 +10,7 @@ ghost use Rattle.positions.specs.Paper.{paper_c_asked, paper_n_question, paper_c
 ghost use Rattle.transcript.specs.Transcript.{Cds.cds};
 ghost use Rattle.coding.specs.Coding.{beyond, c_position, one_to_c, n_position, map_n_to_c, map_c_to_n, same_c};
 
+use refusals::Refusal;
 use numbering::{CNumber, NNumber};
 use positions::fitting::{CEnd, NEnd};
 use positions::{CAsked, CPlain, CQuestion, NPlain, NPosition, NQuestion, fitting};
@@ -55,7 +56,7 @@ pub fn n_position(strict: bool, len: u32, s: u32, e: u32, c: CAsked) -> NEnd
 {
     let n = n_number(s, e, c);
     if is_beyond(strict, len, n) {
-        return NEnd::Refused(refusals::C_OUTSIDE);
+        return NEnd::Refused(Refusal::COutside);
     }
     let offset = c.offset as i64;
     fitting::n_end(n, offset)
@@ -70,7 +71,7 @@ pub fn to_c(strict: bool, len: u32, s: u32, e: u32, q: NQuestion) -> CPlain
     let a = fitting::whole_n(from.base);
     let b = fitting::whole_n(to.base);
     if is_beyond(strict, len, a) | is_beyond(strict, len, b) {
-        return CPlain::Refused(refusals::N_OUTSIDE);
+        return CPlain::Refused(Refusal::NOutside);
     }
     fitting::c_both(
         c_position(s, e, a, from.offset),
@@ -84,7 +85,7 @@ pub fn one_to_c(strict: bool, len: u32, s: u32, e: u32, n: NPosition) -> CEnd
 {
     let number = fitting::whole_n(n.base);
     if is_beyond(strict, len, number) {
-        return CEnd::Refused(refusals::N_OUTSIDE);
+        return CEnd::Refused(Refusal::NOutside);
     }
     c_position(s, e, number, n.offset)
 }

@@ -16,7 +16,7 @@ ghost use Rattle.transcript.specs.Building.{numbered_by};
 ghost use Rattle.filling.specs.Filling.{Long, fill, tables_finished, ordered, turned_on, next_elements, elements_past, elements_all, numbers_past, numbers_all, UpTo, Before, SmallSums, SmallTally};
 
 use cigar::Step;
-use reading::{Sums, Tally};
+use reading::{Sums};
 use records::CIGAR_TEXT;
 use refusals::MOST_SEGMENTS;
 
@@ -231,7 +231,7 @@ fn fill_rest(
     let mut sums = from;
     while k > 0 {
         match reading::tally_next(s, p, a, sums) {
-            Tally::Sums(to) => {
+            Ok(to) => {
                 fill_next(forward, s, p, a, sums, to, genome, transcript, letters);
                 let begin = sums.count;
                 let end = to.count;
@@ -242,7 +242,7 @@ fn fill_rest(
                 b += 1;
                 k -= 1;
             }
-            Tally::Refused(_) => return,
+            Err(_) => return,
         }
     }
 }
@@ -264,7 +264,7 @@ fn fill_all(
     ensures exons_after { exons.new ≡ sets exons.old 0 (numbers_all forward (exons_of (records_from count s.now 0))) }
 {
     match reading::tally_first(s) {
-        Tally::Sums(first) => {
+        Ok(first) => {
             fill_first(forward, s, first, genome, transcript, letters);
             let left = count - 1;
             let own = number_of(forward, 0, left);
@@ -275,7 +275,7 @@ fn fill_all(
                 forward, s, 0, 0, left, at, first, genome, transcript, letters, exons,
             );
         }
-        Tally::Refused(_) => return,
+        Err(_) => return,
     }
 }
 

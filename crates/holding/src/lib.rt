@@ -8,7 +8,7 @@ ghost use Rattle.segments.specs.Tables.{tables};
 ghost use Rattle.holding.specs.Holding.{segments_in, records_in, is_forward, head_holds, cds_holds, totals_hold};
 ghost use Rattle.holding.specs.Parts.{bases_of, tables_hold};
 
-use refusals::{MOST_BASES, MOST_RECORDS, MOST_SEGMENTS, MOST_STARTS};
+use refusals::{MOST_BASES, MOST_RECORDS, MOST_SEGMENTS, MOST_STARTS, Refusal};
 use transcript::{BOTH_GIVEN, Head, NONE_GIVEN, OF_LENGTH, OF_RECORDS};
 
 // A number that is not negative.
@@ -98,28 +98,28 @@ pub enum Bases {
 }
 
 // Of records it has as many as the transcript's table says, of a length as many as that.
-pub fn bases_of(head: Head, transcript: &[u32; MOST_STARTS]) -> Bases
+pub fn bases_of(head: Head, transcript: &[u32; MOST_STARTS]) -> Option<u32>
     ensures { result ≡ bases_of head transcript.now }
 {
     let kind = head.kind;
     if kind == OF_RECORDS {
         if head_holds(head) {
             let count = segment_count(head);
-            return Bases::Known(transcript[count]);
+            return Some(transcript[count]);
         }
-        return Bases::Unknown;
+        return None;
     }
     if kind == OF_LENGTH {
         let length = head.length;
         if length < 0 {
-            return Bases::Unknown;
+            return None;
         }
         let bases = natural(length);
         if bases <= MOST_BASES {
-            return Bases::Known(bases);
+            return Some(bases);
         }
     }
-    Bases::Unknown
+    None
 }
 
 // Whether the tables of a right head hold. The segments are looked at before the totals: an entry that is at hand before that is woven into it at a cost. Counts stand

@@ -7,8 +7,8 @@ use lib.Dec.{eqb}
 use lib.IntN.{ℤ}
 use lib.ListN.{drop}
 use borrow.Author.Tests.{eqb-false}
-use Rattle.refusals.specs.Numbers.{no_genome, most_segments}
-use Rattle.refusals.specs.Outcome.{Outcome, answered, refused, Answered, and_then}
+use Rattle.refusals.specs.Numbers.{NoGenome, most_segments, Refusal}
+use Rattle.refusals.specs.Outcome.{Outcome, Ok, Err, Answered, and_then}
 use Rattle.refusals.specs.laws.Outcomes.{clash, same}
 use Rattle.refusals.specs.Refusing.{one_of, Only}
 use Rattle.whole.specs.laws.Whole.{by_test}
@@ -28,8 +28,6 @@ use Rattle.card.specs.Card.{read_card, numbers_in}
 use Rattle.card.specs.Writing.{judge_read, judge_card}
 use Rattle.card.specs.laws.RoundTrips.{read_means}
 use Rattle.card.specs.laws.Taken.{card_sane}
-use Rattle.card.specs.declared.ReadCard.{ReadCard}
-use Rattle.card.specs.declared.ReadCard.TheVariants as read
 use Rattle.positions.specs.Positions.{Interval, NAsked, CAsked, GPosition, NPosition, CPosition, asks_n}
 use Rattle.positions.specs.Answers.{Mark, certain, uncertain, unmarked, Marked, Answer, chain}
 use Rattle.coding.specs.Coding.{map_c_to_n}
@@ -57,34 +55,34 @@ use Rattle.promises.proofs.Promises.{host_builds, demand_2_built, demand_3}
 not_0 : (ks : List ℕ) (k : ℕ) → one_of 0 ks ≡ false → one_of k ks ≡ true → k ≡ 0 → ⊥
 not_0 ks k none h e = false≢true (sym none ∙ subst (λ (n : ℕ). one_of n ks ≡ true) e h)
 
-made_of_lem : (ks : List ℕ) (j : Outcome Made) → one_of 0 ks ≡ false → Only ks j → built_number (built_answer j) ≡ 0 → (m : Made) × (j ≡ answered m)
-made_of_lem ks (answered m) none h z = (m, refl)
-made_of_lem ks (refused k) none h z = absurd (not_0 ks k none h.only z)
+made_of_lem : (ks : List ℕ) (j : Outcome Made) → one_of 0 ks ≡ false → Only ks j → built_number (built_answer j) ≡ 0 → (m : Made) × (j ≡ Ok m)
+made_of_lem ks (Ok m) none h z = (m, refl)
+made_of_lem ks (Err k) none h z = absurd (not_0 ks k none h.only z)
 
 -- an answer whose number is 0
 answered_at : {P : Type 0} (place : ℕ → P → Position) (ks : List ℕ) (a : Answer P) → one_of 0 ks ≡ false → Only ks a → (laid place a).number ≡ 0 → Answered a
-answered_at place ks (answered a) none h z = tt
-answered_at place ks (refused k) none h z = absurd (not_0 ks k none h.only z)
+answered_at place ks (Ok a) none h z = tt
+answered_at place ks (Err k) none h z = absurd (not_0 ks k none h.only z)
 
 -- ---- what was made
 
-way_made : (w : Way) → told_building w ≡ 0 → (m : Made) × (judgment w ≡ answered m)
+way_made : (w : Way) → told_building w ≡ 0 → (m : Made) × (judgment w ≡ Ok m)
 way_made (of_records n bytes) z = made_of_lem building_refusals (judge n bytes) refl (refusals.build n bytes) z
 way_made (of_card bytes) z = made_of_lem card_refusals (judge_card bytes) refl (refusals.build_card bytes) z
 
 -- a card that makes something reads as its numbers, beside the bytes behind them
-card_judged : (s : List ℕ) (m : Made) → judge_card s ≡ answered m → judge (numbers_in s) (drop records_at s) ≡ answered m
+card_judged : (s : List ℕ) (m : Made) → judge_card s ≡ Ok m → judge (numbers_in s) (drop records_at s) ≡ Ok m
 card_judged s m h = go (read_card s) refl h
   where
-    go : (r : ReadCard) → read_card s ≡ r → judge_read s r ≡ answered m → judge (numbers_in s) (drop records_at s) ≡ answered m
-    go (read.Card n) e h = rw (read_means s n e).1 at h
-    go (read.Refused k) e h = absurd (clash h)
+    go : (r : Outcome Numbers) → read_card s ≡ r → judge_read s r ≡ Ok m → judge (numbers_in s) (drop records_at s) ≡ Ok m
+    go (Ok n) e h = rw (read_means s n e).1 at h
+    go (Err k) e h = absurd (clash h)
 
-way_sane : (w : Way) (m : Made) → judgment w ≡ answered m → Sane m
+way_sane : (w : Way) (m : Made) → judgment w ≡ Ok m → Sane m
 way_sane (of_records n bytes) m h = judged_sane n bytes m h
 way_sane (of_card bytes) m h = card_sane bytes m h
 
-way_builds : (w : Way) (m : Made) → judgment w ≡ answered m → Builds (input w) (made_of m)
+way_builds : (w : Way) (m : Made) → judgment w ≡ Ok m → Builds (input w) (made_of m)
 way_builds (of_records n bytes) m h = host_builds n bytes m h
 way_builds (of_card bytes) m h = host_builds (numbers_in bytes) (drop records_at bytes) m (card_judged bytes m h)
 
@@ -97,8 +95,8 @@ module _ (x : Lent) (y : Source) (held : holds x ≡ true) (stands : source_of x
 -- a chain that begins with the ends of a g. interval
 chained : (s : Bool) (t : Transcript) (o : Outcome (Interval ℤ)) → chain asks_n (and_then o (ours.g_to_n s t)) (ours.n_to_c s t) ≡ and_then o (ours.g_to_c s t)
 unfolding map_g_to_c
-chained s t (answered i) = refl
-chained s t (refused k) = refl
+chained s t (Ok i) = refl
+chained s t (Err k) = refl
 
 sees : (x : Lent) (t : Transcript) → holds x ≡ true → source_of x ≡ aligned t → Sees ours x t
 unfolding ask_g_to_n ask_n_to_g ask_n_to_c ask_c_to_n ask_g_to_c ask_c_to_g ask_coding ask_in_bounds ask_steps map_c_to_g
@@ -128,11 +126,11 @@ module _ (w : Way) (head : List ℤ) (was : Tables) (exons : List ℕ) where
   memory = written_by w head was exons
 
   -- what building wrote is the head, the tables and the exon numbers of what it made
-  written_is : (m : Made) → judgment w ≡ answered m → memory ≡ lent_for m
+  written_is : (m : Made) → judgment w ≡ Ok m → memory ≡ lent_for m
   unfolding head_at
   written_is m h = ap (λ (j : Outcome Made). beside (head_at (built_head (built_answer j) head)) (tables_after j was) (exons_after j exons)) h
 
-  seen : (m : Made) → judgment w ≡ answered m → Sees ours memory (made_of m)
+  seen : (m : Made) → judgment w ≡ Ok m → Sees ours memory (made_of m)
   seen m h =
       let sane = way_sane w m h in
       rw (written_is m h) (sees (lent_for m) (made_of m) (built_holds m sane) (built_stands m sane))
@@ -166,18 +164,18 @@ sees_length x len c held stands = record {
     it : {A : Type 0} (ask : Source → Outcome A) → checked x ask ≡ ask (length_only len c)
     it = reached x (length_only len c) held stands
 
-    ended : (o : Answer NPosition) → ◌≡◌ {A = Answer GPosition} (chain asks_n o (λ (i : Interval NAsked). refused no_genome)) (and_then o (λ n. refused no_genome))
-    ended (answered n) = refl
-    ended (refused k) = refl
+    ended : (o : Answer NPosition) → ◌≡◌ {A = Answer GPosition} (chain asks_n o (λ (i : Interval NAsked). Err NoGenome)) (and_then o (λ n. Err NoGenome))
+    ended (Ok n) = refl
+    ended (Err k) = refl
 
 pub host_sees_length : HostSeesLength
 unfolding head_at
 host_sees_length len bits start end head was exons z = go (judge_length len bits start end) refl (refusals.build_length len bits start end) z
   where
     go : (j : Outcome Measured) → judge_length len bits start end ≡ j → Only length_refusals j → built_number (length_answer j) ≡ 0
-        → (m : Measured) × (j ≡ answered m) × SeesLength (written_by_length j head was exons) m.bases m.coding
-    go (refused k) e only z = absurd (not_0 length_refusals k refl only.only z)
-    go (answered m) e only z =
+        → (m : Measured) × (j ≡ Ok m) × SeesLength (written_by_length j head was exons) m.bases m.coding
+    go (Err k) e only z = absurd (not_0 length_refusals k refl only.only z)
+    go (Ok m) e only z =
         let measures = measured_means len bits start end m e in
         (m, refl, sees_length (beside (length_head m) was exons) m.bases m.coding (measured_holds m was exons measures.small (measured_inside len bits start end m measures)) (measured_stands m was exons))
 
@@ -216,22 +214,22 @@ there place ks {a} none h z e = subst Answered e (answered_at place ks a none h 
 
 -- the numbers of an answer that bears a mark of certainty
 up_laid : {P : Type 0} (place : ℕ → P → Position) → ((k n : ℕ) (a : P) → place (k + n) a ≡ place_up n (place k a)) → (n : ℕ) (gaps : Bool) (a : Marked P) → MarkedIf gaps a.mark
-    → laid place (answer_up n (answered a)) ≡ told_up n (laid place (answered a))
+    → laid place (answer_up n (Ok a)) ≡ told_up n (laid place (Ok a))
 up_laid {P} place moves n gaps a = go a.mark gaps
   where
     other_mark : (k l : ℕ) → k ≡ l → eqb k l ≡ false → ⊥
     other_mark k l e h = eqb-false k l h e
 
-    go : (m : Mark) (gaps : Bool) → MarkedIf gaps m → laid place (answer_up n (answered (record { mark = m; interval = a.interval }))) ≡ told_up n (laid place (answered (record { mark = m; interval = a.interval })))
+    go : (m : Mark) (gaps : Bool) → MarkedIf gaps m → laid place (answer_up n (Ok (record { mark = m; interval = a.interval }))) ≡ told_up n (laid place (Ok (record { mark = m; interval = a.interval })))
     go (certain e) gaps h = rw (moves e.from n a.interval.from, moves e.to n a.interval.to)
     go (uncertain e) gaps h = rw (moves e.from n a.interval.from, moves e.to n a.interval.to)
     go unmarked true h = absurd (other_mark 3 2 (ap mark_number h) refl)
     go unmarked false h = absurd (other_mark 3 1 (ap mark_number h) refl)
 
-up_told : {P : Type 0} (place : ℕ → P → Position) → ((k n : ℕ) (a : P) → place (k + n) a ≡ place_up n (place k a)) → (n : ℕ) (gaps : Bool) (o : Answer P) → Answered o
-    → ((a : Marked P) → o ≡ answered a → MarkedIf gaps a.mark) → laid place (answer_up n o) ≡ told_up n (laid place o)
-up_told place moves n gaps (answered a) ok marked = up_laid place moves n gaps a (marked a refl)
-up_told place moves n gaps (refused k) bad marked = absurd bad
+up_told : {P : Type 0} (place : ℕ → P → Position) → ((n : ℕ) (k : Refusal) (a : P) → place (k + n) a ≡ place_up n (place k a)) → (n : ℕ) (gaps : Bool) (o : Answer P) → Answered o
+    → ((a : Marked P) → o ≡ Ok a → MarkedIf gaps a.mark) → laid place (answer_up n o) ≡ told_up n (laid place o)
+up_told place moves n gaps (Ok a) ok marked = up_laid place moves n gaps a (marked a refl)
+up_told place moves n gaps (Err k) bad marked = absurd bad
 
 chained_back : (t : Transcript) (q : Interval CAsked) → ask_c_to_g strict q (aligned t) ≡ map_c_to_g strict t q
 unfolding ask_c_to_g ask_c_to_n ask_n_to_g map_c_to_g

@@ -2,7 +2,7 @@
 --     OwnLog0         over the memory that a log was made on, its replay tells 0, whatever was asked
 --     ListsDiffering   an index is listed exactly where the recorded answer is not what is said now; indices rise
 use Rattle.std.specs.Prelude.{ℕ, ◌<◌, ◌≤◌, true, List, [], ◌∷◌, ◌≡◌, length, get_or, take}
-use Rattle.refusals.specs.Outcome.{answered}
+use Rattle.refusals.specs.Outcome.{Ok}
 use Rattle.refusals.specs.Refusing.{one_of}
 use Rattle.holding.specs.Holding.{Lent, holds}
 use Rattle.taking.specs.declared.question.Question.{Question}
@@ -19,7 +19,7 @@ zero_line = 48 ∷ 10 ∷ []
 
 -- a question at least was recorded, what is lent holds together, and the buffer has room for the line
 abbrev pub OwnLog0 : Type 0
-OwnLog0 = (x : Lent) (s : List ℕ) (used : ℕ) (qs : List Question) (room : ℕ) → Made x s used qs → 0 < used → holds x ≡ true → length zero_line ≤ room → replaying x (take used s) room ≡ answered zero_line
+OwnLog0 = (x : Lent) (s : List ℕ) (used : ℕ) (qs : List Question) (room : ℕ) → Made x s used qs → 0 < used → holds x ≡ true → length zero_line ≤ room → replaying x (take used s) room ≡ Ok zero_line
 
 -- of a log of these entries these indices are listed
 pub record Lists (x : Lent) (es : List Entry) (indices : List ℕ) : Type 0 where
@@ -29,5 +29,5 @@ pub record Lists (x : Lent) (es : List Entry) (indices : List ℕ) : Type 0 wher
 
 -- where there is a text, the bytes are a log, and the text lists what differs
 abbrev pub ListsDiffering : Type 0
-ListsDiffering = (x : Lent) (log : List ℕ) (room : ℕ) (text : List ℕ) → replaying x log room ≡ answered text
-    → (es : List Entry) × (indices : List ℕ) × (read_log log ≡ answered es) × Lists x es indices × (text ≡ replay_text indices)
+ListsDiffering = (x : Lent) (log : List ℕ) (room : ℕ) (text : List ℕ) → replaying x log room ≡ Ok text
+    → (es : List Entry) × (indices : List ℕ) × (read_log log ≡ Ok es) × Lists x es indices × (text ≡ replay_text indices)

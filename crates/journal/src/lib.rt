@@ -9,7 +9,7 @@ ghost use Rattle.entries.specs.Entries.{entry_bytes};
 ghost use Rattle.journal.specs.Logs.{header_bytes, is_marked, is_headed, entries_from, all_canonical, read_log, answer_of, fitted, appending, appended_of, log_after};
 
 use entries::{ENTRY_SIZE, Entry};
-use refusals::{MOST_LOG, NO_LOG, NO_ROOM, TOO_MUCH};
+use refusals::{MOST_LOG, Refusal};
 
 const VERSION: u32 = 1;
 
@@ -75,21 +75,21 @@ fn are_canonical(log: &[u8], count: usize) -> bool
 }
 
 // How many entries bytes are, or a refusal.
-pub fn read_log(log: &[u8]) -> ReadLog
+pub fn read_log(log: &[u8]) -> Result<usize, Refusal>
     ensures { result ≡ answer_of (read_log log.now) }
 {
     let size = log.len();
     if MOST_LOG < size {
-        return ReadLog::Refused(TOO_MUCH);
+        return Err(Refusal::TooMuch);
     }
     if is_headed(log, size) {
         let count = (size - ENTRIES_AT) / ENTRY_SIZE;
         if are_canonical(log, count) {
-            return ReadLog::Entries(count);
+            return Ok(count);
         }
-        return ReadLog::Refused(NO_LOG);
+        return Err(Refusal::NoLog);
     }
-    ReadLog::Refused(NO_LOG)
+    Err(Refusal::NoLog)
 }
 
 // Writes the mark and the version at the front.
@@ -104,42 +104,42 @@ fn put_header(log: &mut [u8])
 }
 
 // The first entry, behind the header.
-fn put_first(log: &mut [u8], entry: Entry) -> Appended
+fn put_first(log: &mut [u8], entry: Entry) -> Result<usize, Refusal>
     ensures value { result ≡ appended_of 0 (fitted (length log.old) 0 (header_bytes ++ entry_bytes entry)) }
     ensures log_after { log.new ≡ log_after log.old 0 (fitted (length log.old) 0 (header_bytes ++ entry_bytes entry)) }
 {
     let size = ENTRIES_AT + ENTRY_SIZE;
     if log.len() < size {
-        return Appended::Refused(NO_ROOM);
+        return Err(Refusal::NoRoom);
     }
     put_header(log);
     entries::put_entry(log, ENTRIES_AT, entry);
-    Appended::Length(size)
+    Ok(size)
 }
 
 // An entry more, behind the bytes in use.
-fn put_next(log: &mut [u8], used: usize, entry: Entry) -> Appended
+fn put_next(log: &mut [u8], used: usize, entry: Entry) -> Result<usize, Refusal>
     ensures value { result ≡ appended_of used (fitted (length log.old) used (entry_bytes entry)) }
     ensures log_after { log.new ≡ log_after log.old used (fitted (length log.old) used (entry_bytes entry)) }
 {
     if MOST_LOG - ENTRY_SIZE < used {
-        return Appended::Refused(TOO_MUCH);
+        return Err(Refusal::TooMuch);
     }
     let size = used + ENTRY_SIZE;
     if log.len() < size {
-        return Appended::Refused(NO_ROOM);
+        return Err(Refusal::NoRoom);
     }
     entries::put_entry(log, used, entry);
-    Appended::Length(size)
+    Ok(size)
 }
 
 // Puts an entry behind the bytes in use, or refuses and leaves all bytes as they are.
-pub fn append(log: &mut [u8], used: usize, entry: Entry) -> Appended
+pub fn append(log: &mut [u8], used: usize, entry: Entry) -> Result<usize, Refusal>
     ensures value { result ≡ appended_of used (appending log.old used entry) }
     ensures log_after { log.new ≡ log_after log.old used (appending log.old used entry) }
 {
     if log.len() < used {
-        return Appended::Refused(NO_LOG);
+        return Err(Refusal::NoLog);
     }
     if used == 0 {
         return put_first(log, entry);
@@ -147,5 +147,5 @@ pub fn append(log: &mut [u8], used: usize, entry: Entry) -> Appended
     if is_headed(log, used) {
         return put_next(log, used, entry);
     }
-    Appended::Refused(NO_LOG)
+    Err(Refusal::NoLog)
 }

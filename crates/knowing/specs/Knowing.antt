@@ -1,13 +1,11 @@
 -- What is known of what a host lends, as the code holds it. Assumes nothing.
-use Rattle.std.specs.Prelude.{ℕ, true, List, ◌≡◌, pos, nat_abs, if◌then◌else◌}
+use Rattle.std.specs.Prelude.{ℕ, true, List, ◌≡◌, pos, nat_abs, if◌then◌else◌, Some, None, Option}
 use Rattle.std.specs.Int.Signed.{le_z}
 use Rattle.transcript.specs.Transcript.{Cds}
 use Rattle.transcript.specs.Transcript.Cds.{no_cds, cds}
 use Rattle.transcript.specs.declared.Head.{Head}
 use Rattle.holding.specs.Holding.{of_records, is_forward, both_given, segments_in, records_in, cds_holds, Lent, holds}
 use Rattle.holding.specs.Parts.{bases_of}
-use Rattle.holding.specs.declared.Bases.{Bases}
-use Rattle.holding.specs.declared.Bases.TheVariants as bases
 use Rattle.spots.specs.declared.Alignment.{Alignment}
 use Rattle.knowing.specs.declared.Coding.{Coding}
 use Rattle.knowing.specs.declared.Coding.TheVariants as coding
@@ -35,9 +33,9 @@ abbrev pub known_of : Lent → Known
 known_of x = if holds x then head_says x.head else known.Broken
 
 -- of a transcript whose tables are not looked at, by how many bases it has: what its head says, where the CDS holds
-abbrev pub told_by : Head → Bases → Known
-told_by h (bases.Known n) = if cds_holds h n then head_says h else known.Broken
-told_by h bases.Unknown = known.Broken
+abbrev pub told_by : Head → Option ℕ → Known
+told_by h (Some n) = if cds_holds h n then head_says h else known.Broken
+told_by h None = known.Broken
 
 unfoldable pub told_of : Head → List ℕ → Known
 told_of h transcript = told_by h (bases_of h transcript)

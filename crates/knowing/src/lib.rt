@@ -8,7 +8,6 @@ ghost use Rattle.holding.specs.Holding.{head_holds, lent, holds};
 ghost use Rattle.holding.specs.Parts.{tables_hold};
 ghost use Rattle.knowing.specs.Knowing.{NaturalBounds, alignment_of, coding_in, told_of, known_of};
 
-use holding::Bases;
 use refusals::{MOST_SEGMENTS, MOST_STARTS};
 use spots::Alignment;
 use transcript::{BOTH_GIVEN, Head, OF_RECORDS};
@@ -65,7 +64,7 @@ pub fn told_of(head: Head, transcript: &[u32; MOST_STARTS]) -> Known
     ensures { result ≡ told_of head transcript.now }
 {
     match holding::bases_of(head, transcript) {
-        Bases::Known(bases) => {
+        Some(bases) => {
             if holding::cds_holds(head, bases) {
                 let cds = coding_of(head);
                 let kind = head.kind;
@@ -76,7 +75,7 @@ pub fn told_of(head: Head, transcript: &[u32; MOST_STARTS]) -> Known
             }
             Known::Broken
         }
-        Bases::Unknown => Known::Broken,
+        None => Known::Broken,
     }
 }
 

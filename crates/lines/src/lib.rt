@@ -15,7 +15,6 @@ ghost use Rattle.card.specs.Writing.{judge_card};
 ghost use Rattle.lines.specs.Lengths.{most_number, most_numbers, most_header, most_line, most_listing, most_refusal};
 
 use refusals::{MOST_SEGMENTS, MOST_STARTS};
-use transcript::Built;
 
 // The most bytes of a header and of a line, whose numbers have ten digits at most, and of a listing: 71,719.
 const MOST_HEADER: usize = 39;
@@ -212,11 +211,11 @@ pub fn list_card(
     ensures exons_after { exons.new ≡ exons_after (judge_card card.now) exons.old }
 {
     match card::build_card(card, genome, transcript, letters, exons) {
-        Built::Transcript(head) => {
+        Ok(head) => {
             let forward = is_plus(head.strand as i64);
             let count = count_in(head.count);
             put_listing(buffer, forward, count, genome, transcript, letters)
         }
-        Built::Refused(k) => put_refusal(buffer, k),
+        Err(k) => put_refusal(buffer, k),
     }
 }

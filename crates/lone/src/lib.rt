@@ -16,7 +16,7 @@ ghost use Rattle.lone.specs.Lone.{n_beside, g_beside, SoughtAt};
 
 use numbering::Place;
 use positions::{Exons, GAnswer, NAnswer, fitting};
-use refusals::{MOST_SEGMENTS, MOST_STARTS};
+use refusals::{MOST_SEGMENTS, MOST_STARTS, Refusal};
 use segments::{Edge, End, Spot, exons};
 use spots::Alignment;
 
@@ -110,7 +110,7 @@ pub fn one_to_n(
         let exon = exons::found(exons, count, spots::behind(at), start);
         return n_of_one(forward, spots::last(transcript, count), exon, start);
     }
-    NAnswer::Refused(refusals::OUTSIDE)
+    NAnswer::Refused(Refusal::Outside)
 }
 
 // The same in strict mode, by the number of the segment that holds the base, which is at hand.
@@ -143,7 +143,7 @@ pub fn one_to_n_at(
         let exon = exons::found(exons, count, spots::behind(at), start);
         return n_of_one(forward, spots::last(transcript, count), exon, start);
     }
-    NAnswer::Refused(refusals::OUTSIDE)
+    NAnswer::Refused(Refusal::Outside)
 }
 
 // The g. interval of two positions with one number, by its spot as an interval's start, and their offsets o and u.
@@ -206,5 +206,5 @@ pub fn g_of_one(
         let start = spots::spot_of_n(at, genome, transcript, letters, p, End::Start);
         return g_of_start(at, exons, start, o, u);
     }
-    GAnswer::Refused(refusals::OUTSIDE)
+    GAnswer::Refused(Refusal::Outside)
 }

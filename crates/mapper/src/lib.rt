@@ -8,7 +8,7 @@ ghost use Rattle.mapper.specs.Asking.{ask_g_to_n, ask_n_to_g, ask_n_to_c, ask_c_
 
 use knowing::Known;
 use positions::{CAnswer, CPlain, CQuestion, GAnswer, GQuestion, NAnswer, NPlain, NQuestion, Said};
-use refusals::{MOST_SEGMENTS, MOST_STARTS, NO_GENOME, NOT_TOGETHER};
+use refusals::{MOST_SEGMENTS, MOST_STARTS, Refusal};
 use transcript::Head;
 
 // g. to n.: 23, 18, 19, 14, 17.
@@ -27,8 +27,8 @@ pub fn g_to_n(
         Known::Aligned(at, _) => chaining::g_to_n(
             at, genome, transcript, letters, exons, q, strict,
         ),
-        Known::OfLength(_, _) => NAnswer::Refused(NO_GENOME),
-        Known::Broken => NAnswer::Refused(NOT_TOGETHER),
+        Known::OfLength(_, _) => NAnswer::Refused(Refusal::NoGenome),
+        Known::Broken => NAnswer::Refused(Refusal::NotTogether),
     }
 }
 
@@ -46,8 +46,8 @@ pub fn n_to_g(
 {
     match knowing::known_of(head, genome, transcript, letters, exons) {
         Known::Aligned(at, _) => places::to_g(at, genome, transcript, letters, exons, q, strict),
-        Known::OfLength(_, _) => GAnswer::Refused(NO_GENOME),
-        Known::Broken => GAnswer::Refused(NOT_TOGETHER),
+        Known::OfLength(_, _) => GAnswer::Refused(Refusal::NoGenome),
+        Known::Broken => GAnswer::Refused(Refusal::NotTogether),
     }
 }
 
@@ -69,7 +69,7 @@ pub fn n_to_c(
             chaining::n_to_c(spots::last(transcript, count), cds, q, strict)
         }
         Known::OfLength(length, cds) => chaining::n_to_c(length, cds, q, strict),
-        Known::Broken => CPlain::Refused(NOT_TOGETHER),
+        Known::Broken => CPlain::Refused(Refusal::NotTogether),
     }
 }
 
@@ -91,7 +91,7 @@ pub fn c_to_n(
             chaining::c_to_n(spots::last(transcript, count), cds, q, strict)
         }
         Known::OfLength(length, cds) => chaining::c_to_n(length, cds, q, strict),
-        Known::Broken => NPlain::Refused(NOT_TOGETHER),
+        Known::Broken => NPlain::Refused(Refusal::NotTogether),
     }
 }
 
@@ -114,8 +114,8 @@ pub fn g_to_c(
             let n = chaining::g_to_n(at, genome, transcript, letters, exons, q, strict);
             chaining::then_n_to_c(n, length, cds, strict)
         }
-        Known::OfLength(_, _) => CAnswer::Refused(NO_GENOME),
-        Known::Broken => CAnswer::Refused(NOT_TOGETHER),
+        Known::OfLength(_, _) => CAnswer::Refused(Refusal::NoGenome),
+        Known::Broken => CAnswer::Refused(Refusal::NotTogether),
     }
 }
 
@@ -141,7 +141,7 @@ pub fn c_to_g(
         Known::OfLength(length, cds) => chaining::then_no_genome(chaining::c_to_n(
             length, cds, q, strict,
         )),
-        Known::Broken => GAnswer::Refused(NOT_TOGETHER),
+        Known::Broken => GAnswer::Refused(Refusal::NotTogether),
     }
 }
 
@@ -158,7 +158,7 @@ pub fn is_coding_transcript(
     match knowing::known_of(head, genome, transcript, letters, exons) {
         Known::Aligned(_, cds) => chaining::is_coding(cds),
         Known::OfLength(_, cds) => chaining::is_coding(cds),
-        Known::Broken => Said::Refused(NOT_TOGETHER),
+        Known::Broken => Said::Refused(Refusal::NotTogether),
     }
 }
 
@@ -175,7 +175,7 @@ pub fn is_g_interval_in_bounds(
 {
     match knowing::known_of(head, genome, transcript, letters, exons) {
         Known::Aligned(at, _) => chaining::is_in_bounds(at, genome, q),
-        Known::OfLength(_, _) => Said::Refused(NO_GENOME),
-        Known::Broken => Said::Refused(NOT_TOGETHER),
+        Known::OfLength(_, _) => Said::Refused(Refusal::NoGenome),
+        Known::Broken => Said::Refused(Refusal::NotTogether),
     }
 }

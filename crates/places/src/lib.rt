@@ -11,7 +11,7 @@ ghost use Rattle.spots.specs.Mapping.{found_exons, chosen_exons, map_g_to_n, g_o
 ghost use Rattle.spots.specs.Aligned.{aligned_by, number_by, Aligns};
 
 use positions::{Exons, GAnswer, NAnswer, NAsked, NQuestion};
-use refusals::{MOST_SEGMENTS, MOST_STARTS};
+use refusals::{MOST_SEGMENTS, MOST_STARTS, Refusal};
 use segments::{End, Spot, exons};
 use spots::Alignment;
 
@@ -78,7 +78,7 @@ pub fn to_n(
         let numbers = found_exons(at, exons, a, b);
         return spots::n_answer(forward, spots::last(transcript, count), numbers, a, b);
     }
-    NAnswer::Refused(refusals::OUTSIDE)
+    NAnswer::Refused(Refusal::Outside)
 }
 
 // n. to g. of two positions in genomic order.
@@ -113,7 +113,7 @@ fn g_of_ends(
         let numbers = chosen_exons(at, exons, start, stop);
         return spots::g_answer(forward, at.first, numbers, start, stop, a.offset, b.offset);
     }
-    GAnswer::Refused(refusals::OUTSIDE)
+    GAnswer::Refused(Refusal::Outside)
 }
 
 // n. to g.: 14, then 17. On strand -1 start and end change places.

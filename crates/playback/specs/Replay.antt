@@ -1,7 +1,7 @@
 -- A log replayed on a transcript that is lent: which answers differ, and what is written of them. Assumes nothing.
 use Rattle.std.specs.Prelude.{ℕ, ◌+◌, Bool, not, ◌&&◌, List, [], ◌∷◌, ◌++◌, eqb, ltb, length, if◌then◌else◌}
-use Rattle.refusals.specs.Numbers.{no_room}
-use Rattle.refusals.specs.Outcome.{Outcome, answered, refused, and_then, through}
+use Rattle.refusals.specs.Numbers.{NoRoom}
+use Rattle.refusals.specs.Outcome.{Outcome, Ok, Err, and_then, through}
 use Rattle.whole.specs.Whole.{eq_z}
 use Rattle.transcript.specs.Transcript.{Source}
 use Rattle.holding.specs.Holding.{Lent, checked}
@@ -46,7 +46,7 @@ replayed x log = checked x (λ (s : Source). through (λ (es : List Entry). repl
 
 -- 20 where a text is longer than the buffer
 abbrev pub roomed : ℕ → List ℕ → Outcome (List ℕ)
-roomed room text = if ltb room (length text) then refused no_room else answered text
+roomed room text = if ltb room (length text) then Err NoRoom else Ok text
 
 -- the text of a log, for a buffer of that many bytes: 23, 3, 35, 20
 unfoldable pub replaying : Lent → List ℕ → ℕ → Outcome (List ℕ)

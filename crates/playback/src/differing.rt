@@ -15,8 +15,7 @@ use entries::ENTRY_SIZE;
 use journal::ENTRIES_AT;
 use layout::lay;
 use layout::lay::{Answer, Position};
-use refusals::{MOST_SEGMENTS, MOST_STARTS, NO_ROOM};
-use spelling::Written;
+use refusals::{MOST_SEGMENTS, MOST_STARTS, Refusal};
 use transcript::Head;
 
 // How many entries differ, and how many bytes the lines of their indices take.
@@ -128,7 +127,7 @@ pub fn list<'a>(
     log: &'a [u8],
     count: usize,
     buffer: &mut [u8],
-) -> Written
+) -> Result<usize, Refusal>
     requires { (count ≤ most_entries) × (entries_at + entry_size * count ≤ length log.now) }
     ensures value { result ≡ written_answer (roomed (length buffer.old) (replay_text (differing (lent head genome.now transcript.now letters.now exons.now) (entries_from count log.now entries_at)))) }
     ensures buffer_after { buffer.new ≡ buffer_after buffer.old (roomed (length buffer.old) (replay_text (differing (lent head genome.now transcript.now letters.now exons.now) (entries_from count log.now entries_at)))) }
@@ -137,9 +136,9 @@ pub fn list<'a>(
     let total = lines.total;
     let size = lines.size + text::line_len(total);
     if buffer.len() < size {
-        return Written::Refused(NO_ROOM);
+        return Err(Refusal::NoRoom);
     }
     let end = put_lines(head, genome, transcript, letters, exons, log, count, buffer);
     text::put_line(buffer, end, total);
-    Written::Text(size)
+    Ok(size)
 }

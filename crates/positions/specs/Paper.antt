@@ -1,6 +1,6 @@
 -- What the code's structs and enums say, in the paper's terms: a contract sets these values equal to a definition's. Assumes nothing.
 use Rattle.std.specs.Prelude.{ℕ, Bool, true, false}
-use Rattle.refusals.specs.Outcome.{Outcome, answered, refused}
+use Rattle.refusals.specs.Outcome.{Outcome, Ok, Err}
 use Rattle.positions.specs.Positions.{Interval, GAsked, at, missing, NAsked, CAsked, GPosition, NPosition, CPosition}
 use Rattle.positions.specs.Answers.{Answer, certainly, uncertainly, plainly}
 use Rattle.positions.specs.declared.GAsked as code_g_asked
@@ -69,16 +69,16 @@ paper_c_interval i = record { from = paper_c_position i.from; to = paper_c_posit
 
 -- one end of an interval, or its refusal
 abbrev pub paper_g_end : code_g_end.GEnd → Outcome GPosition
-paper_g_end (code_g_end.TheVariants.At a) = answered (paper_g_position a)
-paper_g_end (code_g_end.TheVariants.Refused k) = refused k
+paper_g_end (code_g_end.TheVariants.At a) = Ok (paper_g_position a)
+paper_g_end (code_g_end.TheVariants.Refused k) = Err k
 
 abbrev pub paper_n_end : code_n_end.NEnd → Outcome NPosition
-paper_n_end (code_n_end.TheVariants.At a) = answered (paper_n_position a)
-paper_n_end (code_n_end.TheVariants.Refused k) = refused k
+paper_n_end (code_n_end.TheVariants.At a) = Ok (paper_n_position a)
+paper_n_end (code_n_end.TheVariants.Refused k) = Err k
 
 abbrev pub paper_c_end : code_c_end.CEnd → Outcome CPosition
-paper_c_end (code_c_end.TheVariants.At a) = answered (paper_c_position a)
-paper_c_end (code_c_end.TheVariants.Refused k) = refused k
+paper_c_end (code_c_end.TheVariants.At a) = Ok (paper_c_position a)
+paper_c_end (code_c_end.TheVariants.Refused k) = Err k
 
 -- ---- answers
 
@@ -88,27 +88,27 @@ paper_exons x = record { from = x.from; to = x.to }
 abbrev pub paper_g : code_g_answer.GAnswer → Answer GPosition
 paper_g (code_g_answer.TheVariants.Certain i exons) = certainly (paper_exons exons) (paper_g_interval i)
 paper_g (code_g_answer.TheVariants.Uncertain i exons) = uncertainly (paper_exons exons) (paper_g_interval i)
-paper_g (code_g_answer.TheVariants.Refused k) = refused k
+paper_g (code_g_answer.TheVariants.Refused k) = Err k
 
 abbrev pub paper_n : code_n_answer.NAnswer → Answer NPosition
 paper_n (code_n_answer.TheVariants.Certain i exons) = certainly (paper_exons exons) (paper_n_interval i)
 paper_n (code_n_answer.TheVariants.Uncertain i exons) = uncertainly (paper_exons exons) (paper_n_interval i)
-paper_n (code_n_answer.TheVariants.Refused k) = refused k
+paper_n (code_n_answer.TheVariants.Refused k) = Err k
 
 abbrev pub paper_c : code_c_answer.CAnswer → Answer CPosition
 paper_c (code_c_answer.TheVariants.Certain i exons) = certainly (paper_exons exons) (paper_c_interval i)
 paper_c (code_c_answer.TheVariants.Uncertain i exons) = uncertainly (paper_exons exons) (paper_c_interval i)
-paper_c (code_c_answer.TheVariants.Refused k) = refused k
+paper_c (code_c_answer.TheVariants.Refused k) = Err k
 
 abbrev pub paper_n_plain : code_n_plain.NPlain → Answer NPosition
 paper_n_plain (code_n_plain.TheVariants.Told i) = plainly (paper_n_interval i)
-paper_n_plain (code_n_plain.TheVariants.Refused k) = refused k
+paper_n_plain (code_n_plain.TheVariants.Refused k) = Err k
 
 abbrev pub paper_c_plain : code_c_plain.CPlain → Answer CPosition
 paper_c_plain (code_c_plain.TheVariants.Told i) = plainly (paper_c_interval i)
-paper_c_plain (code_c_plain.TheVariants.Refused k) = refused k
+paper_c_plain (code_c_plain.TheVariants.Refused k) = Err k
 
 abbrev pub paper_said : code_said.Said → Outcome Bool
-paper_said code_said.TheVariants.Yes = answered true
-paper_said code_said.TheVariants.No = answered false
-paper_said (code_said.TheVariants.Refused k) = refused k
+paper_said code_said.TheVariants.Yes = Ok true
+paper_said code_said.TheVariants.No = Ok false
+paper_said (code_said.TheVariants.Refused k) = Err k

@@ -1,16 +1,16 @@
 // Numbers of the boundary as whole numbers and back: 17 where one does not fit its 32 bits; and intervals of two such ends.
 ghost use Rattle.std.specs.Prelude.{◌≡◌};
 ghost use Rattle.whole.specs.Whole.{Within};
-ghost use Rattle.refusals.specs.Outcome.{through, Outcome.answered};
+ghost use Rattle.refusals.specs.Outcome.{through};
 ghost use Rattle.positions.specs.Answers.{g_fits, n_fits, c_fits, if_fits, ends, after, mark_of, Mark.unmarked};
 ghost use Rattle.positions.specs.Paper.{paper_g_end, paper_n_end, paper_c_end, paper_n_plain, paper_c_plain, paper_exons, paper_g_interval, paper_g, paper_n, paper_c};
 
+use refusals::Refusal;
 use crate::{
     CAnswer, CInterval, CPlain, CPosition, Exons, GAnswer, GInterval, GPosition, NAnswer,
     NInterval, NPlain, NPosition,
 };
 use numbering::{CNumber, NNumber};
-use whole::Fit;
 
 // A g. position, or why there is none.
 #[derive(Clone, Copy)]
@@ -46,8 +46,8 @@ pub fn g_end(g: i64) -> GEnd
     ensures { paper_g_end result ≡ if_fits g_fits (record { base = g }) }
 {
     match whole::fits(g) {
-        Fit::Number(base) => GEnd::At(GPosition { base }),
-        Fit::TooWide => GEnd::Refused(refusals::TOO_WIDE),
+        Some(base) => GEnd::At(GPosition { base }),
+        None => GEnd::Refused(Refusal::TooWide),
     }
 }
 
@@ -56,11 +56,11 @@ pub fn n_end(n: NNumber, offset: i64) -> NEnd
     ensures { paper_n_end result ≡ if_fits n_fits (record { base = n.0; offset = offset }) }
 {
     match whole::fits(n.0) {
-        Fit::Number(base) => match whole::fits(offset) {
-            Fit::Number(offset) => NEnd::At(NPosition { base, offset }),
-            Fit::TooWide => NEnd::Refused(refusals::TOO_WIDE),
+        Some(base) => match whole::fits(offset) {
+            Some(offset) => NEnd::At(NPosition { base, offset }),
+            None => NEnd::Refused(Refusal::TooWide),
         },
-        Fit::TooWide => NEnd::Refused(refusals::TOO_WIDE),
+        None => NEnd::Refused(Refusal::TooWide),
     }
 }
 
@@ -70,8 +70,8 @@ pub fn c_end(c: CNumber, offset: i32) -> CEnd
 {
     let star = c.1;
     match whole::fits(c.0) {
-        Fit::Number(base) => CEnd::At(CPosition { base, star, offset }),
-        Fit::TooWide => CEnd::Refused(refusals::TOO_WIDE),
+        Some(base) => CEnd::At(CPosition { base, star, offset }),
+        None => CEnd::Refused(Refusal::TooWide),
     }
 }
 
@@ -114,7 +114,7 @@ pub fn g_marked(sure: bool, exons: Exons, a: GEnd, b: GEnd) -> GAnswer
 }
 
 fn g_interval(sure: bool, exons: Exons, i: GInterval) -> GAnswer
-    ensures { paper_g result ≡ answered (record { mark = mark_of sure (paper_exons exons); interval = paper_g_interval i }) }
+    ensures { paper_g result ≡ Ok (record { mark = mark_of sure (paper_exons exons); interval = paper_g_interval i }) }
 {
     if sure {
         GAnswer::Certain(i, exons)

@@ -14,7 +14,7 @@ ghost use Rattle.reading.specs.Tallies.{Bounded, BoundedTally, one_on, nothing, 
 
 use cigar::Step;
 use records::{ALT_END, ALT_START, CIGAR_TEXT};
-use refusals::{MOST_SEGMENTS, MOST_TEXT, NOT_SPANNING, TOO_MUCH};
+use refusals::{MOST_SEGMENTS, MOST_TEXT, Refusal};
 
 // How many segments there are, and how far they go along the genome and the transcript.
 #[derive(Clone, Copy)]
@@ -47,7 +47,7 @@ pub fn one_on(from: Sums, letter: u8, count: u32) -> Sums
 }
 
 // The sums with the elements of one text.
-fn tally_text(text: &[u8], from: Sums) -> Tally
+fn tally_text(text: &[u8], from: Sums) -> Result<Sums, Refusal>
     requires { Bounded from }
     ensures { (result ≡ tallied from (read_all (most_segments - from.count) text.now)) × BoundedTally result }
 {
@@ -57,13 +57,13 @@ fn tally_text(text: &[u8], from: Sums) -> Tally
         match cigar::step_at(text, at) {
             Step::Element(count, letter, next) => {
                 if sums.count == MOST_SEGMENTS {
-                    return Tally::Refused(TOO_MUCH);
+                    return Err(Refusal::TooMuch);
                 }
                 sums = one_on(sums, letter, count);
                 at = next;
             }
-            Step::Refused(k) => return Tally::Refused(k),
-            Step::End => return Tally::Sums(sums),
+            Step::Refused(k) => return Err(k),
+            Step::End => return Ok(sums),
         }
     }
 }
@@ -83,23 +83,23 @@ fn spans(start: i32, end: i32, length: u64) -> bool
 }
 
 // The sums with the elements of the record at `at`, or 32 where they are not as long along the genome as its bounds.
-fn tally_record(s: &[u8], at: usize, from: Sums) -> Tally
+fn tally_record(s: &[u8], at: usize, from: Sums) -> Result<Sums, Refusal>
     requires { Stands s.now at × Bounded from }
     ensures { (result ≡ tallied from (spanned (record_at s.now at) (read_all (most_segments - from.count) (record_at s.now at).cigar))) × BoundedTally result }
 {
     let start = at + CIGAR_TEXT;
     let end = records::next_at(s, at);
     match tally_text(&s[start..end], from) {
-        Tally::Sums(to) => {
+        Ok(to) => {
             let alt_start = fields::i32_at(s, at + ALT_START);
             let alt_end = fields::i32_at(s, at + ALT_END);
             let length = to.genome - from.genome;
             if spans(alt_start, alt_end, length) {
-                return Tally::Sums(to);
+                return Ok(to);
             }
-            Tally::Refused(NOT_SPANNING)
+            Err(Refusal::NotSpanning)
         }
-        Tally::Refused(k) => Tally::Refused(k),
+        Err(k) => Err(k),
     }
 }
 
@@ -124,13 +124,13 @@ pub fn gap_at(s: &[u8], previous: usize, at: usize) -> u32
 }
 
 // The sums of the first record's elements.
-pub fn tally_first(s: &[u8]) -> Tally
+pub fn tally_first(s: &[u8]) -> Result<Sums, Refusal>
     requires { Stands s.now 0 }
     ensures { (result ≡ tallied nothing (spanned (record_at s.now 0) (read_first (record_at s.now 0)))) × BoundedTally result }
 {
     let to = records::next_at(s, 0);
     if to - CIGAR_TEXT > MOST_TEXT {
-        return Tally::Refused(TOO_MUCH);
+        return Err(Refusal::TooMuch);
     }
     let from = Sums {
         count: 0,
@@ -141,7 +141,7 @@ pub fn tally_first(s: &[u8]) -> Tally
 }
 
 // The sums with the gap before the record at `at` and its elements.
-pub fn tally_next(s: &[u8], previous: usize, at: usize, from: Sums) -> Tally
+pub fn tally_next(s: &[u8], previous: usize, at: usize, from: Sums) -> Result<Sums, Refusal>
     requires cigar_text_in_bounds { (previous + cigar_text ≤ length s.now) × Stands s.now at }
     requires beside { Beside (record_at s.now previous) (record_at s.now at) }
     requires bounded { Bounded from }
@@ -150,17 +150,17 @@ pub fn tally_next(s: &[u8], previous: usize, at: usize, from: Sums) -> Tally
     let start = at + CIGAR_TEXT;
     let to = records::next_at(s, at);
     if to - start > MOST_TEXT {
-        return Tally::Refused(TOO_MUCH);
+        return Err(Refusal::TooMuch);
     }
     if from.count == MOST_SEGMENTS {
-        return Tally::Refused(TOO_MUCH);
+        return Err(Refusal::TooMuch);
     }
     let gap = gap_at(s, previous, at);
     tally_record(s, at, one_on(from, b'N', gap))
 }
 
 // The sums with the records after the one at `previous`.
-fn tally_rest(s: &[u8], previous: usize, left: usize, at: usize, from: Sums) -> Tally
+fn tally_rest(s: &[u8], previous: usize, left: usize, at: usize, from: Sums) -> Result<Sums, Refusal>
     requires walk { Walk s.now previous left at }
     requires bounded { Bounded from }
     ensures { (result ≡ tallied_after (genome_end_of (record_at s.now previous)) from (exons_after from.count (records_from left s.now at))) × BoundedTally result }
@@ -171,29 +171,29 @@ fn tally_rest(s: &[u8], previous: usize, left: usize, at: usize, from: Sums) -> 
     let mut sums = from;
     while k > 0 {
         match tally_next(s, p, a, sums) {
-            Tally::Sums(to) => {
+            Ok(to) => {
                 sums = to;
                 p = a;
                 a = records::next_at(s, a);
                 k -= 1;
             }
-            Tally::Refused(number) => return Tally::Refused(number),
+            Err(number) => return Err(number),
         }
     }
-    Tally::Sums(sums)
+    Ok(sums)
 }
 
 // The sums of all records' elements.
-pub fn tally_all(count: usize, s: &[u8]) -> Tally
+pub fn tally_all(count: usize, s: &[u8]) -> Result<Sums, Refusal>
     requires { Ready count s.now }
     ensures { (result ≡ tallied_all (exons_of (records_from count s.now 0))) × BoundedTally result }
 {
     match tally_first(s) {
-        Tally::Sums(first) => {
+        Ok(first) => {
             let at = records::next_at(s, 0);
             let left = count - 1;
             tally_rest(s, 0, left, at, first)
         }
-        Tally::Refused(k) => Tally::Refused(k),
+        Err(k) => Err(k),
     }
 }

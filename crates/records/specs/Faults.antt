@@ -1,7 +1,7 @@
 -- Refusals 4, 5 and 6: what is asked of a record, and of it beside the one before it. 0 is no refusal. Assumes nothing.
 use Rattle.std.specs.Prelude.{ℕ, Bool, cond, List, [], ◌∷◌, eqb, ℤ, pos, if◌then◌else◌}
 use Rattle.std.specs.Int.Signed.{lt_z}
-use Rattle.refusals.specs.Numbers.{bad_bound, bad_ord, not_adjacent}
+use Rattle.refusals.specs.Numbers.{BadBound, BadOrd, NotAdjacent}
 use Rattle.whole.specs.Whole.{eq_z}
 use Rattle.records.specs.Records.{Record}
 
@@ -13,22 +13,22 @@ k or_else l = cond (eqb k 0) l k
 -- 4: a bound is negative, or the end is below the start
 unfoldable pub span_fault : ℤ → ℤ → ℕ
 span_fault start end =
-    if lt_z start (pos 0) then bad_bound
-    else if lt_z end (pos 0) then bad_bound
-    else if lt_z end start then bad_bound
+    if lt_z start (pos 0) then BadBound
+    else if lt_z end (pos 0) then BadBound
+    else if lt_z end start then BadBound
     else 0
 
 -- 4: a genome start below the previous end
 unfoldable pub start_fault : ℤ → ℤ → ℕ
-start_fault previous_end start = if lt_z start previous_end then bad_bound else 0
+start_fault previous_end start = if lt_z start previous_end then BadBound else 0
 
 -- 5: `ord` does not rise strictly
 unfoldable pub rise_fault : ℤ → ℤ → ℕ
-rise_fault a b = if lt_z a b then 0 else bad_ord
+rise_fault a b = if lt_z a b then 0 else BadOrd
 
 -- 6: an exon's transcript end differs from the next one's start
 unfoldable pub join_fault : ℤ → ℤ → ℕ
-join_fault end start = if eq_z end start then 0 else not_adjacent
+join_fault end start = if eq_z end start then 0 else NotAdjacent
 
 -- 4 of a record alone
 unfoldable pub own_fault : Record → ℕ

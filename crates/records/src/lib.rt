@@ -7,6 +7,8 @@ ghost use Rattle.records.specs.Layout.{cigar_text};
 ghost use Rattle.records.specs.Records.{field_at, next_at, record_at, exactly, records_from};
 ghost use Rattle.records.specs.Faults.{span_fault, start_fault, rise_fault, join_fault, own_fault, follow_fault, pair_fault, faults};
 
+use refusals::Refusal;
+
 // Where a record's numbers stand in it, and where its CIGAR's bytes begin.
 pub const ALT_START: usize = 0;
 
@@ -44,13 +46,13 @@ fn span_fault(start: i64, end: i64) -> u8
     ensures { result ≡ span_fault start end }
 {
     if start < 0 {
-        return refusals::BAD_BOUND;
+        return Refusal::BadBound;
     }
     if end < 0 {
-        return refusals::BAD_BOUND;
+        return Refusal::BadBound;
     }
     if end < start {
-        return refusals::BAD_BOUND;
+        return Refusal::BadBound;
     }
     0
 }
@@ -60,7 +62,7 @@ fn start_fault(previous_end: i64, start: i64) -> u8
     ensures { result ≡ start_fault previous_end start }
 {
     if start < previous_end {
-        return refusals::BAD_BOUND;
+        return Refusal::BadBound;
     }
     0
 }
@@ -72,7 +74,7 @@ fn rise_fault(a: i64, b: i64) -> u8
     if a < b {
         return 0;
     }
-    refusals::BAD_ORD
+    Refusal::BadOrd
 }
 
 // 6, where an exon does not end where the next one starts.
@@ -82,7 +84,7 @@ fn join_fault(end: i64, start: i64) -> u8
     if end == start {
         return 0;
     }
-    refusals::NOT_ADJACENT
+    Refusal::NotAdjacent
 }
 
 // 4, of a record alone.

@@ -5,10 +5,9 @@ ghost use Rattle.std.specs.Prelude.{◌≡◌};
 ghost use Rattle.lending.specs.Lending.{head_row};
 ghost use Rattle.results.specs.Results.{counted_laid, written_laid, number_laid, part_laid, built_number, built_head};
 
-use cigar::Counted;
+use refusals::Refusal;
 use layout::lay::Length;
-use spelling::Written;
-use transcript::{Built, Head};
+use transcript::{Head};
 
 // Where the changed part stands: of the reference (0) or of the alternative (1).
 #[repr(C)]
@@ -20,15 +19,15 @@ pub struct Part {
 }
 
 // A number of elements or words, as a length.
-pub fn counted_laid(counted: Counted) -> Length
+pub fn counted_laid(counted: Result<usize, Refusal>) -> Length
     ensures { result ≡ counted_laid counted }
 {
     match counted {
-        Counted::Count(n) => Length {
+        Ok(n) => Length {
             number: 0,
             length: n,
         },
-        Counted::Refused(k) => Length {
+        Err(k) => Length {
             number: k as u32,
             length: 0,
         },
@@ -36,15 +35,15 @@ pub fn counted_laid(counted: Counted) -> Length
 }
 
 // A text that was written, as a length.
-pub fn written_laid(written: Written) -> Length
+pub fn written_laid(written: Result<usize, Refusal>) -> Length
     ensures { result ≡ written_laid written }
 {
     match written {
-        Written::Text(n) => Length {
+        Ok(n) => Length {
             number: 0,
             length: n,
         },
-        Written::Refused(k) => Length {
+        Err(k) => Length {
             number: k as u32,
             length: 0,
         },
@@ -86,15 +85,15 @@ fn lay_head(h: Head, head: &mut [i32; 9])
 }
 
 // 0 and the head laid out, or a refusal's number with the head as it was.
-pub fn lay_built(b: Built, head: &mut [i32; 9]) -> u32
+pub fn lay_built(b: Result<Head, Refusal>, head: &mut [i32; 9]) -> u32
     ensures value { result ≡ built_number b }
     ensures head_after { head.new ≡ built_head b head.old }
 {
     match b {
-        Built::Transcript(h) => {
+        Ok(h) => {
             lay_head(h, head);
             0
         }
-        Built::Refused(k) => k as u32,
+        Err(k) => k as u32,
     }
 }

@@ -3,7 +3,7 @@ ghost use Rattle.std.specs.Prelude.{◌≡◌, true, ◌++◌, ◌<◌, ◌≤�
 ghost use Rattle.refusals.specs.Outcome.{number_of};
 ghost use Rattle.strands.specs.Turned.{partner, are_bases, on_strand, turning, turned_into};
 
-use refusals::{NO_BASE, NO_ROOM};
+use refusals::Refusal;
 
 // What stands for a letter's partner where it has none.
 const NO_PARTNER: u8 = 0;
@@ -91,10 +91,10 @@ pub fn turn(allele: &[u8], buffer: &mut [u8]) -> u8
 {
     if are_bases(allele) {
         if buffer.len() < allele.len() {
-            return NO_ROOM;
+            return Refusal::NoRoom;
         }
         put_on_strand(allele, true, buffer);
         return 0;
     }
-    NO_BASE
+    Refusal::NoBase
 }

@@ -2,8 +2,8 @@
 use Prim.Native.Nat.{ℕ}
 use mathlib.Core.Bool.{Bool, true}
 use mathlib.Core.Path.{◌≡◌, refl, ap, ◌∙◌}
-use Rattle.refusals.specs.Outcome.{refused, through}
-use Rattle.refusals.specs.Numbers.{not_coding}
+use Rattle.refusals.specs.Outcome.{Err, through}
+use Rattle.refusals.specs.Numbers.{NotCoding}
 use Rattle.transcript.specs.Transcript.{no_cds, cds}
 use Rattle.positions.specs.Positions.{NPosition, asks_n}
 use Rattle.positions.specs.Answers.{certain, once, ends, after, chain}
@@ -19,6 +19,6 @@ c_once strict len from to exon n =
     ap (through (after (certain (record { from = exon; to = exon })))) (one_to_c_lem strict len from to (asks_n n)) ∙ ends_after true (record { from = exon; to = exon }) end end
 
 -- 13 after the first step, where there is no CDS
-pub c_missing : (strict : Bool) (len exon : ℕ) (n : NPosition) → chain asks_n (once exon n) (map_n_to_c strict len no_cds) ≡ refused not_coding
+pub c_missing : (strict : Bool) (len exon : ℕ) (n : NPosition) → chain asks_n (once exon n) (map_n_to_c strict len no_cds) ≡ Err NotCoding
 unfolding map_n_to_c c_of_interval
 c_missing strict len exon n = refl

@@ -17,7 +17,7 @@ use layout::lay::Answer;
 use lone::Sought;
 use positions::CQuestion;
 use positions::fitting::{CEnd, GEnd, NEnd};
-use refusals::{MOST_SEGMENTS, MOST_STARTS, NOT_CODING};
+use refusals::{MOST_SEGMENTS, MOST_STARTS, Refusal};
 use segments::Spot;
 use spots::Alignment;
 
@@ -78,7 +78,7 @@ pub fn sure_c(
                 CEnd::At(c) => lay::lay_one_c(exon, c),
                 CEnd::Refused(k) => lay::refusal_of(k),
             },
-            Coding::Missing => lay::refusal_of(NOT_CODING),
+            Coding::Missing => lay::refusal_of(Refusal::NotCoding),
         },
         NEnd::Refused(k) => lay::refusal_of(k),
     }

@@ -1,6 +1,6 @@
 -- A base that is sought as both ends of a g. interval. Assumes nothing.
 use Rattle.std.specs.Prelude.{ℕ, List, ◌≡◌, ℤ}
-use Rattle.refusals.specs.Outcome.{Outcome, answered}
+use Rattle.refusals.specs.Outcome.{Outcome, Ok}
 use Rattle.positions.specs.Positions.{Interval}
 use Rattle.spots.specs.Mapping.{place_of_g}
 use Rattle.spots.specs.declared.Alignment.{Alignment}
@@ -10,7 +10,7 @@ use Rattle.lone.specs.declared.Sought as code
 -- both ends are given and are one number, and its place is p
 pub record Based (a : Alignment) (ends : Outcome (Interval ℤ)) (p : ℤ) : Type 0 where
   pub g : ℤ
-  pub both : ends ≡ answered (record { from = g; to = g })
+  pub both : ends ≡ Ok (record { from = g; to = g })
   pub place : p ≡ place_of_g a.first g
 
 -- it is that place, where it was seen

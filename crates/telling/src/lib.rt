@@ -29,7 +29,7 @@ use layout::lay::Answer;
 use lone::Sought;
 use numbering::Place;
 use positions::CAnswer;
-use refusals::{MISSING_END, MOST_SEGMENTS, MOST_STARTS, NO_GENOME, NOT_TOGETHER};
+use refusals::{MOST_SEGMENTS, MOST_STARTS, Refusal};
 use spots::Alignment;
 use transcript::Head;
 // The base that a g. interval is, sought in the genome's table. A base is sought before the tables are looked at: halving waits for one entry after the other, and the processor looks at the tables meanwhile.
@@ -65,7 +65,7 @@ fn interval_n(
         Given::Ends(from, to) => lay::lay_n(places::to_n(
             at, genome, transcript, letters, exons, from, to, strict,
         )),
-        Given::Missing => lay::refusal_of(MISSING_END),
+        Given::Missing => lay::refusal_of(Refusal::MissingEnd),
     }
 }
 
@@ -103,10 +103,10 @@ pub fn g_to_n(
                 }
                 return interval_n(at, genome, transcript, letters, exons, ends, strict);
             }
-            lay::refusal_of(NOT_TOGETHER)
+            lay::refusal_of(Refusal::NotTogether)
         }
-        Known::OfLength(_, _) => lay::refusal_of(NO_GENOME),
-        Known::Broken => lay::refusal_of(NOT_TOGETHER),
+        Known::OfLength(_, _) => lay::refusal_of(Refusal::NoGenome),
+        Known::Broken => lay::refusal_of(Refusal::NotTogether),
     }
 }
 
@@ -150,7 +150,7 @@ fn interval_c(
             let n = places::to_n(at, genome, transcript, letters, exons, from, to, strict);
             lay::lay_c(chaining::then_n_to_c(n, len, cds, strict))
         }
-        Given::Missing => lay::refusal_of(MISSING_END),
+        Given::Missing => lay::refusal_of(Refusal::MissingEnd),
     }
 }
 
@@ -190,10 +190,10 @@ pub fn g_to_c(
                 }
                 return interval_c(at, genome, transcript, letters, exons, cds, ends, strict);
             }
-            lay::refusal_of(NOT_TOGETHER)
+            lay::refusal_of(Refusal::NotTogether)
         }
-        Known::OfLength(_, _) => lay::refusal_of(NO_GENOME),
-        Known::Broken => lay::refusal_of(NOT_TOGETHER),
+        Known::OfLength(_, _) => lay::refusal_of(Refusal::NoGenome),
+        Known::Broken => lay::refusal_of(Refusal::NotTogether),
     }
 }
 
@@ -239,11 +239,11 @@ pub fn c_to_g(
                     n, at, genome, transcript, letters, exons, strict,
                 ));
             }
-            lay::refusal_of(NOT_TOGETHER)
+            lay::refusal_of(Refusal::NotTogether)
         }
         Known::OfLength(length, cds) => {
             lay::lay_g(chaining::then_no_genome(chaining::c_to_n(length, cds, asked, strict)))
         }
-        Known::Broken => lay::refusal_of(NOT_TOGETHER),
+        Known::Broken => lay::refusal_of(Refusal::NotTogether),
     }
 }

@@ -55,36 +55,36 @@ pub enum Built {
 }
 
 // A CDS bound, whose number counts only where it is given.
-fn bound_of(given: bool, number: i32) -> Bound
+fn bound_of(given: bool, number: i32) -> Option<i32>
     ensures { result ≡ bound_of given number }
 {
     if given {
-        return Bound::Given(number);
+        return Some(number);
     }
-    Bound::Absent
+    None
 }
 
 // The CDS start.
-pub fn start_of(bits: u32, number: i32) -> Bound
+pub fn start_of(bits: u32, number: i32) -> Option<i32>
     ensures { result ≡ start_of bits number }
 {
     bound_of(bits % 2 == 1, number)
 }
 
 // The CDS end.
-pub fn end_of(bits: u32, number: i32) -> Bound
+pub fn end_of(bits: u32, number: i32) -> Option<i32>
     ensures { result ≡ end_of bits number }
 {
     bound_of(2 <= bits, number)
 }
 
 // The number of a bound, 0 where it is not given.
-pub fn number_of(bound: Bound) -> i32
+pub fn number_of(bound: Option<i32>) -> i32
     ensures { result ≡ number_of bound }
 {
     match bound {
-        Bound::Given(n) => n,
-        Bound::Absent => 0,
+        Some(n) => n,
+        None => 0,
     }
 }
 

@@ -19,8 +19,8 @@ use lib.ListN.{length, get_or, drop, drop_of_length-le}
 use lib.Seq.{drop-cons}
 use Rattle.whole.specs.laws.Whole.{by_test}
 use borrow.Author.Tests.{lt-ltb, le-ltb, eq-eqb, ne_eqb}
-use Rattle.refusals.specs.Numbers.{too_much, no_room, no_operation, most_segments}
-use Rattle.refusals.specs.Outcome.{answered, refused}
+use Rattle.refusals.specs.Numbers.{TooMuch, NoRoom, NoOperation, most_segments}
+use Rattle.refusals.specs.Outcome.{Ok, Err}
 use Rattle.cigar.specs.Text.{element}
 use Rattle.words.specs.Words.{element_of_word, word_of, is_known, all_known, read_words, fault_of, fault_from, elements_at, write_words}
 use Rattle.words.specs.laws.RoundTrips.{fault_first}
@@ -81,24 +81,24 @@ module _ (counts : List ℤ) (letters : List ℕ) (number i : ℕ) where
 
 module _ (words : List ℕ) (c l : ℕ) where
   -- whatever their number
-  pub unknown_read : all_known words ≡ false → read_words words c l ≡ refused no_operation
+  pub unknown_read : all_known words ≡ false → read_words words c l ≡ Err NoOperation
   unfolding read_words
   unknown_read k = by_test (ltb most_segments (length words)) (λ m. rw (m, k)) (λ m. rw (m, k))
 
-  pub many_read : all_known words ≡ true → most_segments < length words → read_words words c l ≡ refused too_much
+  pub many_read : all_known words ≡ true → most_segments < length words → read_words words c l ≡ Err TooMuch
   unfolding read_words
   many_read k h = rw (k, lt-ltb most_segments (length words) h)
 
   module _ (k : all_known words ≡ true) (few : length words ≤ most_segments) where
-    pub counts_full : c < length words → read_words words c l ≡ refused no_room
+    pub counts_full : c < length words → read_words words c l ≡ Err NoRoom
     unfolding read_words
     counts_full h = rw (k, le-ltb most_segments (length words) few, lt-ltb c (length words) h)
 
-    pub letters_full : length words ≤ c → l < length words → read_words words c l ≡ refused no_room
+    pub letters_full : length words ≤ c → l < length words → read_words words c l ≡ Err NoRoom
     unfolding read_words
     letters_full r h = rw (k, le-ltb most_segments (length words) few, le-ltb c (length words) r, lt-ltb l (length words) h)
 
-    pub all_read : length words ≤ c → length words ≤ l → read_words words c l ≡ answered (map element_of_word words)
+    pub all_read : length words ≤ c → length words ≤ l → read_words words c l ≡ Ok (map element_of_word words)
     unfolding read_words
     all_read r h = rw (k, le-ltb most_segments (length words) few, le-ltb c (length words) r, le-ltb l (length words) h)
 
@@ -106,20 +106,20 @@ module _ (number : ℕ) (counts : List ℤ) (letters : List ℕ) (room : ℕ) wh
   abbrev fault : ℕ
   fault = fault_from counts letters 0 (min number most_segments)
 
-  pub fault_written : (fault ≡ 0 → ⊥) → write_words number counts letters room ≡ refused fault
+  pub fault_written : (fault ≡ 0 → ⊥) → write_words number counts letters room ≡ Err fault
   unfolding write_words
   fault_written k = rw (ne_eqb fault 0 k)
 
   module _ (k : fault ≡ 0) where
-    pub many_words : most_segments < number → write_words number counts letters room ≡ refused too_much
+    pub many_words : most_segments < number → write_words number counts letters room ≡ Err TooMuch
     unfolding write_words
     many_words h = rw (eq-eqb fault 0 k, lt-ltb most_segments number h)
 
-    pub full_words : number ≤ most_segments → room < number → write_words number counts letters room ≡ refused no_room
+    pub full_words : number ≤ most_segments → room < number → write_words number counts letters room ≡ Err NoRoom
     unfolding write_words
     full_words few h = rw (eq-eqb fault 0 k, le-ltb most_segments number few, lt-ltb room number h)
 
-    pub all_written : number ≤ most_segments → number ≤ room → write_words number counts letters room ≡ answered (map word_of (elements_at counts letters 0 number))
+    pub all_written : number ≤ most_segments → number ≤ room → write_words number counts letters room ≡ Ok (map word_of (elements_at counts letters 0 number))
     unfolding write_words
     all_written few h = rw (eq-eqb fault 0 k, le-ltb most_segments number few, le-ltb room number h)
 

@@ -11,10 +11,7 @@ ghost use Rattle.cigar.specs.Read.{counts_after, letters_after, FullLength, Fill
 ghost use Rattle.spelling.specs.Write.{buffer_after};
 ghost use Rattle.words.specs.Words.{letter_of, code_of, length_in, code_in, element_of_word, word_of, is_known, all_known, read_words, fault_of, fault_from, elements_at, write_words, counted_words, Room};
 
-use cigar::Counted;
-use refusals::{
-    MOST_SEGMENTS, MOST_WORD_COUNT, NO_ELEMENT, NO_OPERATION, NO_ROOM, NO_WORD, TOO_MUCH,
-};
+use refusals::{MOST_SEGMENTS, MOST_WORD_COUNT, Refusal};
 
 // The lower 4 bits of a word have room for so many codes: the word is its length times that, and its code.
 const CODES: u32 = 16;
@@ -76,7 +73,7 @@ fn fill_from_words(words: &[u32], counts: &mut [i32], letters: &mut [u8])
 }
 
 // The elements of BAM's words in their order, read into the fronts of two lent tables, or a refusal, which leaves them as they are. On strand -1 the caller turns them round.
-pub fn read_words(words: &[u32], counts: &mut [i32], letters: &mut [u8]) -> Counted
+pub fn read_words(words: &[u32], counts: &mut [i32], letters: &mut [u8]) -> Result<usize, Refusal>
     ensures value { result ≡ counted_of (read_words words.now (length counts.old) (length letters.old)) }
     ensures counts_after { counts.new ≡ counts_after counts.old (read_words words.now (length counts.old) (length letters.old)) }
     ensures letters_after { letters.new ≡ letters_after letters.old (read_words words.now (length counts.old) (length letters.old)) }
@@ -84,18 +81,18 @@ pub fn read_words(words: &[u32], counts: &mut [i32], letters: &mut [u8]) -> Coun
     let number = words.len();
     if all_known(words) {
         if MOST_SEGMENTS < number {
-            return Counted::Refused(TOO_MUCH);
+            return Err(Refusal::TooMuch);
         }
         if counts.len() < number {
-            return Counted::Refused(NO_ROOM);
+            return Err(Refusal::NoRoom);
         }
         if letters.len() < number {
-            return Counted::Refused(NO_ROOM);
+            return Err(Refusal::NoRoom);
         }
         fill_from_words(words, counts, letters);
-        return Counted::Count(number);
+        return Ok(number);
     }
-    Counted::Refused(NO_OPERATION)
+    Err(Refusal::NoOperation)
 }
 
 // The code of one of the six letters.
@@ -119,14 +116,14 @@ fn fault_of(count: i32, letter: u8) -> u8
 {
     if cigar::is_letter(letter) {
         if count < 0 {
-            return NO_WORD;
+            return Refusal::NoWord;
         }
         if MOST_WORD_COUNT < count {
-            return NO_WORD;
+            return Refusal::NoWord;
         }
         return 0;
     }
-    NO_ELEMENT
+    Refusal::NoElement
 }
 
 // The first refusal of the first elements of the tables, 0 for none.
@@ -188,7 +185,7 @@ pub fn write_words(
     counts: &[i32; MOST_SEGMENTS],
     letters: &[u8; MOST_SEGMENTS],
     words: &mut [u32],
-) -> Counted
+) -> Result<usize, Refusal>
     ensures value { result ≡ counted_words (write_words number counts.now letters.now (length words.old)) }
     ensures words_after { words.new ≡ buffer_after words.old (write_words number counts.now letters.now (length words.old)) }
 {
@@ -197,13 +194,13 @@ pub fn write_words(
     let fault = first_fault(judged, counts, letters);
     if fault == 0 {
         if MOST_SEGMENTS < number {
-            return Counted::Refused(TOO_MUCH);
+            return Err(Refusal::TooMuch);
         }
         if words.len() < number {
-            return Counted::Refused(NO_ROOM);
+            return Err(Refusal::NoRoom);
         }
         put_words(number, counts, letters, words);
-        return Counted::Count(number);
+        return Ok(number);
     }
-    Counted::Refused(fault)
+    Err(fault)
 }

@@ -7,8 +7,8 @@ use mathlib.Core.List.{List, [], ◌∷◌, map}
 use mathlib.Core.Path.{◌≡◌, refl, sym, ap, ap₂, ◌∙◌}
 use lib.Dec.{T, eqb, lit<}
 use lib.IntN.{nat_abs}
-use Rattle.refusals.specs.Numbers.{no_genome, not_together, falling}
-use Rattle.refusals.specs.Outcome.{answered, refused}
+use Rattle.refusals.specs.Numbers.{NoGenome, NotTogether, Falling}
+use Rattle.refusals.specs.Outcome.{Ok, Err}
 use Rattle.whole.specs.laws.Whole.{by_test}
 use Rattle.segments.specs.laws.Meaning.{holds_means}
 use Rattle.transcript.specs.Transcript.{Transcript}
@@ -40,7 +40,7 @@ is_false false h = refl
 module _ (x : Lent) where
   -- why a list is not walked, by what is known
   module _ (rises : Bool) where
-    pub why_aligned : (a : Alignment) (c : Coding) → known_of x ≡ known.Aligned a c → why_not x rises ≡ (if rises then 0 else falling)
+    pub why_aligned : (a : Alignment) (c : Coding) → known_of x ≡ known.Aligned a c → why_not x rises ≡ (if rises then 0 else Falling)
     why_aligned a c =
         by_test (holds x)
         (λ e.
@@ -49,7 +49,7 @@ module _ (x : Lent) where
         (λ r. rw (e, r) (λ k. let z : ◌≡◌ {A = ℕ} 0 1 = cc in absurd (omega arith))))
         (λ e. rw e (λ k. let z : ◌≡◌ {A = ℕ} 0 1 = cc in absurd (omega arith)))
 
-    pub why_length : (n : ℕ) (c : Coding) → known_of x ≡ known.OfLength n c → why_not x rises ≡ no_genome
+    pub why_length : (n : ℕ) (c : Coding) → known_of x ≡ known.OfLength n c → why_not x rises ≡ NoGenome
     why_length n c =
         by_test (holds x)
         (λ e.
@@ -58,7 +58,7 @@ module _ (x : Lent) where
         (λ r. rw (e, r) (λ k. refl)))
         (λ e. rw e (λ k. let z : ◌≡◌ {A = ℕ} 0 1 = cc in absurd (omega arith)))
 
-    pub why_broken : known_of x ≡ known.Broken → why_not x rises ≡ not_together
+    pub why_broken : known_of x ≡ known.Broken → why_not x rises ≡ NotTogether
     why_broken =
         by_test (holds x)
         (λ e.
@@ -99,12 +99,12 @@ module _ (x : Lent) where
     slots_alike (y ∷ ys) = ap₂ ◌∷◌ (slot_alike y) (slots_alike ys)
 
     module _ (ys : List Slot) (sorted : never_falls (positions_of ys) ≡ true) where
-      pub walked_steps : listed x ys ≡ answered (steps_of (track_by (alignment_of x.head) x.tables.genome) (positions_of ys))
+      pub walked_steps : listed x ys ≡ Ok (steps_of (track_by (alignment_of x.head) x.tables.genome) (positions_of ys))
       unfolding ask_steps
       walked_steps =
           let w = together x e r in
           checked_held x (ask_steps (positions_of ys)) e
-          ∙ rw (source_of_records x r, sorted) (ap answered (steps_by_table x.tables (segments_of x) (nat_abs x.head.first) (holds_means x.tables (segments_of x) (held_segments x w)) (some x w) (positions_of ys)))
+          ∙ rw (source_of_records x r, sorted) (ap Ok (steps_by_table x.tables (segments_of x) (nat_abs x.head.first) (holds_means x.tables (segments_of x) (held_segments x w)) (some x w) (positions_of ys)))
 
       pub walked_slots : slots_after x ys ≡ map (answered_by asked_of) ys
       walked_slots = rw walked_steps (slots_alike ys)
@@ -112,7 +112,7 @@ module _ (x : Lent) where
   -- ---- the list that is not
 
   module _ (ys : List Slot) where
-    pub refused_steps : eqb (why_not x (never_falls (positions_of ys))) 0 ≡ false → listed x ys ≡ refused (why_not x (never_falls (positions_of ys)))
+    pub refused_steps : eqb (why_not x (never_falls (positions_of ys))) 0 ≡ false → listed x ys ≡ Err (why_not x (never_falls (positions_of ys)))
     unfolding ask_steps
     refused_steps =
         by_test (holds x)

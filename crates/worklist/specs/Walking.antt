@@ -1,6 +1,6 @@
 -- Where the walk stands at a slot, and what it is to write there. Assumes nothing.
 use Rattle.std.specs.Prelude.{ℕ, ◌≤◌, ◌<◌, Bool, true, List, ◌≡◌, ℤ, if◌then◌else◌}
-use Rattle.refusals.specs.Numbers.{no_genome, not_together, falling}
+use Rattle.refusals.specs.Numbers.{NoGenome, NotTogether, Falling}
 use Rattle.transcript.specs.Transcript.{Transcript}
 use Rattle.holding.specs.Holding.{of_records, Lent, holds}
 use Rattle.spots.specs.Mapping.{map_g_to_n}
@@ -28,4 +28,4 @@ answered_by t s = record { position = s.position; answer = laid n_laid (map_g_to
 
 -- why a list is not walked, where this says that it never falls; 0 where it is
 abbrev pub why_not : Lent → Bool → ℕ
-why_not x rises = if holds x then (if of_records x.head then (if rises then 0 else falling) else no_genome) else not_together
+why_not x rises = if holds x then (if of_records x.head then (if rises then 0 else Falling) else NoGenome) else NotTogether

@@ -5,11 +5,10 @@ ghost use Rattle.std.specs.Prelude.{◌≡◌};
 ghost use Rattle.holding.specs.Holding.{lent};
 ghost use Rattle.worklist.specs.Worklist.{listed, steps_laid, slots_after};
 ghost use Rattle.worklist.specs.Walking.{why_not};
-ghost use Rattle.refusals.specs.Outcome.{Outcome.refused};
 
 use knowing::Known;
 use layout::lay::Answer;
-use refusals::{FALLING, MOST_SEGMENTS, MOST_STARTS, NO_GENOME, NOT_TOGETHER};
+use refusals::{MOST_SEGMENTS, MOST_STARTS, Refusal};
 use transcript::Head;
 
 pub mod order;
@@ -43,15 +42,15 @@ fn why_not<'a>(
     ensures { result ≡ why_not (lent head genome.now transcript.now letters.now exons.now) rises }
 {
     match knowing::known_of(head, genome, transcript, letters, exons) {
-        Known::Aligned(_, _) => { if rises { 0 } else { FALLING } }
-        Known::OfLength(_, _) => NO_GENOME,
-        Known::Broken => NOT_TOGETHER,
+        Known::Aligned(_, _) => { if rises { 0 } else { Refusal::Falling } }
+        Known::OfLength(_, _) => Refusal::NoGenome,
+        Known::Broken => Refusal::NotTogether,
     }
 }
 
 // A refusal of the whole list.
 fn refused(number: u8) -> Steps
-    ensures { result ≡ steps_laid (refused number) }
+    ensures { result ≡ steps_laid (Err number) }
 {
     Steps {
         number: number as u32,

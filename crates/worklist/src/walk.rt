@@ -1,7 +1,6 @@
 // The walk: slots are answered from the first to the last, along the segments from the first on, and it never steps back.
 ghost use Rattle.std.specs.Prelude.{◌≡◌, true, map, ◌≤◌};
 ghost use Rattle.refusals.specs.Numbers.{most_segments};
-ghost use Rattle.refusals.specs.Outcome.{Outcome.answered};
 ghost use Rattle.segments.specs.Tables.{tables};
 ghost use Rattle.spots.specs.Aligned.{aligned_by, Aligns, InSegment};
 ghost use Rattle.worklist.specs.Worklist.{positions_of, never_falls, steps_of, steps_laid};
@@ -47,7 +46,7 @@ fn answer_slot<'a>(
 // How far the walk went.
 fn told(index: usize) -> Steps
     requires { index ≤ most_segments }
-    ensures { result ≡ steps_laid (answered index) }
+    ensures { result ≡ steps_laid (Ok index) }
 {
     Steps {
         number: 0,
@@ -65,7 +64,7 @@ pub fn fill<'a>(
     slots: &mut [Slot],
 ) -> Steps
     requires { Aligns at (tables genome.now transcript.now letters.now) × (never_falls (positions_of slots.old) ≡ true) }
-    ensures { (result ≡ steps_laid (answered (steps_of (track_by at genome.now) (positions_of slots.old)))) × (slots.new ≡ map (answered_by (aligned_by at (tables genome.now transcript.now letters.now) exons.now)) slots.old) }
+    ensures { (result ≡ steps_laid (Ok (steps_of (track_by at genome.now) (positions_of slots.old)))) × (slots.new ≡ map (answered_by (aligned_by at (tables genome.now transcript.now letters.now) exons.now)) slots.old) }
 {
     let mut index = 0;
     let mut i = 0;

@@ -1,10 +1,11 @@
 -- `alleles::join` meets its contract: the tests are those of the join in its order, and nothing is stored until all of them have passed. Assumes nothing.
+use Rattle.refusals.specs.Numbers.{Refusal}
 use Prim.Native.Nat.{ℕ}
 use mathlib.Core.Bool.{Bool, true, ◌&&◌}
 use mathlib.Core.List.{List, ◌++◌}
 use mathlib.Core.Path.{◌≡◌, refl, sym, ap, ap₂, ◌∙◌}
 use lib.ListN.{length, drop}
-use Rattle.refusals.specs.Outcome.{refused, number_of, Answered, through}
+use Rattle.refusals.specs.Outcome.{Err, number_of, Answered, through}
 use Rattle.whole.specs.laws.Whole.{both}
 use Rattle.holding.specs.Holding.{Lent, lent}
 use Rattle.positions.specs.Positions.{Interval, GAsked, CPosition}
@@ -136,4 +137,4 @@ returns c =
     let e = c.before.before in
     let g = e.before in
     let no : order.number (x g) (strict g) (q g) (s g) (room g) ≡ 0 → ⊥ = λ z. e.if-number-eq0.false (found g ∙ z) in
-    rw (order.stops (x g) (strict g) (q g) (s g) (room g) no) record { value = c.refused.ensures ∙ ap (λ (k : ℕ). joined_laid (refused k)) (found g); reference_out_after = refl; alternative_out_after = refl }
+    rw (order.stops (x g) (strict g) (q g) (s g) (room g) no) record { value = c.refused.ensures ∙ ap (λ (k : Refusal). joined_laid (Err k)) (found g); reference_out_after = refl; alternative_out_after = refl }

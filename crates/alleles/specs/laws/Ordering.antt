@@ -7,8 +7,8 @@ use Rattle.std.specs.Prelude.{ℕ, Bool, true, false, ◌&&◌, List, ◌++◌, 
 use Rattle.std.proofs.lemmas.Bool.{false≢true}
 use Rattle.std.proofs.Common.{sym, ◌∙◌, arith, eqb-true}
 use Rattle.std.proofs.Math.Path.{ap}
-use Rattle.refusals.specs.Numbers.{no_room, no_base, not_together}
-use Rattle.refusals.specs.Outcome.{Outcome, answered, refused, Answered, number_of, and_then, through}
+use Rattle.refusals.specs.Numbers.{NoRoom, NoBase, NotTogether}
+use Rattle.refusals.specs.Outcome.{Outcome, Ok, Err, Answered, number_of, and_then, through}
 use Rattle.refusals.specs.Refusing.{one_of, Only}
 use Rattle.whole.specs.laws.Whole.{by_test}
 use Rattle.holding.specs.Holding.{of_records, Lent, holds, source_of, checked}
@@ -36,13 +36,13 @@ cut back s = trimmed (alleles (on_strand back s.reference) (on_strand back s.alt
 
 -- the tests as the code makes them
 abbrev decide : Answer CPosition → Bool → Bool → Trimmed → Outcome Joining
-decide plain bases room t = if bases then (if room then through (beside t) plain else refused no_room) else refused no_base
+decide plain bases room t = if bases then (if room then through (beside t) plain else Err NoRoom) else Err NoBase
 
 abbrev decide_all : Answer CPosition → Bool → Bool → Trimmed → Outcome Joining
-decide_all plain bases room t = if eqb (number_of plain) not_together then refused not_together else decide plain bases room t
+decide_all plain bases room t = if eqb (number_of plain) NotTogether then Err NotTogether else decide plain bases room t
 
 module _ (room : Rooms) (plain : Answer CPosition) where
-  room_step : (t : Trimmed) → and_then (fitting_both room t) (λ (u : Trimmed). through (beside u) plain) ≡ (if have_room room t then through (beside t) plain else refused no_room)
+  room_step : (t : Trimmed) → and_then (fitting_both room t) (λ (u : Trimmed). through (beside u) plain) ≡ (if have_room room t then through (beside t) plain else Err NoRoom)
   room_step t =
       by_test (ltb room.reference (length t.left.reference))
       (λ e. rw e)
@@ -60,34 +60,34 @@ reads_back_lem : (x : Lent) → reads_back (source_of x) ≡ head_reads_back x.h
 reads_back_lem x = by_test (of_records x.head) (λ r. rw (source_of_records x r, r)) (λ r. rw (source_of_length x r, r))
 
 -- the mapping itself never says 23
-not_23 : (o : Answer CPosition) → Only plain_refusals o → eqb (number_of o) not_together ≡ false
-not_23 (answered i) h = refl
-not_23 (refused k) h = by_test (eqb k not_together) (λ e. absurd (false≢true (rw (eqb-true k not_together e) at h).only)) (λ e. e)
+not_23 : (o : Answer CPosition) → Only plain_refusals o → eqb (number_of o) NotTogether ≡ false
+not_23 (Ok i) h = refl
+not_23 (Err k) h = by_test (eqb k NotTogether) (λ e. absurd (false≢true (rw (eqb-true k NotTogether e) at h).only)) (λ e. e)
 
 -- where none of the tests refuses
 goes_of : (ks : List ℕ) → one_of 0 ks ≡ false → (plain : Answer CPosition) (bases room : Bool) (t : Trimmed) → Only ks plain → first_refusal (number_of plain) bases room ≡ 0
     → (bases ≡ true) × (room ≡ true) × Answered plain × (decide_all plain bases room t ≡ through (beside t) plain)
-goes_of ks n (answered i) true true t h e = (refl, refl, tt, refl)
-goes_of ks n (answered i) true false t h e = let z : ◌≡◌ {A = ℕ} no_room 0 = e in absurd (omega arith)
-goes_of ks n (answered i) false room t h e = let z : ◌≡◌ {A = ℕ} no_base 0 = e in absurd (omega arith)
-goes_of ks n (refused k) bases room t h e =
-    by_test (eqb k not_together)
-    (λ f. let z : ◌≡◌ {A = ℕ} not_together 0 = rw f at e in absurd (omega arith))
+goes_of ks n (Ok i) true true t h e = (refl, refl, tt, refl)
+goes_of ks n (Ok i) true false t h e = let z : ◌≡◌ {A = ℕ} NoRoom 0 = e in absurd (omega arith)
+goes_of ks n (Ok i) false room t h e = let z : ◌≡◌ {A = ℕ} NoBase 0 = e in absurd (omega arith)
+goes_of ks n (Err k) bases room t h e =
+    by_test (eqb k NotTogether)
+    (λ f. let z : ◌≡◌ {A = ℕ} NotTogether 0 = rw f at e in absurd (omega arith))
     (λ f. absurd (own bases room (rw f at e)))
   where
-    own : (b r : Bool) → (if b then (if r then k else no_room) else no_base) ≡ 0 → ⊥
+    own : (b r : Bool) → (if b then (if r then k else NoRoom) else NoBase) ≡ 0 → ⊥
     own true true z = false≢true (sym n ∙ (rw z at h).only)
-    own true false z = let y : ◌≡◌ {A = ℕ} no_room 0 = z in omega arith
-    own false r z = let y : ◌≡◌ {A = ℕ} no_base 0 = z in omega arith
+    own true false z = let y : ◌≡◌ {A = ℕ} NoRoom 0 = z in omega arith
+    own false r z = let y : ◌≡◌ {A = ℕ} NoBase 0 = z in omega arith
 
 -- where one of them does
-stops_of : (plain : Answer CPosition) (bases room : Bool) (t : Trimmed) → (first_refusal (number_of plain) bases room ≡ 0 → ⊥) → decide_all plain bases room t ≡ refused (first_refusal (number_of plain) bases room)
-stops_of (answered i) true true t n = absurd (n refl)
-stops_of (answered i) true false t n = refl
-stops_of (answered i) false room t n = refl
-stops_of (refused k) bases room t n = by_test (eqb k not_together) (λ e. rw e) (λ e. rw e (own bases room))
+stops_of : (plain : Answer CPosition) (bases room : Bool) (t : Trimmed) → (first_refusal (number_of plain) bases room ≡ 0 → ⊥) → decide_all plain bases room t ≡ Err (first_refusal (number_of plain) bases room)
+stops_of (Ok i) true true t n = absurd (n refl)
+stops_of (Ok i) true false t n = refl
+stops_of (Ok i) false room t n = refl
+stops_of (Err k) bases room t n = by_test (eqb k NotTogether) (λ e. rw e) (λ e. rw e (own bases room))
   where
-    own : (b r : Bool) → decide (refused k) b r t ≡ refused (if b then (if r then k else no_room) else no_base)
+    own : (b r : Bool) → decide (Err k) b r t ≡ Err (if b then (if r then k else NoRoom) else NoBase)
     own true true = refl
     own true false = refl
     own false r = refl
@@ -126,19 +126,19 @@ module _ (x : Lent) (strict : Bool) (q : Interval GAsked) (s : Alleles) (room : 
       let (b, r, a, d) = goes_of (in_mode strict g_to_c_refusals) (zero_not strict) plain (both_bases s) (have_room room parts) parts (g_to_c_refuses x strict q) e in
       (b, r, a, decided ∙ d)
 
-  pub stops : (number ≡ 0 → ⊥) → joined x strict q s room ≡ refused number
+  pub stops : (number ≡ 0 → ⊥) → joined x strict q s room ≡ Err number
   stops n = decided ∙ stops_of plain (both_bases s) (have_room room parts) parts n
 
 -- ---- what is then laid out, and what the buffers hold
 
 pub laid_goes : (t : Trimmed) (plain : Answer CPosition) → Answered plain → laid_with plain t.gone (length t.left.reference) (length t.left.alternative) ≡ joined_laid (through (beside t) plain)
-laid_goes t (answered i) u = refl
-laid_goes t (refused k) u = absurd u
+laid_goes t (Ok i) u = refl
+laid_goes t (Err k) u = absurd u
 
 pub reference_goes : (buffer : List ℕ) (t : Trimmed) (plain : Answer CPosition) → Answered plain → t.left.reference ++ drop (length t.left.reference) buffer ≡ reference_after buffer (through (beside t) plain)
-reference_goes buffer t (answered i) u = refl
-reference_goes buffer t (refused k) u = absurd u
+reference_goes buffer t (Ok i) u = refl
+reference_goes buffer t (Err k) u = absurd u
 
 pub alternative_goes : (buffer : List ℕ) (t : Trimmed) (plain : Answer CPosition) → Answered plain → t.left.alternative ++ drop (length t.left.alternative) buffer ≡ alternative_after buffer (through (beside t) plain)
-alternative_goes buffer t (answered i) u = refl
-alternative_goes buffer t (refused k) u = absurd u
+alternative_goes buffer t (Ok i) u = refl
+alternative_goes buffer t (Err k) u = absurd u

@@ -1,8 +1,8 @@
 -- Worked examples of the join, computed: 10M, a gap of 5 and 8M with the first start 10 and the CDS 3..15, on either strand. Assumes nothing.
 use Rattle.std.specs.Prelude.{ℕ, true, List, [], ◌∷◌, map, ◌≡◌, refl, ℤ, pos, negsuc}
 use Prim.Native.Char.{Char, code}
-use Rattle.refusals.specs.Numbers.{no_genome, missing_end, no_room, not_together, no_base, outside}
-use Rattle.refusals.specs.Outcome.{refused, through}
+use Rattle.refusals.specs.Numbers.{NoGenome, MissingEnd, NoRoom, NotTogether, NoBase, Outside}
+use Rattle.refusals.specs.Outcome.{Err, through}
 use Rattle.whole.specs.Fits.{fits, fit_of}
 use Rattle.numbering.specs.Numbers.{n_of_place, c_of_n, skip_zero}
 use Rattle.cigar.specs.Elements.{letter_m, letter_n, is_letter, kind_of, genome, transcript, total}
@@ -99,6 +99,6 @@ pub worked_order :
     ∷ joined backward true no_end cac (rooms 2 0)
     ∷ joined backward true before cac (rooms 2 0)
     ∷ []
-    ≡ map refused (not_together ∷ no_base ∷ no_base ∷ no_base ∷ no_room ∷ no_room ∷ no_genome ∷ missing_end ∷ outside ∷ [])
+    ≡ map Err (NotTogether ∷ NoBase ∷ NoBase ∷ NoBase ∷ NoRoom ∷ NoRoom ∷ NoGenome ∷ MissingEnd ∷ Outside ∷ [])
 unfolding computing
 worked_order = refl

@@ -8,7 +8,7 @@ use Rattle.std.specs.Int.{w32}
 use Rattle.std.proofs.Common.{SFits}
 use borrow.Author.Tests.{eqb-true, eqb-false, eq-eqb, leb-true, ltb-true, lt-ltb}
 use Rattle.refusals.specs.Numbers.{most_records}
-use Rattle.refusals.specs.Outcome.{answered, refused}
+use Rattle.refusals.specs.Outcome.{Ok, Err}
 use Rattle.refusals.specs.Refusing.{one_of, Only}
 use Rattle.whole.specs.Fits.{fit_of, fits}
 use Rattle.whole.specs.laws.Whole.{by_test, both, both_of}
@@ -149,16 +149,16 @@ listed_byte k (x ∷ xs) all h =
     (λ e. listed_byte k xs rest (rw e at h))
 
 said : {P : Type 0} (kind : ℕ) (place : ℕ → P → Position) (o : paper.Answer P) → are_bytes (refusals_of kind) ≡ true → Only (refusals_of kind) o
-    → ((a : Marked P) → o ≡ answered a → OfKind kind place a) → Sayable kind (laid place o)
+    → ((a : Marked P) → o ≡ Ok a → OfKind kind place a) → Sayable kind (laid place o)
 unfolding sayable is_nowhere
-said kind place (answered a) bytes only told =
+said kind place (Ok a) bytes only told =
     let k = told a refl in
     let (tag, small) = tag_told a.mark in
     record {
       may = rw (tag, k.tag, k.from.may, k.to.may);
       fits = record { number_fits = omega arith; mark_fits = small; start_fits = k.from.fits; end_fits = k.to.fits };
     }
-said kind place (refused k) bytes only told =
+said kind place (Err k) bytes only told =
     let nowhere_fits : PositionFits nowhere = record { base_fits = zero_fits; offset_fits = zero_fits; star_fits = omega arith; exon_fits = omega arith } in
     record {
       may = rw only.only;

@@ -1,4 +1,5 @@
 -- What was judged decides: a refusal leaves the tables, and what passed is written. Assumes nothing.
+use Rattle.refusals.specs.Outcome.{Ok}
 use mathlib.Core.Path.{refl, sym, ap, ◌∙◌}
 use mathlib.Core.List.{List}
 use Prim.Native.Nat.{ℕ}
@@ -10,7 +11,6 @@ use Rattle.judging.specs.Judging.{judge}
 use Rattle.judging.specs.laws.Told.{Told, told_made, told_refused}
 use Rattle.refusals.specs.Numbers.{most_segments}
 use Rattle.segments.specs.Tables.{padded, tables_of}
-use Rattle.transcript.specs.declared.Built.TheVariants as answer
 use Rattle.transcript.specs.declared.Numbers.{Numbers}
 use Rattle.reading.specs.declared.Sums.{Sums}
 use Rattle.whole.specs.laws.Machine.{bits_32}
@@ -53,7 +53,7 @@ returns-in-Sums c =
     let p = pass here in
     let forward = bits_32 {a = (n here).strand} (record { sfits = c.struct_told-1.given.0.1 }) one ∙ forward_is (n here) (bytes here) (to here) p in
     let filled = rw forward at c.write_tables.ensures in
-    rw p.judged record { value = ap answer.Transcript (c.head_of.ensures ∙ head_is (n here) (bytes here) (to here) p); letters_after = filled.letters_after ∙ ap tables_of (elements_are (n here) (bytes here) (to here) p); exons_after = filled.exons_after ∙ ap (padded most_segments) (numbers_are (n here) (bytes here) (to here) p) }
+    rw p.judged record { value = ap Ok (c.head_of.ensures ∙ head_is (n here) (bytes here) (to here) p); letters_after = filled.letters_after ∙ ap tables_of (elements_are (n here) (bytes here) (to here) p); exons_after = filled.exons_after ∙ ap (padded most_segments) (numbers_are (n here) (bytes here) (to here) p) }
 
 pub returns-in-Refused : goal.returns-in-Refused
 returns-in-Refused c =

@@ -5,7 +5,7 @@ use Prim.Native.Nat.{ℕ, ◌-◌, ◌≤◌}
 use native.Mathlib.Omega.{arith}
 use lib.ListN.{length, take, drop, length-drop}
 use lib.Seq.{take_all}
-use Rattle.refusals.specs.Outcome.{Outcome, refused}
+use Rattle.refusals.specs.Outcome.{Outcome, Err, Ok}
 use Rattle.judging.specs.Judging.{Made, judge}
 use Rattle.segments.specs.Tables.{tables}
 use Rattle.building.specs.Afterwards.{built_answer, tables_after, exons_after}
@@ -14,7 +14,6 @@ use Rattle.card.specs.Card.{read_card}
 use Rattle.card.specs.Writing.{judge_read, judge_card}
 use Rattle.card.specs.laws.RoundTrips.{read_means}
 use Rattle.transcript.specs.declared.Numbers.{Numbers}
-use Rattle.card.specs.declared.ReadCard.TheVariants as read
 use Rattle.card.proofs.build_card.Goals as goal
 use Rattle.card.proofs.build_card.Goals.{In-Card}
 
@@ -26,7 +25,7 @@ module _ (c : In-Card) where
   abbrev numbers : Numbers
   numbers = c.in-Card.n
 
-  read_is : read_card bytes ≡ read.Card numbers
+  read_is : read_card bytes ≡ Ok numbers
   read_is = sym c.read_card.ensures ∙ c.in-Card.is
 
   long : records_at ≤ length bytes
@@ -56,5 +55,5 @@ returns-in-Refused c =
     let a = c.args in
     let k = c.in-Refused in
     let was = tables a.genome.now a.transcript.now a.letters.now in
-    let e : judge_card a.card.now ≡ refused k.k = ap (judge_read a.card.now) (sym c.read_card.ensures ∙ k.is) in
+    let e : judge_card a.card.now ≡ Err k.k = ap (judge_read a.card.now) (sym c.read_card.ensures ∙ k.is) in
     record { value = sym (ap built_answer e); letters_after = sym (ap (λ (j : Outcome Made). tables_after j was) e); exons_after = sym (ap (λ (j : Outcome Made). exons_after j a.exons.now) e) }

@@ -1,5 +1,6 @@
 -- `card::read_card` meets its contract: the tests that led to each `return` are those of `read_card`, in order.
 -- Assumes nothing.
+use Rattle.refusals.specs.Outcome.{Ok}
 use mathlib.Core.Path.{◌≡◌, sym, ap, ◌∙◌}
 use mathlib.Core.Bool.{true}
 use mathlib.Core.List.{List}
@@ -8,7 +9,6 @@ use borrow.Author.Tests.{lt-ltb, le-ltb, eq-eqb, ne_eqb}
 use Rattle.fields.specs.Fields.{le16}
 use Rattle.card.specs.Layout.{version, version_at}
 use Rattle.card.specs.Card.{is_marked, is_card, read_card}
-use Rattle.card.specs.declared.ReadCard.TheVariants as read
 use Rattle.card.proofs.Reading.{marked_long, card_long}
 use Rattle.card.proofs.read_card.Goals as goal
 use Rattle.card.proofs.read_card.Tie as tie
@@ -42,7 +42,7 @@ unfolding read_card
 returns-then-is_card c =
     let t = c.before.before.before.before.before.before in
     rw (le-ltb _ _ t.if-card-gt-MOST_CARD.false, marked t, eq-eqb _ _ (version_right c.before.before.before.before), whole c.before.before)
-    (ap read.Card c.read_numbers.ensures)
+    (ap Ok c.read_numbers.ensures)
 
 pub returns-then-u16_at-eq-VERSION : goal.returns-then-u16_at-eq-VERSION
 unfolding read_card

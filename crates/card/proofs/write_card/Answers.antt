@@ -1,7 +1,7 @@
 -- Building's judgment comes first, and what it takes is written. Assumes nothing.
 use mathlib.Core.Path.{◌≡◌, sym, ap, ◌∙◌}
 use lib.ListN.{length}
-use Rattle.refusals.specs.Outcome.{Outcome, answered, refused}
+use Rattle.refusals.specs.Outcome.{Outcome, Ok, Err}
 use Rattle.refusals.specs.Numbers.{most_card}
 use Rattle.spelling.specs.Write.{Writing, fitted, written_answer, buffer_after}
 use Rattle.judging.specs.Input.{input_of}
@@ -25,7 +25,7 @@ module _ (e : lts.Start tie.the-claims tie.handed_pre tie.handed_post tie.handed
 abbrev entry : lts.After-judge tie.the-claims tie.handed_pre tie.handed_post tie.handed_clauses → lts.Start tie.the-claims tie.handed_pre tie.handed_post tie.handed_clauses
 entry c = c.before.before.before
 
-taken : (c : lts.Past-After-enum_told tie.the-claims tie.handed_pre tie.handed_post tie.handed_clauses) → (m : Made) × (judgment (entry c.before) ≡ answered m)
+taken : (c : lts.Past-After-enum_told tie.the-claims tie.handed_pre tie.handed_post tie.handed_clauses) → (m : Made) × (judgment (entry c.before) ≡ Ok m)
 taken c =
     let t = told_made (judgment (entry c.before)) (sym c.in-Sums.is ∙ c.judge.ensures.0) in
     (t.made, t.judged)
@@ -46,7 +46,7 @@ pub returns-in-Sums : goal.returns-in-Sums
 returns-in-Sums c =
     let t = taken c.before.before.before.before.before in
     let e = entry c.before.before.before.before.before.before in
-    let w = writing_is e (answered t.0) t.1 in
+    let w = writing_is e (Ok t.0) t.1 in
     let written = c.write_taken.ensures in
     record { value = written.value ∙ sym (ap written_answer w); buffer_after = written.buffer_after ∙ sym (ap (buffer_after e.args.buffer.now) w) }
 
@@ -55,5 +55,5 @@ returns-in-Refused c =
     let e = entry c.before.before in
     let k = c.in-Refused in
     let h = told_refused (judgment e) (sym k.is ∙ c.judge.ensures.0) in
-    let w = writing_is e (refused k.k) h in
+    let w = writing_is e (Err k.k) h in
     record { value = sym (ap written_answer w); buffer_after = sym (ap (buffer_after e.args.buffer.now) w) }

@@ -7,7 +7,7 @@ use Rattle.std.proofs.Common.{subst, arith, ltb-false}
 use Rattle.std.proofs.lemmas.Bool.{eqb-false}
 use Rattle.whole.specs.laws.Whole.{by_test}
 use Rattle.refusals.specs.Numbers.{most_count}
-use Rattle.refusals.specs.Outcome.{answered, refused}
+use Rattle.refusals.specs.Outcome.{Ok, Err}
 use Rattle.cigar.specs.declared.Step.{Step}
 use Rattle.cigar.specs.declared.Step.TheVariants as step
 use Rattle.cigar.specs.Elements.{Element, is_letter}
@@ -23,12 +23,12 @@ AllSound (x ∷ xs) = Sound x × AllSound xs
 
 -- sound elements, for which there was room
 abbrev Good : ℕ → Reading → Type 0
-Good room (answered es) = AllSound es × (length es ≤ room)
-Good room (refused k) = Unit
+Good room (Ok es) = AllSound es × (length es ≤ room)
+Good room (Err k) = Unit
 
 good_before : (room : ℕ) (x : Element) (r : Reading) → Sound x → (room ≡ 0 → ⊥) → Good (room - 1) r → Good room (before x r)
-good_before room x (answered es) s h g = ((s, g.0), omega arith)
-good_before room x (refused k) s h g = tt
+good_before room x (Ok es) s h g = ((s, g.0), omega arith)
+good_before room x (Err k) s h g = tt
 
 good_taken : (room n letter : ℕ) (r : Reading) → is_letter letter ≡ true → Good (room - 1) r → Good room (taken room (element n letter) r)
 good_taken room n letter r l g =
@@ -47,7 +47,7 @@ good_read (b ∷ s) room given n =
     by_test (is_letter b) (λ l. rw (d, l) (good_taken room (count_of given n) b (read_from (room - 1) false 0 s) l (good_read s (room - 1) false 0)))
     (λ l. rw (d, l) tt))
 
-module _ (room : ℕ) (text : List ℕ) {es : List Element} (e : read_all room text ≡ answered es) where
+module _ (room : ℕ) (text : List ℕ) {es : List Element} (e : read_all room text ≡ Ok es) where
   good : AllSound es × (length es ≤ room)
   good = subst (Good room) e (good_read text room false 0)
 

@@ -7,8 +7,8 @@ use Rattle.std.specs.Prelude.{◌≡◌, refl, Bool, true, false, List, [], ◌�
 use Rattle.std.proofs.Common.{sym, ap, subst, ◌∙◌, arith, length-drop, drop-drop}
 use Rattle.std.proofs.lemmas.Bool.{eqb-false}
 use Rattle.whole.specs.laws.Whole.{by_test}
-use Rattle.refusals.specs.Numbers.{no_element, bad_count, too_much, most_count}
-use Rattle.refusals.specs.Outcome.{answered, refused, Answered}
+use Rattle.refusals.specs.Numbers.{NoElement, BadCount, TooMuch, most_count}
+use Rattle.refusals.specs.Outcome.{Ok, Err, Answered}
 use Rattle.cigar.specs.declared.Step.{Step}
 use Rattle.cigar.specs.declared.Step.TheVariants as step
 use Rattle.cigar.specs.Elements.{Element, is_letter}
@@ -17,9 +17,9 @@ use Rattle.cigar.specs.Text.{is_digit, count_of, element_from, step_of, step_at,
 -- what a step of a text says of the whole
 abbrev pub go_on : ℕ → List ℕ → Step → Reading
 go_on room text (step.Element n letter next) =
-    if eqb room 0 then refused too_much else before (element n letter) (read_all (room - 1) (drop next text))
-go_on room text (step.Refused k) = refused k
-go_on room text step.End = answered []
+    if eqb room 0 then Err TooMuch else before (element n letter) (read_all (room - 1) (drop next text))
+go_on room text (step.Refused k) = Err k
+go_on room text step.End = Ok []
 
 -- a test that picks the step picks what it says of the whole
 picked : (room : ℕ) (text : List ℕ) (t : Bool) {x y : Reading} (p q : Step) → x ≡ go_on room text p → y ≡ go_on room text q
@@ -38,9 +38,9 @@ byte_goes_on : (room : ℕ) (text : List ℕ) (given : Bool) (n at b : ℕ) (s :
 unfolding read_from element_from
 byte_goes_on room text given n at b s e more =
     picked room text (is_digit b) _ _ more
-    (picked room text (is_letter b) _ (step.Refused no_element)
-    (picked room text (ltb most_count (count_of given n)) (step.Refused bad_count) (step.Element (count_of given n) b (at + 1)) refl
-    (ap (λ (r : List ℕ). if eqb room 0 then refused too_much else before (element (count_of given n) b) (read_from (room - 1) false 0 r)) (sym (next_drop text at b s e))))
+    (picked room text (is_letter b) _ (step.Refused NoElement)
+    (picked room text (ltb most_count (count_of given n)) (step.Refused BadCount) (step.Element (count_of given n) b (at + 1)) refl
+    (ap (λ (r : List ℕ). if eqb room 0 then Err TooMuch else before (element (count_of given n) b) (read_from (room - 1) false 0 r)) (sym (next_drop text at b s e))))
     refl)
 
 -- after a digit
@@ -79,8 +79,8 @@ element_moves [] given n at end h = tt
 element_moves (b ∷ s) given n at end h =
     picked_moves at end (is_digit b) _ _
     (moves_wider at end (element_from true (n * 10 + (b - 48)) (at + 1) s) (element_moves s true (n * 10 + (b - 48)) (at + 1) end (omega arith)))
-    (picked_moves at end (is_letter b) _ (step.Refused no_element)
-    (picked_moves at end (ltb most_count (count_of given n)) (step.Refused bad_count) (step.Element (count_of given n) b (at + 1)) tt (omega arith))
+    (picked_moves at end (is_letter b) _ (step.Refused NoElement)
+    (picked_moves at end (ltb most_count (count_of given n)) (step.Refused BadCount) (step.Element (count_of given n) b (at + 1)) tt (omega arith))
     tt)
 
 pub moves : (text : List ℕ) (at : ℕ) → at ≤ length text → Moves at (length text) (step_at text at)
@@ -92,8 +92,8 @@ moves text at h = go (drop at text) (length-drop at text)
     go (b ∷ s) e = element_moves (b ∷ s) false 0 at (length text) (omega arith)
 
 pub answered_before : (x : Element) (r : Reading) → Answered (before x r) → Answered r × (elements_in (before x r) ≡ x ∷ elements_in r)
-answered_before x (answered es) h = (tt, refl)
-answered_before x (refused k) h = absurd h
+answered_before x (Ok es) h = (tt, refl)
+answered_before x (Err k) h = absurd h
 
 -- the element that a step finds in a text that is not refused: there is room for it, and what follows it is not refused
 pub record Takes (room : ℕ) (text : List ℕ) (at n letter next : ℕ) : Type 0 where

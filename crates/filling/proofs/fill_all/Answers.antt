@@ -1,4 +1,5 @@
 -- `filling::fill_all` meets its contract: the first record's elements end where the rest begin (`first_ends`), so that the two fills are one (`fill_then`), and so are the two runs of numbers (`sets_then`); a small tally is no refusal. Assumes nothing.
+use Rattle.refusals.specs.Outcome.{Ok}
 use mathlib.Core.Path.{◌≡◌, sym, ap, subst, ◌∙◌}
 use mathlib.Core.List.{List}
 use Prim.Native.Nat.{ℕ, ◌+◌, ◌-◌}
@@ -15,7 +16,6 @@ use Rattle.reading.specs.Tallies.{nothing, BoundedTally, tallied, tallied_after}
 use Rattle.segments.specs.Tables.{tables}
 use Rattle.filling.specs.Filling.{fill, ordered, elements_past, numbers_past, SmallSums, SmallTally}
 use Rattle.reading.specs.declared.Sums.{Sums}
-use Rattle.reading.specs.declared.Tally.TheVariants as tally
 use Rattle.reading.proofs.laws.Tallied.{first_sums, first_refused}
 use Rattle.filling.proofs.Fills.{long_after}
 use Rattle.filling.proofs.Past.{fill_then, small_so_far, first_told, first_ends, all_one}
@@ -33,7 +33,7 @@ module _ (c : lts.Past-After-known_told tie.the-claims tie.handed_pre tie.handed
   abbrev first : Sums
   first = c.in-Sums.first
 
-  told : let r = record_at begin.args.s.now 0 in tallied nothing (spanned r (read_first r)) ≡ tally.Sums first
+  told : let r = record_at begin.args.s.now 0 in tallied nothing (spanned r (read_first r)) ≡ Ok first
   told = sym c.tally_first.ensures.0 ∙ c.in-Sums.is
 
   small_rest : let s = begin.args.s.now in

@@ -1,4 +1,5 @@
 -- `filling::fill_rest` meets its contract: the tables with what is left put in stay those promised: a record's elements end where the rest begin (`next_ends`), so fills join (`fill_then`), and runs of numbers too (`sets_then`). Assumes nothing.
+use Rattle.refusals.specs.Outcome.{Ok}
 use mathlib.Core.Path.{◌≡◌, refl, sym, ap, subst, ◌∙◌}
 use mathlib.Core.List.{List, ◌∷◌}
 use Prim.Native.Nat.{ℕ, ◌+◌, ◌-◌, ◌<◌}
@@ -14,7 +15,6 @@ use Rattle.segments.specs.Tables.{tables}
 use Rattle.transcript.specs.Building.{numbered_by}
 use Rattle.filling.specs.Filling.{fill, next_elements, elements_past, numbers_past, SmallSums, SmallTally}
 use Rattle.reading.specs.declared.Sums.{Sums}
-use Rattle.reading.specs.declared.Tally.TheVariants as tally
 use Rattle.reading.proofs.laws.Tallied.{rest_sums, rest_refused}
 use Rattle.filling.proofs.Fills.{long_after}
 use Rattle.filling.proofs.Past.{fill_then, small_so_far, next_told, next_ends, past_one, past_none}
@@ -67,10 +67,10 @@ module _ (c : In-Sums) where
   some : 0 < left
   some = omega arith
 
-  told : tallied (one_on sums (between there here)) (spanned here (read_next sums.count here)) ≡ tally.Sums to
+  told : tallied (one_on sums (between there here)) (spanned here (read_next sums.count here)) ≡ Ok to
   told = sym c.tally_next.ensures.0 ∙ c.in-Sums.is
 
-  own_told : tallied (one_on sums (between there here)) (read_next sums.count here) ≡ tally.Sums to
+  own_told : tallied (one_on sums (between there here)) (read_next sums.count here) ≡ Ok to
   own_told = next_told c.args.forward bytes left place some there sums to told
 
   small_rest : SmallTally (tallied_after (genome_end_of here) to (exons_after to.count (records_from (left - 1) bytes (next_at bytes place))))

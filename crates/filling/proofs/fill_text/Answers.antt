@@ -1,4 +1,5 @@
 -- `filling::fill_text` meets its contract: the tables with what is left put in stay those promised: a turn puts in the first of what is left, or on strand -1 the last (`fill_turn`). Assumes nothing.
+use Rattle.refusals.specs.Outcome.{Ok}
 use Prim.Native.Nat.{ℕ, ◌+◌, ◌-◌, ◌≤◌, ◌<◌}
 use mathlib.Core.Path.{◌≡◌, sym, ap, subst, ◌∙◌}
 use mathlib.Core.List.{List}
@@ -12,7 +13,6 @@ use Rattle.reading.specs.Tallies.{one_on, sums_on, tallied}
 use Rattle.segments.specs.Tables.{tables}
 use Rattle.filling.specs.Filling.{fill, ordered, turned_on, UpTo, Before}
 use Rattle.reading.specs.declared.Sums.{Sums}
-use Rattle.reading.specs.declared.Tally.TheVariants as tally
 use Rattle.filling.proofs.Fills.{left_from, fill_turn, fill_none, left_all, long_put}
 use Rattle.filling.proofs.Taken.{ends_at, Taken, take_element, take_none, take_end}
 use borrow.Author.Rules.{rules}
@@ -70,7 +70,7 @@ module _ (c : lts.Past-After-known_told tie.the-claims tie.handed_pre tie.handed
   moved = subst (Moves place (length list)) found (moves list place c.loop-count.invariant.0)
 
   -- there is room for it, and what follows ends where all end
-  told : tallied sums (read_all (most_segments - sums.count) (drop place list)) ≡ tally.Sums begin.args.to
+  told : tallied sums (read_all (most_segments - sums.count) (drop place list)) ≡ Ok begin.args.to
   told = c.loop-count.invariant.4
 
   taken : Taken list place sums begin.args.to told count letter next

@@ -1,4 +1,5 @@
 -- `holding::bases_of` meets its contract: the kind is 0, 1 or neither, as in `bases_of`. Of a length the tests of the machine are `lengthFits`: one below 0 fails the first, and any other is its natural. Assumes nothing.
+use Rattle.std.specs.Prelude.{Some}
 use native.Mathlib.Omega.{arith}
 use mathlib.Core.Bool.{true, false}
 use mathlib.Core.Path.{◌≡◌, sym, ap, ◌∙◌}
@@ -11,7 +12,6 @@ use Rattle.refusals.specs.Numbers.{most_bases}
 use Rattle.whole.specs.laws.Whole.{order, read}
 use Rattle.whole.specs.laws.Machine.{same_32, other_32, natural_le}
 use Rattle.holding.specs.Parts.{bases_of}
-use Rattle.holding.specs.declared.Bases.TheVariants as bases
 use Rattle.holding.proofs.bases_of.Goals as goal
 
 -- a number of the head that is not below 0
@@ -56,7 +56,7 @@ returns-then-bases-le-MOST_BASES c =
     let length : SFits w32 h.length = record { sfits = c.struct_told-1.given.1.1.1.1.1.1.1.0.1 } in
     let above = natural_by length c.if-length-lt0.false in
     let is = simp (read length) at c.natural-bases.ensures in
-    rw (other_32 h.kind (pos 0) c.if-kind-eq-OF_RECORDS.false, same_32 {b = pos 1} kind (record { sfits = omega arith }) c.if-kind-eq-OF_LENGTH.true, above, natural_le h.length most_bases above, le-leb (nat_abs h.length) most_bases (omega (arith, is))) (ap bases.Known is)
+    rw (other_32 h.kind (pos 0) c.if-kind-eq-OF_RECORDS.false, same_32 {b = pos 1} kind (record { sfits = omega arith }) c.if-kind-eq-OF_LENGTH.true, above, natural_le h.length most_bases above, le-leb (nat_abs h.length) most_bases (omega (arith, is))) (ap Some is)
 
 pub returns-else-bases-le-MOST_BASES : goal.returns-else-bases-le-MOST_BASES
 unfolding bases_of

@@ -1,4 +1,5 @@
 -- `journal::read_log` meets its contract: the tests that led to each `return` are those of `read_log`, in order. Assumes nothing.
+use Rattle.refusals.specs.Outcome.{Ok}
 use mathlib.Core.Path.{◌≡◌, sym, ap, ◌∙◌}
 use mathlib.Core.Bool.{true}
 use mathlib.Core.List.{List}
@@ -9,7 +10,6 @@ use lib.ListN.{length}
 use Rattle.journal.specs.Layout.{entries_at}
 use Rattle.journal.specs.Logs.{is_headed, count_of, read_log}
 use Rattle.journal.specs.laws.LogTrips.{Headed, headed_means, from_length}
-use Rattle.journal.specs.declared.ReadLog.TheVariants as read
 use Rattle.journal.proofs.read_log.Goals as goal
 use Rattle.journal.proofs.read_log.Goals.{Then-is_headed}
 
@@ -38,7 +38,7 @@ pub returns-then-are_canonical : goal.returns-then-are_canonical
 unfolding read_log
 returns-then-are_canonical c =
     rw (le-ltb _ _ c.if-size-gt-MOST_LOG.false, test_is (goal.at.returns-then-are_canonical c).Then-is_headed, sym c.are_canonical.ensures ∙ c.if-are_canonical.true)
-    (ap read.Entries (sym (from_length (count_of (length (bytes (goal.at.returns-then-are_canonical c).Then-is_headed))) (bytes (goal.at.returns-then-are_canonical c).Then-is_headed) entries_at)))
+    (ap Ok (sym (from_length (count_of (length (bytes (goal.at.returns-then-are_canonical c).Then-is_headed))) (bytes (goal.at.returns-then-are_canonical c).Then-is_headed) entries_at)))
 
 pub returns-then-is_headed : goal.returns-then-is_headed
 unfolding read_log

@@ -1,4 +1,5 @@
 -- `judging::judge_on` meets its contract: each link of the chain of refusals is a law of `Chain`, asked of the bounds as the input has them. Assumes nothing.
+use Rattle.std.specs.Prelude.{Option}
 use mathlib.Core.Path.{◌≡◌, sym, ap, ap₂, subst, ◌∙◌}
 use Prim.Native.Nat.{ℕ, ◌≤◌}
 use native.Mathlib.Omega.{arith}
@@ -11,7 +12,6 @@ use Rattle.records.specs.Faults.{faults}
 use Rattle.records.specs.Walk.{Ready}
 use Rattle.records.specs.laws.Walk.{ready, records_length}
 use Rattle.transcript.specs.Heads.{start_of, end_of}
-use Rattle.transcript.specs.declared.Bound.{Bound}
 use Rattle.judging.specs.Input.{Input, input_of}
 use Rattle.reading.specs.Reading.{Exons, exons_of}
 use Rattle.judging.specs.Judging.{half_fault, last_fault, judge_exons, judge_on, told_of}
@@ -111,7 +111,7 @@ module _ (c : lts.After-last_fault tie.the-claims tie.handed_pre tie.handed_post
   last_is : let i = input (start before_sums) in c.last_fault-last.result ≡ last_fault i.start i.end sums.count c.bound-first.result sums.genome sums.transcript
   last_is =
       c.last_fault-last.ensures
-      ∙ ap₂ (λ (from to : Bound). last_fault from to sums.count c.bound-first.result sums.genome sums.transcript) (start_is before_sums.before) (end_is before_sums.before)
+      ∙ ap₂ (λ (from to : Option ℤ). last_fault from to sums.count c.bound-first.result sums.genome sums.transcript) (start_is before_sums.before) (end_is before_sums.before)
 
 pub returns-then-last-ne0 : goal.returns-then-last-ne0
 returns-then-last-ne0 c =

@@ -1,4 +1,5 @@
 -- `knowing::told_of` meets its contract: where the bases are known and the CDS holds, the head's own tests have passed, its bounds are natural, and so is a length. Assumes nothing.
+use Rattle.std.specs.Prelude.{Some}
 use mathlib.Core.Path.{◌≡◌, sym, ◌∙◌}
 use mathlib.Core.Bool.{true, false}
 use native.Mathlib.Omega.{arith}
@@ -10,7 +11,6 @@ use Rattle.whole.specs.laws.Machine.{same_32, other_32}
 use Rattle.holding.specs.Holding.{of_records, cds_holds}
 use Rattle.holding.specs.Parts.{bases_of}
 use Rattle.holding.specs.laws.Parts.{right_head, right_length}
-use Rattle.holding.specs.declared.Bases.TheVariants as bases
 use Rattle.knowing.specs.Knowing.{told_of}
 use Rattle.knowing.specs.laws.Known.{natural_where}
 use Rattle.knowing.proofs.told_of.Goals as goal
@@ -18,7 +18,7 @@ use Rattle.knowing.proofs.told_of.Tie as tie
 use Rattle.knowing.proofs.told_of.Lts as lts
 
 -- the bases that are known
-bases_are : (p : lts.Past-After-known_told tie.the-claims tie.handed_pre tie.handed_post) → bases_of p.args.head p.args.transcript.now ≡ bases.Known p.in-Known.bases
+bases_are : (p : lts.Past-After-known_told tie.the-claims tie.handed_pre tie.handed_post) → bases_of p.args.head p.args.transcript.now ≡ Some p.in-Known.bases
 bases_are p = sym p.bases_of.ensures ∙ p.in-Known.is
 
 -- from the CDS that holds back to them

@@ -1,8 +1,8 @@
 -- What is known of what is lent, and what a question to it then is: 23 was settled once, so what is left is the question over how the transcript lies, or over its length. Assumes nothing.
 use Rattle.std.specs.Prelude.{ℕ, List, ◌≡◌, refl, true, false, nat_abs, get_or}
 use Rattle.std.proofs.Common.{arith, sym, ap, ◌∙◌}
-use Rattle.refusals.specs.Numbers.{not_together}
-use Rattle.refusals.specs.Outcome.{Outcome, refused}
+use Rattle.refusals.specs.Numbers.{NotTogether}
+use Rattle.refusals.specs.Outcome.{Outcome, Err}
 use Rattle.whole.specs.laws.Whole.{by_test}
 use Rattle.segments.specs.Tables.{Tables, read}
 use Rattle.segments.specs.Exons.{read_numbers}
@@ -96,7 +96,7 @@ module _ (x : Lent) where
       (λ e k. e)
 
   -- a question to what does not hold together
-  pub ask_broken : {A : Type 0} (ask : Source → Outcome A) → known_of x ≡ known.Broken → checked x ask ≡ refused not_together
+  pub ask_broken : {A : Type 0} (ask : Source → Outcome A) → known_of x ≡ known.Broken → checked x ask ≡ Err NotTogether
   ask_broken ask k = checked_broken x ask (known_breaks k)
 
   -- a question to a length

@@ -1,5 +1,5 @@
 -- What the head tells of what is lent is what is known of it, but for the tables of a transcript that was built from records: where they hold it is known, and where they do not nothing is. Assumes nothing.
-use Rattle.std.specs.Prelude.{ℕ, ◌≤◌, Bool, true, false, List, ◌≡◌}
+use Rattle.std.specs.Prelude.{ℕ, ◌≤◌, Bool, true, false, List, ◌≡◌, Some, None, Option}
 use Rattle.std.proofs.Common.{arith, sym, ap, ◌∙◌}
 use Rattle.std.proofs.Math.Path.{refl}
 use Rattle.refusals.specs.Numbers.{most_segments}
@@ -9,8 +9,6 @@ use Rattle.holding.specs.Holding.{of_records, head_holds, cds_holds, Lent, holds
 use Rattle.holding.specs.Parts.{bases_of, tables_hold}
 use Rattle.holding.specs.laws.Held.{head_means}
 use Rattle.holding.specs.laws.Parts.{right_head, by_tables, by_length, by_cds, by_none}
-use Rattle.holding.specs.declared.Bases.{Bases}
-use Rattle.holding.specs.declared.Bases.TheVariants as bases
 use Rattle.spots.specs.declared.Alignment.{Alignment}
 use Rattle.knowing.specs.Knowing.{alignment_of, coding_in, told_by, told_of, known_of}
 use Rattle.knowing.specs.declared.Coding.{Coding}
@@ -35,16 +33,16 @@ pub record Lying (h : Head) (transcript : List ℕ) (a : Alignment) (c : Coding)
   pub records : of_records h ≡ true
   pub head : head_holds h ≡ true
   pub many : ℕ
-  pub found : bases_of h transcript ≡ bases.Known many
+  pub found : bases_of h transcript ≡ Some many
   pub coding : cds_holds h many ≡ true
   pub at : alignment_of h ≡ a
   pub cds : coding_in h ≡ c
   pub some : 1 ≤ a.count
   pub few : a.count ≤ most_segments
 
-lying_by : (h : Head) (transcript : List ℕ) (a : Alignment) (c : Coding) (b : Bases) → bases_of h transcript ≡ b → told_by h b ≡ known.Aligned a c → Lying h transcript a c
-lying_by h transcript a c bases.Unknown e = λ t. broken_not_lying t
-lying_by h transcript a c (bases.Known n) e =
+lying_by : (h : Head) (transcript : List ℕ) (a : Alignment) (c : Coding) (b : Option ℕ) → bases_of h transcript ≡ b → told_by h b ≡ known.Aligned a c → Lying h transcript a c
+lying_by h transcript a c None e = λ t. broken_not_lying t
+lying_by h transcript a c (Some n) e =
     by_test (cds_holds h n)
     (λ holding.
     by_test (of_records h)
@@ -80,9 +78,9 @@ module _ (x : Lent) where
     pub told_apart : tables_made a ≡ false → known_of x ≡ known.Broken
     told_apart not = rw (left ∙ not)
 
-  length_by : {n : ℕ} {c : Coding} (b : Bases) → bases_of x.head x.tables.transcript ≡ b → told_by x.head b ≡ known.OfLength n c → known_of x ≡ known.OfLength n c
-  length_by bases.Unknown e = λ t. broken_no_length t
-  length_by (bases.Known n) e =
+  length_by : {n : ℕ} {c : Coding} (b : Option ℕ) → bases_of x.head x.tables.transcript ≡ b → told_by x.head b ≡ known.OfLength n c → known_of x ≡ known.OfLength n c
+  length_by None e = λ t. broken_no_length t
+  length_by (Some n) e =
       by_test (cds_holds x.head n)
       (λ holding.
       by_test (of_records x.head)
@@ -94,9 +92,9 @@ module _ (x : Lent) where
   unfolding told_of
   told_length t = length_by (bases_of x.head x.tables.transcript) refl t
 
-  broken_by : (b : Bases) → bases_of x.head x.tables.transcript ≡ b → told_by x.head b ≡ known.Broken → known_of x ≡ known.Broken
-  broken_by bases.Unknown e = λ t. rw (by_none x e)
-  broken_by (bases.Known n) e =
+  broken_by : (b : Option ℕ) → bases_of x.head x.tables.transcript ≡ b → told_by x.head b ≡ known.Broken → known_of x ≡ known.Broken
+  broken_by None e = λ t. rw (by_none x e)
+  broken_by (Some n) e =
       by_test (cds_holds x.head n)
       (λ holding.
       by_test (of_records x.head)

@@ -2,7 +2,7 @@
 use Rattle.std.specs.Prelude.{ℕ, ◌≡◌, Bool, get_or}
 use Rattle.std.proofs.Math.Path.{ap}
 use Rattle.std.proofs.Common.{◌∙◌}
-use Rattle.refusals.specs.Outcome.{answered, and_then, through}
+use Rattle.refusals.specs.Outcome.{Ok, and_then, through}
 use Rattle.holding.specs.Holding.{Lent, checked}
 use Rattle.positions.specs.Positions.{Interval, GAsked, NAsked, CAsked, asks_n}
 use Rattle.positions.specs.Answers.{chain}
@@ -55,7 +55,7 @@ module _ (x : Lent) (a : Alignment) (c : Coding) (k : known_of x ≡ known.Align
       ask_lying x (ask_c_to_g strict q) k
       ∙ ap (λ (n : ℕ). chain asks_n (map_c_to_n strict n (paper_coding c) q) (map_n_to_g strict (aligned_by a x.tables x.exons))) fact.length
 
-  pub lying_coding : checked x ask_coding ≡ answered (codes (paper_coding c))
+  pub lying_coding : checked x ask_coding ≡ Ok (codes (paper_coding c))
   unfolding ask_coding
   lying_coding = ask_lying x ask_coding k
 

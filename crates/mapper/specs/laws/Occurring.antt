@@ -1,6 +1,6 @@
 -- Each refusal of each question's row occurs: a question that is refused with it, computed. With the rows of `Refusing` the sets are exact. Assumes nothing.
 use Rattle.std.specs.Prelude.{true, false, [], ◌∷◌, map, ◌≡◌, refl, ℤ, pos, negsuc}
-use Rattle.refusals.specs.Outcome.{refused}
+use Rattle.refusals.specs.Outcome.{Err}
 use Rattle.whole.specs.Fits.{fits, fit_of}
 use Rattle.numbering.specs.Numbers.{n_of_place, place_of_n, plain_c, c_of_n, n_of_c, skip_zero}
 use Rattle.cigar.specs.Elements.{letter_i, letter_m, letter_n, is_letter, kind_of, genome, transcript, total}
@@ -77,7 +77,7 @@ pub g_to_n_occurs :
     ∷ checked of_length (ask_g_to_n true (g (pos 11)))
     ∷ checked coding (ask_g_to_n true no_end)
     ∷ checked broken (ask_g_to_n true (g (pos 11)))
-    ∷ [] ≡ map refused g_to_n_refusals
+    ∷ [] ≡ map Err g_to_n_refusals
 unfolding computing
 g_to_n_occurs = refl
 
@@ -87,7 +87,7 @@ pub n_to_g_occurs :
     ∷ checked coding (ask_n_to_g true (n (pos 1) most))
     ∷ checked of_length (ask_n_to_g true (n (pos 1) (pos 0)))
     ∷ checked broken (ask_n_to_g true (n (pos 1) (pos 0)))
-    ∷ [] ≡ map refused n_to_g_refusals
+    ∷ [] ≡ map Err n_to_g_refusals
 unfolding computing
 n_to_g_occurs = refl
 
@@ -97,7 +97,7 @@ pub n_to_c_occurs :
     ∷ checked coding (ask_n_to_c true (n (pos 0) (pos 0)))
     ∷ checked of_length (ask_n_to_c false (n least (pos 0)))
     ∷ checked broken (ask_n_to_c true (n (pos 1) (pos 0)))
-    ∷ [] ≡ map refused n_to_c_refusals
+    ∷ [] ≡ map Err n_to_c_refusals
 unfolding computing
 n_to_c_occurs = refl
 
@@ -107,7 +107,7 @@ pub c_to_n_occurs :
     ∷ checked coding (ask_c_to_n true (c (negsuc 3) (pos 0)))
     ∷ checked of_length (ask_c_to_n false (c most (pos 0)))
     ∷ checked broken (ask_c_to_n true (c (pos 1) (pos 0)))
-    ∷ [] ≡ map refused c_to_n_refusals
+    ∷ [] ≡ map Err c_to_n_refusals
 unfolding computing
 c_to_n_occurs = refl
 
@@ -120,7 +120,7 @@ pub g_to_c_occurs :
     ∷ checked of_length (ask_g_to_c true (g (pos 11)))
     ∷ checked coding (ask_g_to_c true no_end)
     ∷ checked broken (ask_g_to_c true (g (pos 11)))
-    ∷ [] ≡ map refused g_to_c_refusals
+    ∷ [] ≡ map Err g_to_c_refusals
 unfolding computing
 g_to_c_occurs = refl
 
@@ -131,12 +131,12 @@ pub c_to_g_occurs :
     ∷ checked coding (ask_c_to_g true (c (negsuc 2) most))
     ∷ checked of_length (ask_c_to_g true (c (pos 1) (pos 0)))
     ∷ checked broken (ask_c_to_g true (c (pos 1) (pos 0)))
-    ∷ [] ≡ map refused c_to_g_refusals
+    ∷ [] ≡ map Err c_to_g_refusals
 unfolding computing
 c_to_g_occurs = refl
 
 -- no kind
-pub coding_occurs : checked broken ask_coding ∷ [] ≡ map refused coding_refusals
+pub coding_occurs : checked broken ask_coding ∷ [] ≡ map Err coding_refusals
 unfolding computing
 coding_occurs = refl
 
@@ -145,6 +145,6 @@ pub in_bounds_occurs :
     checked of_length (ask_in_bounds (g (pos 11)))
     ∷ checked coding (ask_in_bounds no_end)
     ∷ checked broken (ask_in_bounds (g (pos 11)))
-    ∷ [] ≡ map refused in_bounds_refusals
+    ∷ [] ≡ map Err in_bounds_refusals
 unfolding computing
 in_bounds_occurs = refl

@@ -17,8 +17,8 @@ use Rattle.std.proofs.lemmas.Bool.{false≢true}
 use mathlib.Core.List.{List, [], ◌∷◌, ◌++◌, append_assoc}
 use Rattle.std.proofs.Math.ListN.{length, length-append}
 use borrow.Author.Tests.{eqb-true, eq-eqb, ne_eqb, le-ltb}
-use Rattle.refusals.specs.Numbers.{not_together}
-use Rattle.refusals.specs.Outcome.{Outcome, answered, refused, and_then, through}
+use Rattle.refusals.specs.Numbers.{NotTogether, Refusal}
+use Rattle.refusals.specs.Outcome.{Outcome, Ok, Err, and_then, through}
 use Rattle.refusals.specs.Refusing.{one_of}
 use Rattle.refusals.specs.laws.Outcomes.{clash, same}
 use Rattle.whole.specs.Whole.{eq_z}
@@ -184,20 +184,20 @@ nothing_written x r = ap replay_text (nothing_differs x _ r)
 -- ---- by what is lent and what is read
 
 module _ (x : Lent) (log : List ℕ) where
-  pub replay_broken : (room : ℕ) → holds x ≡ false → replaying x log room ≡ refused not_together
+  pub replay_broken : (room : ℕ) → holds x ≡ false → replaying x log room ≡ Err NotTogether
   unfolding replaying replayed checked
   replay_broken room h = rw h
 
   module _ (held : holds x ≡ true) where
-    pub replayed_answered : (es : List Entry) → read_log log ≡ answered es → replayed x log ≡ answered (replay_text (differing x es))
+    pub replayed_answered : (es : List Entry) → read_log log ≡ Ok es → replayed x log ≡ Ok (replay_text (differing x es))
     unfolding replayed checked
     replayed_answered es r = rw (held, r)
 
-    pub replay_answered : (room : ℕ) (es : List Entry) → read_log log ≡ answered es → replaying x log room ≡ roomed room (replay_text (differing x es))
+    pub replay_answered : (room : ℕ) (es : List Entry) → read_log log ≡ Ok es → replaying x log room ≡ roomed room (replay_text (differing x es))
     unfolding replaying
     replay_answered room es r = rw (replayed_answered es r)
 
-    pub replay_refused : (room k : ℕ) → read_log log ≡ refused k → replaying x log room ≡ refused k
+    pub replay_refused : (room : ℕ) (k : Refusal) → read_log log ≡ Err k → replaying x log room ≡ Err k
     unfolding replaying replayed checked
     replay_refused room k r = rw (held, r)
 
@@ -215,23 +215,23 @@ replay_short x es h =
     omega (arith, all_lines_few (length es) h, text_length (differing x es))
 
 -- a log that is read has few entries
-few_entries : (log : List ℕ) (es : List Entry) → read_log log ≡ answered es → length es ≤ most_entries
+few_entries : (log : List ℕ) (es : List Entry) → read_log log ≡ Ok es → length es ≤ most_entries
 few_entries log es e =
     let k = read_means log es e in
     omega (arith, k.few, k.headed.size_is, ap length k.are ∙ from_length _ log entries_at)
 
-pub replayed_short : (x : Lent) (log text : List ℕ) → replayed x log ≡ answered text → length text ≤ most_replay
+pub replayed_short : (x : Lent) (log text : List ℕ) → replayed x log ≡ Ok text → length text ≤ most_replay
 unfolding replayed checked
 replayed_short x log text e = by_test (holds x) (λ h. go (read_log log) refl (rw h at e)) (λ h. absurd (clash (rw h at e)))
   where
-    go : (o : Outcome (List Entry)) → read_log log ≡ o → through (λ (es : List Entry). replay_text (differing x es)) o ≡ answered text → length text ≤ most_replay
-    go (answered es) r q = rw (← same q) (replay_short x es (few_entries log es r))
-    go (refused k) r q = absurd (clash q)
+    go : (o : Outcome (List Entry)) → read_log log ≡ o → through (λ (es : List Entry). replay_text (differing x es)) o ≡ Ok text → length text ≤ most_replay
+    go (Ok es) r q = rw (← same q) (replay_short x es (few_entries log es r))
+    go (Err k) r q = absurd (clash q)
 
 pub replay_roomy : (x : Lent) (log : List ℕ) (room : ℕ) → most_replay ≤ room → replaying x log room ≡ replayed x log
 unfolding replaying
 replay_roomy x log room h = go (replayed x log) refl
   where
     go : (o : Outcome (List ℕ)) → replayed x log ≡ o → and_then o (roomed room) ≡ o
-    go (answered text) e = rw (le-ltb room (length text) (omega (arith, replayed_short x log text e)))
-    go (refused k) e = refl
+    go (Ok text) e = rw (le-ltb room (length text) (omega (arith, replayed_short x log text e)))
+    go (Err k) e = refl

@@ -1,7 +1,7 @@
 -- Two answers that a contract allows are equal: what an answer says in the paper's terms says all of it. Assumes nothing.
 use Rattle.std.specs.Prelude.{ℕ, ◌≡◌, refl, Bool, true, false}
 use Rattle.std.proofs.Common.{sym, ap, ◌∙◌}
-use Rattle.refusals.specs.Outcome.{Outcome, answered, refused}
+use Rattle.refusals.specs.Outcome.{Outcome, Ok, Err}
 use Rattle.positions.specs.Positions.{Interval, GPosition, NPosition, CPosition}
 use Rattle.positions.specs.Answers.{Mark, certain, uncertain, unmarked, Answer}
 use Rattle.positions.specs.Paper.{paper_g, paper_n, paper_c, paper_n_plain, paper_c_plain, paper_said}
@@ -46,18 +46,18 @@ variant unmarked sure unsure i = sure i (record { from = 0; to = 0 })
 
 -- an answer of an enum whose variants are these, with its interval taken back
 abbrev back : {P I A : Type 0} → (I → code_exons.Exons → A) → (I → code_exons.Exons → A) → (ℕ → A) → (Interval P → I) → Answer P → A
-back sure unsure refusal interval (answered a) = variant a.mark sure unsure (interval a.interval)
-back sure unsure refusal interval (refused k) = refusal k
+back sure unsure refusal interval (Ok a) = variant a.mark sure unsure (interval a.interval)
+back sure unsure refusal interval (Err k) = refusal k
 
 -- the same where no variant bears a mark
 abbrev back_plain : {P I A : Type 0} → (I → A) → (ℕ → A) → (Interval P → I) → Answer P → A
-back_plain told refusal interval (answered a) = told (interval a.interval)
-back_plain told refusal interval (refused k) = refusal k
+back_plain told refusal interval (Ok a) = told (interval a.interval)
+back_plain told refusal interval (Err k) = refusal k
 
 abbrev back_said : Outcome Bool → code_said.Said
-back_said (answered true) = code_said.TheVariants.Yes
-back_said (answered false) = code_said.TheVariants.No
-back_said (refused k) = code_said.TheVariants.Refused k
+back_said (Ok true) = code_said.TheVariants.Yes
+back_said (Ok false) = code_said.TheVariants.No
+back_said (Err k) = code_said.TheVariants.Refused k
 
 -- ---- of each kind of answer, two that say the same are the same
 

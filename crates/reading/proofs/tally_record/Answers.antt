@@ -1,4 +1,5 @@
 -- `reading::tally_record` meets its contract: the text that `tally_text` reads is the record's CIGAR (`cigar_is`), what it tallied from `from` on is the elements' genome length, and 32 stands or falls by it. Assumes nothing.
+use Rattle.refusals.specs.Outcome.{Ok, Outcome}
 use mathlib.Core.Path.{◌≡◌, sym, ap₂, subst, ◌∙◌}
 use Prim.Native.Nat.{ℕ, ◌-◌, ◌≤◌}
 use native.Mathlib.Omega.{arith}
@@ -13,8 +14,6 @@ use Rattle.reading.specs.Tallies.{Bounded, BoundedTally, tallied}
 use Rattle.reading.specs.laws.Sizes.{cigar_is}
 use Rattle.reading.specs.laws.Spans.{tallied_grows, tallied_passes, tallied_short, tallied_refused}
 use Rattle.reading.specs.declared.Sums.{Sums}
-use Rattle.reading.specs.declared.Tally.{Tally}
-use Rattle.reading.specs.declared.Tally.TheVariants as tally
 use Rattle.reading.proofs.tally_record.Goals as goal
 use Rattle.reading.proofs.tally_record.Tie as tie
 use Rattle.reading.proofs.tally_record.Lts as lts
@@ -31,7 +30,7 @@ module _ (c : lts.After-tally_text tie.the-claims tie.handed_pre tie.handed_post
   abbrev read : Reading
   read = read_all (most_segments - begin.args.from.count) here.cigar
 
-  own : {t : Tally} → c.tally_text.result ≡ t → tallied begin.args.from read ≡ t
+  own : {t : Outcome Sums} → c.tally_text.result ≡ t → tallied begin.args.from read ≡ t
   own q = rw (cigar_is begin.args.s.now begin.args.at begin.requires.0) (sym (rw c.next_at-end.ensures at c.tally_text.ensures.0) ∙ q)
 
 -- and not refused
@@ -42,7 +41,7 @@ module _ (c : lts.Past-After-known_told tie.the-claims tie.handed_pre tie.handed
   abbrev to : Sums
   to = c.in-Sums.to
 
-  told : tallied (begin text).args.from (read text) ≡ tally.Sums to
+  told : tallied (begin text).args.from (read text) ≡ Ok to
   told = own text c.in-Sums.is
 
   bounded : Bounded to

@@ -3,7 +3,7 @@ use Rattle.std.specs.Prelude.{ℕ, zero, suc, ◌+◌, ◌-◌, ◌≤◌, ◌<�
 use Rattle.std.proofs.Common.{arith, true≢false, sym, ap, subst, ◌∙◌, ltb-false, leb-true, le-leb}
 use Rattle.std.specs.Int.Signed.{lt_z}
 use Rattle.std.proofs.lemmas.Bool.{lt-leb}
-use Rattle.refusals.specs.Numbers.{bad_bound}
+use Rattle.refusals.specs.Numbers.{BadBound}
 use Rattle.whole.specs.laws.Whole.{both}
 use Rattle.records.specs.Layout.{cigar_text}
 use Rattle.records.specs.Records.{Record, next_at, record_at, exactly, records_from}
@@ -76,7 +76,7 @@ pub no_faults : (forward : Bool) (n : ℕ) (s : List ℕ) (at : ℕ) → n ≡ 0
 unfolding faults
 no_faults forward n s at e = rw (records_none n s at e)
 
-not_refused : (t : Bool) (x : ℕ) → (if t then bad_bound else x) ≡ 0 → (t ≡ false) × (x ≡ 0)
+not_refused : (t : Bool) (x : ℕ) → (if t then BadBound else x) ≡ 0 → (t ≡ false) × (x ≡ 0)
 not_refused true x h = absurd (omega arith)
 not_refused false x h = (refl, h)
 

@@ -6,7 +6,7 @@ use native.Mathlib.Omega.{arith}
 use lib.IntN.{ℤ, pos}
 use lib.ListN.{get_or}
 use mir.Syntax.{w32}
-use Rattle.refusals.specs.Outcome.{answered}
+use Rattle.refusals.specs.Outcome.{Ok}
 use Rattle.whole.specs.laws.Whole.{told}
 use Rattle.cigar.specs.Text.{Reading}
 use Rattle.spelling.specs.Write.{judged, elements_given, size_of, AtMost}
@@ -29,8 +29,8 @@ module _ (c : After-element_size) where
   abbrev rest : ℕ → Reading
   rest i = left_of c.args.counts.now c.args.letters.now c.args.number i
 
-  sized : c.element_size.result ≡ size_of (judged count letter (answered []))
-  sized = c.element_size.ensures.0 ∙ ap (λ (z : ℤ). size_of (judged z letter (answered []))) (told w32 count c.element_size-arg-1.given)
+  sized : c.element_size.result ≡ size_of (judged count letter (Ok []))
+  sized = c.element_size.ensures.0 ∙ ap (λ (z : ℤ). size_of (judged z letter (Ok []))) (told w32 count c.element_size-arg-1.given)
 
   left : size_of (elements_given c.args.counts.now c.args.letters.now c.args.number)
       ≡ size_from c.loop-i.total (judged count letter (rest (place + 1)))

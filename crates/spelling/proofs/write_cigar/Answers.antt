@@ -1,4 +1,5 @@
 -- `spelling::write_cigar` meets its contract: the size is known first, so that a refusal stores nothing. Assumes nothing.
+use Rattle.refusals.specs.Outcome.{Ok}
 use mathlib.Core.Path.{◌≡◌, refl, sym, ap, ◌∙◌}
 use Prim.Native.Nat.{◌≤◌}
 use native.Mathlib.Omega.{arith}
@@ -7,7 +8,6 @@ use Rattle.refusals.specs.Numbers.{most_segments}
 use Rattle.cigar.specs.Text.{Reading, elements_in}
 use Rattle.cigar.specs.laws.Lent.{sets_front}
 use Rattle.spelling.specs.Write.{elements_text, elements_given, size_of}
-use Rattle.spelling.specs.declared.Written.TheVariants as answer
 use Rattle.spelling.proofs.Writing.{sized, many_written, refused_written, large_written, full_written, text_written}
 use Rattle.spelling.proofs.write_cigar.Goals as goal
 use Rattle.spelling.proofs.write_cigar.Goals.{In-Text}
@@ -25,7 +25,7 @@ module _ (c : In-Text) where
   abbrev all : Reading
   all = elements_given c.args.counts.now c.args.letters.now c.args.number
 
-  measured : size_of all ≡ answer.Text c.in-Text.size
+  measured : size_of all ≡ Ok c.in-Text.size
   measured = sym c.text_size.ensures ∙ c.in-Text.is
 
   few : c.args.number ≤ most_segments
@@ -53,7 +53,7 @@ returns-else-buffer-size c =
     let small = c.if-size-gt-MOST_TEXT.false in
     let room = c.if-buffer-size.false in
     rw (text_written a.number a.counts.now a.letters.now (length a.buffer.now) (few (goal.at.returns-else-buffer-size c).In-Text) (measured (goal.at.returns-else-buffer-size c).In-Text) small room)
-    record { value = ap answer.Text z.long; buffer_after = c.put_elements.ensures ∙ sets_front (elements_text (elements_in (all (goal.at.returns-else-buffer-size c).In-Text))) a.buffer.now (omega arith) }
+    record { value = ap Ok z.long; buffer_after = c.put_elements.ensures ∙ sets_front (elements_text (elements_in (all (goal.at.returns-else-buffer-size c).In-Text))) a.buffer.now (omega arith) }
 
 pub returns-in-Refused : goal.returns-in-Refused
 returns-in-Refused c =

@@ -7,7 +7,7 @@ use lib.IntN.{ℤ}
 use lib.ListN.{get_or}
 use mir.Syntax.{w32}
 use Rattle.whole.specs.laws.Whole.{told}
-use Rattle.refusals.specs.Outcome.{answered}
+use Rattle.refusals.specs.Outcome.{Ok}
 use Rattle.numbering.specs.Numbers.{place_of_n}
 use Rattle.transcript.specs.Transcript.{Cds, cds}
 use Rattle.positions.specs.Positions.{Interval, CAsked, NPosition}
@@ -27,7 +27,7 @@ module _ (strict : Bool) (a : Alignment) (starts : List ℕ) where
   long = get_or starts a.count 0
 
   -- by the n. position of both ends
-  named : (from to : ℕ) (p q : CAsked) (n : NPosition) → same_c p q ≡ true → n_position strict long from to p ≡ answered n → Named strict a starts (cds from to) (record { from = p; to = q }) (turned a.forward long (place_of_n n.base))
+  named : (from to : ℕ) (p q : CAsked) (n : NPosition) → same_c p q ≡ true → n_position strict long from to p ≡ Ok n → Named strict a starts (cds from to) (record { from = p; to = q }) (turned a.forward long (place_of_n n.base))
   named from to p q n same e = rw (← same_says p q same) (record { at = n; both = rw e at (one_to_n strict long from to p); own = offset_stays strict long from to p n e; place = refl })
 
   -- what was sought at its place was sought by its name

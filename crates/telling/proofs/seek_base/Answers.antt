@@ -5,7 +5,7 @@ use mathlib.Core.Path.{◌≡◌, refl, sym, ◌∙◌}
 use lib.IntN.{ℤ}
 use mir.Syntax.{w32}
 use Rattle.whole.specs.laws.Whole.{told, eq_means}
-use Rattle.refusals.specs.Outcome.{Outcome, answered}
+use Rattle.refusals.specs.Outcome.{Outcome, Ok}
 use Rattle.positions.specs.Positions.{Interval}
 use Rattle.spots.specs.Mapping.{place_of_g}
 use Rattle.spots.specs.declared.Alignment.{Alignment}
@@ -15,7 +15,7 @@ use Rattle.telling.specs.Seeking.{Based, SoughtBase}
 use Rattle.telling.proofs.seek_base.Goals as goal
 
 -- two ends that are one number
-based : (a : Alignment) (g h : ℤ) → g ≡ h → Based a (answered (record { from = g; to = h })) (place_of_g a.first g)
+based : (a : Alignment) (g h : ℤ) → g ≡ h → Based a (Ok (record { from = g; to = h })) (place_of_g a.first g)
 based a g h one = record { g = g; both = rw (← one) refl; place = refl }
 
 -- what was sought at its place was sought as that base

@@ -1,4 +1,5 @@
 -- `words::read_words` meets its contract: every word is judged first, so that a refusal stores nothing. Assumes nothing.
+use Rattle.refusals.specs.Outcome.{Ok}
 use mathlib.Core.Path.{◌≡◌, refl, sym, ap, ◌∙◌}
 use mathlib.Core.Bool.{true}
 use mathlib.Core.List.{List, map}
@@ -9,7 +10,6 @@ use Rattle.cigar.specs.Elements.{Element}
 use Rattle.cigar.specs.laws.Lent.{sets_front}
 use Rattle.cigar.specs.Read.{counts_of, letters_of}
 use Rattle.words.specs.Words.{element_of_word, all_known}
-use Rattle.cigar.specs.declared.Counted.TheVariants as counted
 use Rattle.words.proofs.Words.{unknown_read, many_read, counts_full, letters_full, all_read}
 use Rattle.words.proofs.read_words.Goals as goal
 use Rattle.words.proofs.read_words.Tie as tie
@@ -51,7 +51,7 @@ returns-then-all_known c =
     let es = map element_of_word (words a) in
     let f = c.fill_from_words.ensures in
     let long = length-map (words a) element_of_word in
-    rw (all_read (words a) (length (counts a)) (length (letters a)) (known e.before.before.before) e.if-number-gt-MOST_SEGMENTS.false e.if-counts-number.false e.if-letters-number.false) record { value = ap counted.Count (sym long); counts_after = f.counts_is ∙ sets_front (counts_of es) (counts a) (rw (length-map es (λ (x : Element). pos x.count), long) e.if-counts-number.false); letters_after = f.letters_is ∙ sets_front (letters_of es) (letters a) (rw (length-map es (λ (x : Element). x.letter), long) e.if-letters-number.false) }
+    rw (all_read (words a) (length (counts a)) (length (letters a)) (known e.before.before.before) e.if-number-gt-MOST_SEGMENTS.false e.if-counts-number.false e.if-letters-number.false) record { value = ap Ok (sym long); counts_after = f.counts_is ∙ sets_front (counts_of es) (counts a) (rw (length-map es (λ (x : Element). pos x.count), long) e.if-counts-number.false); letters_after = f.letters_is ∙ sets_front (letters_of es) (letters a) (rw (length-map es (λ (x : Element). x.letter), long) e.if-letters-number.false) }
 
 pub returns : goal.returns
 returns c =

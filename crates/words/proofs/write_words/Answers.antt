@@ -1,4 +1,5 @@
 -- `words::write_words` meets its contract: every element is judged first, so that a refusal stores nothing. Assumes nothing.
+use Rattle.refusals.specs.Outcome.{Ok, Err}
 use mathlib.Core.Path.{◌≡◌, refl, sym, ap, ◌∙◌}
 use mathlib.Core.List.{List, map}
 use Prim.Native.Nat.{ℕ, min}
@@ -9,7 +10,6 @@ use Rattle.refusals.specs.Numbers.{most_segments}
 use Rattle.cigar.specs.laws.Lent.{sets_front}
 use Rattle.words.specs.Words.{word_of, fault_from, elements_at}
 use Rattle.words.specs.laws.RoundTrips.{from_length}
-use Rattle.cigar.specs.declared.Counted.TheVariants as counted
 use Rattle.words.proofs.Words.{fault_written, many_words, full_words, all_written, all_held}
 use Rattle.words.proofs.write_words.Goals as goal
 use Rattle.words.proofs.write_words.Tie as tie
@@ -59,9 +59,9 @@ returns-then-fault-eq0 c =
     let es = elements_at (counts a) (letters a) 0 (number a) in
     let long : length (map word_of es) ≡ number a = length-map es word_of ∙ from_length (counts a) (letters a) (number a) 0 in
     rw (all_written (number a) (counts a) (letters a) (length (words a)) (none e.before.before) e.if-number-gt-MOST_SEGMENTS.false e.if-words-number.false)
-    record { value = ap counted.Count (sym long); words_after = c.put_words.ensures ∙ sets_front (map word_of es) (words a) (rw long e.if-words-number.false) }
+    record { value = ap Ok (sym long); words_after = c.put_words.ensures ∙ sets_front (map word_of es) (words a) (rw long e.if-words-number.false) }
 
 pub returns : goal.returns
 returns c =
     let a = c.before.before in
-    rw (fault_written (number a) (counts a) (letters a) (length (words a)) (λ z. c.if-fault-eq0.false (judged a ∙ z))) record { value = ap counted.Refused (judged a); words_after = refl }
+    rw (fault_written (number a) (counts a) (letters a) (length (words a)) (λ z. c.if-fault-eq0.false (judged a ∙ z))) record { value = ap Err (judged a); words_after = refl }

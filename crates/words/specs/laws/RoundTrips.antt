@@ -13,8 +13,8 @@ use Rattle.std.proofs.lemmas.List.{length-map, get_or_at}
 use Rattle.std.proofs.Math.Seq.{append_snoc}
 use Rattle.std.specs.Int.Signed.{lt_z}
 use Rattle.whole.specs.laws.Whole.{by_test, both}
-use Rattle.refusals.specs.Numbers.{no_element, no_word, most_word_count, most_segments}
-use Rattle.refusals.specs.Outcome.{answered}
+use Rattle.refusals.specs.Numbers.{NoElement, NoWord, most_word_count, most_segments}
+use Rattle.refusals.specs.Outcome.{Ok}
 use Rattle.refusals.specs.laws.Outcomes.{clash, same, passed}
 use Rattle.cigar.specs.Elements.{Element, is_letter, letter_equal, letter_d, letter_i, letter_m, letter_n, letter_x}
 use Rattle.cigar.specs.Text.{element}
@@ -141,7 +141,7 @@ elements_wordable (w ∷ ws) h f =
 -- ---- tables
 
 -- a letter that is not of the six is 7, whatever the count
-pub fault_letter : (z : ℤ) (letter : ℕ) → is_letter letter ≡ false → fault_of z letter ≡ no_element
+pub fault_letter : (z : ℤ) (letter : ℕ) → is_letter letter ≡ false → fault_of z letter ≡ NoElement
 unfolding fault_of
 fault_letter z letter l = by_test (lt_z (pos most_word_count) z) (λ m. rw (m, l)) (λ m. rw (m, l))
 
@@ -151,11 +151,11 @@ unfolding fault_of
 fault_none z letter h =
     by_test (is_letter letter)
     (λ l.
-    by_test (lt_z z (pos 0)) (λ b. let e : no_word ≡ 0 = rw (l, b) at h in absurd (omega arith))
+    by_test (lt_z z (pos 0)) (λ b. let e : NoWord ≡ 0 = rw (l, b) at h in absurd (omega arith))
     (λ b.
-    by_test (lt_z (pos most_word_count) z) (λ s. let e : no_word ≡ 0 = rw (l, b, s) at h in absurd (omega arith))
+    by_test (lt_z (pos most_word_count) z) (λ s. let e : NoWord ≡ 0 = rw (l, b, s) at h in absurd (omega arith))
     (λ s. record { whole = b; wordable = record { lettered = l; small = size_small z b s } })))
-    (λ l. let e : no_element ≡ 0 = sym (fault_letter z letter l) ∙ h in absurd (omega arith))
+    (λ l. let e : NoElement ≡ 0 = sym (fault_letter z letter l) ∙ h in absurd (omega arith))
 
 -- an element that a word can hold is not refused
 held_no_fault : (x : Element) → Wordable x → fault_of (pos x.count) x.letter ≡ 0
@@ -205,7 +205,7 @@ pub record WereRead (words : List ℕ) (es : List Element) : Type 0 where
   pub few : length words ≤ most_segments
   pub is : map element_of_word words ≡ es
 
-pub read_says : (words : List ℕ) (c l : ℕ) {es : List Element} → read_words words c l ≡ answered es → WereRead words es
+pub read_says : (words : List ℕ) (c l : ℕ) {es : List Element} → read_words words c l ≡ Ok es → WereRead words es
 unfolding read_words
 read_says words c l {es} e =
     by_test (all_known words)
@@ -219,8 +219,8 @@ read_says words c l {es} e =
     (λ k. absurd (clash (rw k at e)))
 
 pub read_write : (words : List ℕ) (c l : ℕ) {es : List Element} (counts : List ℤ) (letters : List ℕ) (room : ℕ) → AllFit words
-    → read_words words c l ≡ answered es → length words ≤ room
-    → write_words (length words) (at_front (counts_of es) counts) (at_front (letters_of es) letters) room ≡ answered words
+    → read_words words c l ≡ Ok es → length words ≤ room
+    → write_words (length words) (at_front (counts_of es) counts) (at_front (letters_of es) letters) room ≡ Ok words
 unfolding write_words
 read_write words c l {es} counts letters room f e h =
     let r = read_says words c l e in
@@ -230,7 +230,7 @@ read_write words c l {es} counts letters room f e h =
     (subst AllWordable r.is (elements_wordable words r.known f)) in
     let here = rw long at held in
     rw (min-eq_left r.few, here.0, le-ltb most_segments (length words) r.few, le-ltb room (length words) h, here.1)
-    (ap answered (ap (map word_of) (sym r.is) ∙ words_back words r.known))
+    (ap Ok (ap (map word_of) (sym r.is) ∙ words_back words r.known))
 
 -- what holds of words that were written
 record WereWritten (number : ℕ) (counts : List ℤ) (letters : List ℕ) (words : List ℕ) : Type 0 where
@@ -238,7 +238,7 @@ record WereWritten (number : ℕ) (counts : List ℤ) (letters : List ℕ) (word
   held : fault_from counts letters 0 number ≡ 0
   is : map word_of (elements_at counts letters 0 number) ≡ words
 
-write_says : (number : ℕ) (counts : List ℤ) (letters : List ℕ) (room : ℕ) {words : List ℕ} → write_words number counts letters room ≡ answered words
+write_says : (number : ℕ) (counts : List ℤ) (letters : List ℕ) (room : ℕ) {words : List ℕ} → write_words number counts letters room ≡ Ok words
     → WereWritten number counts letters words
 unfolding write_words
 write_says number counts letters room {words} e =
@@ -250,8 +250,8 @@ write_says number counts letters room {words} e =
     let few = ltb-false most_segments number m in
     record { few = few; held = rw (min-eq_left few) at p.0; is = same (rw (m, r) at p.1) }))
 
-pub write_read : (number : ℕ) (counts : List ℤ) (letters : List ℕ) (room c l : ℕ) {words : List ℕ} → write_words number counts letters room ≡ answered words
-    → number ≤ c → number ≤ l → read_words words c l ≡ answered (elements_at counts letters 0 number)
+pub write_read : (number : ℕ) (counts : List ℤ) (letters : List ℕ) (room c l : ℕ) {words : List ℕ} → write_words number counts letters room ≡ Ok words
+    → number ≤ c → number ≤ l → read_words words c l ≡ Ok (elements_at counts letters 0 number)
 unfolding read_words
 write_read number counts letters room c l {words} e hc hl =
     let w = write_says number counts letters room e in
@@ -260,4 +260,4 @@ write_read number counts letters room c l {words} e hc hl =
     let few = w.few in
     let long : length (map word_of es) ≡ number = length-map es word_of ∙ from_length counts letters number 0 in
     rw (← w.is, words_known es good, long, le-ltb most_segments number few, le-ltb c number hc, le-ltb l number hl)
-    (ap answered (elements_back es good))
+    (ap Ok (elements_back es good))

@@ -1,7 +1,8 @@
 -- `worklist::answer_list` meets its contract: where nothing speaks against it the list is walked, and the walk answers what the definition says; else it is refused as a whole, and no slot is written. Assumes nothing.
+use Rattle.refusals.specs.Numbers.{Refusal}
 use Rattle.std.proofs.Common.{◌≡◌, sym, ap, ◌∙◌, ne_eqb}
 use Rattle.std.specs.Prelude.{true, ℕ, List}
-use Rattle.refusals.specs.Outcome.{refused}
+use Rattle.refusals.specs.Outcome.{Err}
 use Rattle.holding.specs.Holding.{Lent, lent, of_records, holds}
 use Rattle.holding.specs.laws.Held.{together, some as some_segment, few, held_segments, held_head}
 use Rattle.worklist.specs.declared.Slot.{Slot}
@@ -46,4 +47,4 @@ returns c =
     let ys : List Slot = a.slots.now in
     let e : c.why_not-number.result ≡ why_not x (never_falls (positions_of ys)) = c.why_not-number.ensures ∙ ap (why_not x) c.never_falls-rises.ensures in
     let k = ne_eqb (why_not x (never_falls (positions_of ys))) 0 (λ z. c.if-number-eq0.false (e ∙ z)) in
-    (c.refused.ensures ∙ ap (λ (n : ℕ). steps_laid (refused n)) e ∙ ap steps_laid (sym (refused_steps x ys k)), sym (refused_slots x ys k))
+    (c.refused.ensures ∙ ap (λ (n : Refusal). steps_laid (Err n)) e ∙ ap steps_laid (sym (refused_steps x ys k)), sym (refused_slots x ys k))

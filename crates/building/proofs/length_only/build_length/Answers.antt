@@ -1,4 +1,6 @@
 -- `building::length_only::build_length` meets its contract: each return is a law of `Lengths`; a length that passed 4 and 9 is not negative and small (`length_pass`), so that 12 can be asked. Assumes nothing.
+use Rattle.std.specs.Prelude.{Option}
+use Rattle.refusals.specs.Outcome.{Ok}
 use mathlib.Core.Path.{◌≡◌, sym, ap, ◌∙◌}
 use Prim.Native.Nat.{ℕ, ◌≤◌}
 use lib.IntN.{pos, nat_abs}
@@ -8,8 +10,6 @@ use Rattle.transcript.specs.Heads.{start_of, end_of}
 use Rattle.judging.specs.Judging.{half_fault, cds_fault, length_fault}
 use Rattle.building.specs.Afterwards.{length_answer}
 use Rattle.judging.specs.laws.Accepted.{length_pass, measured_means}
-use Rattle.transcript.specs.declared.Bound.{Bound}
-use Rattle.transcript.specs.declared.Built.TheVariants as answer
 use Rattle.building.proofs.Lengths.{bits_unknown, length_refused, half_refused, cds_refused, length_accepted}
 use Rattle.building.proofs.Passed.{length_head_is}
 use Rattle.building.proofs.length_only.build_length.Goals as goal
@@ -62,7 +62,7 @@ cds_fault-outside-requires c =
     rw (rw (read (begin k).ranges.length) at c.bases_of.ensures) (whole k).1
 
 -- what 12 said of them
-same_fault : {s s' e e' : Bound} {n n' : ℕ} → s ≡ s' → e ≡ e' → n ≡ n' → cds_fault s e n ≡ cds_fault s' e' n'
+same_fault : {s s' e e' : Option ℤ} {n n' : ℕ} → s ≡ s' → e ≡ e' → n ≡ n' → cds_fault s e n ≡ cds_fault s' e' n'
 same_fault p q r = rw (p, q, r)
 
 module _ (c : lts.After-cds_fault tie.the-claims tie.handed_pre tie.handed_post) where
@@ -99,4 +99,4 @@ returns c =
     let judged = length_accepted a.length a.cds a.start a.end h.if-cds-gt-BOTH_BITS.false (long h) (half k) (sym (of_range k) ∙ c.if-outside-ne0.false) in
     let head = rw (read f.length, read f.start, read f.end) at c.with_cds.ensures in
     let is = length_head_is a.length a.cds a.start a.end _ (measured_means a.length a.cds a.start a.end _ judged) in
-    ap answer.Transcript (head ∙ is) ∙ sym (ap length_answer judged)
+    ap Ok (head ∙ is) ∙ sym (ap length_answer judged)

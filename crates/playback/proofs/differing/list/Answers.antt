@@ -1,12 +1,12 @@
 -- `playback::differing::list` meets its contract: the text is measured before a byte is stored; then the lines are put, and the total's behind them.
 -- Assumes nothing.
+use Rattle.refusals.specs.Outcome.{Ok}
 use mathlib.Core.Path.{◌≡◌, refl, ap}
 use mathlib.Core.List.{List}
 use Prim.Native.Nat.{ℕ, ◌+◌, ◌≤◌, ◌<◌}
 use native.Mathlib.Omega.{arith}
 use borrow.Author.Tests.{lt-ltb, le-ltb}
 use lib.ListN.{length}
-use Rattle.spelling.specs.declared.Written.TheVariants as answer
 use Rattle.holding.specs.Holding.{lent}
 use Rattle.card.specs.Putting.{Put}
 use Rattle.card.specs.laws.Putting.{then_put, put_length, put_as, put_front}
@@ -77,4 +77,4 @@ pub returns : goal.returns
 returns c =
     let m = at_size c.before in
     let fits : length (replay_text (indices m)) ≤ length (start m).args.buffer.now = omega (arith, size_is m) in
-    rw (le-ltb _ _ fits) record { value = ap answer.Text (size_is m); buffer_after = (put_front (whole c.before) (omega (arith, (whole c.before).past))).1 }
+    rw (le-ltb _ _ fits) record { value = ap Ok (size_is m); buffer_after = (put_front (whole c.before) (omega (arith, (whole c.before).past))).1 }

@@ -7,7 +7,7 @@ use Rattle.spots.specs.Aligned.{aligned_by, Aligns, InSegment}
 use Rattle.spots.specs.declared.Alignment.{Alignment}
 use Rattle.worklist.specs.declared.Slot.{Slot}
 use Rattle.worklist.specs.Worklist.{Track, positions_of, never_falls, steps_after, steps_laid}
-use Rattle.refusals.specs.Outcome.{answered}
+use Rattle.refusals.specs.Outcome.{Ok}
 use Rattle.worklist.specs.Walking.{track_by, next_index, Ready, answered_by}
 use Rattle.worklist.proofs.laws.Along.{index_begins, index_on, walk_ready, walk_next, walk_here}
 use Rattle.worklist.proofs.Front.{front, front_at, front_set, front_all}
@@ -105,6 +105,6 @@ returns c =
     let ys : List Slot = a.slots.now in
     let long = gs_length a.at a.genome.now a.transcript.now a.letters.now a.exons.now ys c.requires.0 c.requires.1 in
     let all : c.loop-i.i ≡ length (positions_of ys) = omega (arith, long) in (
-      c.told.ensures ∙ ap (λ (n : ℕ). steps_laid (answered n)) (h.stands ∙ ap (steps_after (track_by a.at a.genome.now) (positions_of ys)) all),
+      c.told.ensures ∙ ap (λ (n : ℕ). steps_laid (Ok n)) (h.stands ∙ ap (steps_after (track_by a.at a.genome.now) (positions_of ys)) all),
       h.filled ∙ front_all ys _ (ws_length a.at a.genome.now a.transcript.now a.letters.now a.exons.now ys c.requires.0 c.requires.1) c.loop-i.i (omega arith),
     )
