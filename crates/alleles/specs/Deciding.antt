@@ -1,6 +1,6 @@
 -- Which refusal of the join comes first, by what the code has at hand. Assumes nothing.
 use Rattle.std.specs.Prelude.{ℕ, Bool, false, not, eqb, ltb, if◌then◌else◌}
-use Rattle.refusals.specs.Numbers.{NoRoom, NoBase, NotTogether}
+use Rattle.refusals.specs.declared.Refusal.TheVariants.{NoRoom, NoBase, NotTogether}
 use Rattle.transcript.specs.declared.Head.{Head}
 use Rattle.holding.specs.Holding.{of_records, is_forward}
 

@@ -1,6 +1,6 @@
 -- A question of one of the six mappings as one value, asked of what is lent. Assumes nothing.
 use Rattle.std.specs.Prelude.{ℕ, ◌/◌, ◌%◌, Bool, false, cond, List, eqb, ℤ, pos, if◌then◌else◌}
-use Rattle.refusals.specs.Numbers.{NoLog}
+use Rattle.refusals.specs.declared.Refusal.TheVariants.{NoLog}
 use Rattle.refusals.specs.Outcome.{Outcome, Err, Ok}
 use Rattle.holding.specs.Holding.{Lent, checked}
 use Rattle.mapper.specs.Asking.{ask_g_to_n, ask_n_to_g, ask_n_to_c, ask_c_to_n, ask_g_to_c, ask_c_to_g}

@@ -1,7 +1,7 @@
 -- The questions and answers that an entry can hold. Every other entry is 35: `holdable` and `sayable` have the reasons one by one, and there is no other.
 -- Assumes nothing.
 use Rattle.std.specs.Prelude.{ℕ, Bool, true, ◌&&◌, ◌||◌, List, [], ◌∷◌, eqb, ltb, leb, ℤ, pos, if◌then◌else◌}
-use Rattle.refusals.specs.Numbers.{NotCoding, Outside, NOutside, COutside, TooWide, NoGenome, MissingEnd, NotTogether}
+use Rattle.refusals.specs.declared.Refusal.TheVariants.{NotCoding, Outside, NOutside, COutside, TooWide, NoGenome, MissingEnd, NotTogether}
 use Rattle.refusals.specs.Refusing.{one_of}
 use Rattle.whole.specs.Whole.{eq_z}
 use Rattle.taking.specs.Questions.{map_g_to_n, map_n_to_g, map_n_to_c, map_c_to_n, map_g_to_c, map_c_to_g, from_g, from_c, to_g, to_c, is_plain, is_star, is_missing}

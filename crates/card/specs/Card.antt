@@ -1,6 +1,7 @@
 -- A card: what building's input is written as, and what bytes read as. Assumes nothing.
 use Rattle.std.specs.Prelude.{ℕ, ◌+◌, ◌*◌, Bool, ◌&&◌, not, List, [], ◌∷◌, ◌++◌, eqb, ltb, leb, ℤ, pos, length, get_or, drop, if◌then◌else◌, Some, None, Option}
-use Rattle.refusals.specs.Numbers.{TooMuch, NoCard, BadVersion, most_card}
+use Rattle.refusals.specs.Numbers.{most_card}
+use Rattle.refusals.specs.declared.Refusal.TheVariants.{TooMuch, NoCard, BadVersion}
 use Rattle.refusals.specs.Outcome.{Outcome, Ok, Err}
 use Rattle.whole.specs.Whole.{eq_z}
 use Rattle.fields.specs.Fields.{le16, bytes16, bytes32, bits32}

@@ -1,6 +1,6 @@
 -- What a question is asked with: both ends of a g. interval, or 19; and whether there is a CDS to ask of. Assumes nothing.
 use Rattle.std.specs.Prelude.{Bool, true, false, ℤ}
-use Rattle.refusals.specs.Numbers.{MissingEnd}
+use Rattle.refusals.specs.declared.Refusal.TheVariants.{MissingEnd}
 use Rattle.refusals.specs.Outcome.{Outcome, Ok, Err}
 use Rattle.transcript.specs.Transcript.{Cds}
 use Rattle.transcript.specs.Transcript.Cds.{no_cds, cds}

@@ -6,7 +6,9 @@ use native.Mathlib.Omega.{arith}
 use borrow.Author.Tests.{lt-ltb, le-ltb}
 use lib.IntN.{ℤ, pos}
 use lib.ListN.{length, set, length-set, length-map}
-use Rattle.refusals.specs.Numbers.{TooMuch, most_text, most_segments, Refusal}
+use Rattle.refusals.specs.Numbers.{most_text, most_segments}
+use Rattle.refusals.specs.declared.Refusal.{Refusal}
+use Rattle.refusals.specs.declared.Refusal.TheVariants.{TooMuch}
 use Rattle.refusals.specs.Outcome.{Ok, Err, Answered}
 use Rattle.cigar.specs.Elements.{Element}
 use Rattle.cigar.specs.Text.{Reading, read_all, elements_in, counted_of}

@@ -1,7 +1,8 @@
 -- A CIGAR text alone, read into two lent tables, one of counts and one of letters. Assumes nothing.
 use Rattle.std.specs.Prelude.{◌≡◌, List, map, ℕ, ltb, ℤ, pos, length, if◌then◌else◌}
 use Rattle.std.proofs.lemmas.List.Edits.{sets}
-use Rattle.refusals.specs.Numbers.{TooMuch, most_text, most_segments}
+use Rattle.refusals.specs.Numbers.{most_text, most_segments}
+use Rattle.refusals.specs.declared.Refusal.TheVariants.{TooMuch}
 use Rattle.refusals.specs.Outcome.{Ok, Err}
 use Rattle.cigar.specs.Elements.{Element}
 use Rattle.cigar.specs.Text.{Reading, read_all}

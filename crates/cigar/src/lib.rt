@@ -11,43 +11,19 @@ ghost use Rattle.cigar.specs.Read.{read_text, counts_after, letters_after, FullL
 
 use refusals::{MOST_COUNT, MOST_SEGMENTS, MOST_TEXT, Refusal};
 
-// What reading at a place finds.
+// An element that stands in a text: its count, its letter and the place after it.
 #[derive(Clone, Copy)]
-pub enum Step {
-    // A whole element: its count, its letter and the place after it.
-    Element(u32, u8, usize),
-    // 7 or 8, the number of a refusal.
-    Refused(u8),
-    // Nothing left.
-    End,
-}
-
-// How many elements a text has, or the number of its refusal.
-#[derive(Clone, Copy)]
-pub enum Counted {
-    Count(usize),
-    Refused(u8),
-}
-
-// Whether a byte is a decimal digit.
-fn is_digit(b: u8) -> bool
-    ensures { result ≡ is_digit b }
-{
-    if b < b'0' {
-        return false;
-    }
-    b <= b'9'
+pub struct Step {
+    pub count: u32,
+    pub letter: u8,
+    pub next: usize,
 }
 
 // Whether a byte is one of the six letters.
 pub fn is_letter(b: u8) -> bool
     ensures { result ≡ is_letter b }
 {
-    match b {
-        b'=' | b'D' | b'I' | b'M' | b'X' => true,
-        b'N' => true,
-        _ => false,
-    }
+    matches!(b, b'=' | b'D' | b'I' | b'M' | b'N' | b'X')
 }
 
 // One above the largest count. No count above the largest is finished, so this one stands for all of them.
@@ -63,43 +39,48 @@ fn more(n: u64, digit: u8) -> u64
 }
 
 // The element of a letter that was read. No digits mean 1, and a count above the largest is 8.
-fn finish(given: bool, n: u64, letter: u8, next: usize) -> Step
+fn finish(given: bool, n: u64, letter: u8, next: usize) -> Result<Option<Step>, Refusal>
     ensures { result ≡ finished (count_of given n) letter next }
 {
-    if given {
-        if n < OVER {
-            let count = n as u32;
-            return Step::Element(count, letter, next);
-        }
-        return Step::Refused(Refusal::BadCount);
+    if !given {
+        return Ok(Some(Step {
+            count: 1,
+            letter,
+            next,
+        }));
     }
-    Step::Element(1, letter, next)
+    if n < OVER {
+        let count = n as u32;
+        return Ok(Some(Step {
+            count,
+            letter,
+            next,
+        }));
+    }
+    Err(Refusal::BadCount)
 }
 
-// The element that begins at `at`, its 7 or 8, or the end of the text.
-pub fn step_at(text: &[u8], at: usize) -> Step
+// The element that begins at `at`, its 7 or 8, or nothing at the end of the text.
+pub fn step_at(text: &[u8], at: usize) -> Result<Option<Step>, Refusal>
     ensures { result ≡ step_at text.now at }
 {
     if text.len() <= at {
-        return Step::End;
+        return Ok(None);
     }
     let mut n: u64 = 0;
     let mut given = false;
-    let mut i = at;
-    while i < text.len() {
+    for i in at..text.len() {
         let b = text[i];
-        if is_digit(b) {
+        if b.is_ascii_digit() {
             n = more(n, b);
             given = true;
-            i += 1;
+        } else if is_letter(b) {
+            return finish(given, n, b, i + 1);
         } else {
-            if is_letter(b) {
-                return finish(given, n, b, i + 1);
-            }
-            return Step::Refused(Refusal::NoElement);
+            break;
         }
     }
-    Step::Refused(Refusal::NoElement)
+    Err(Refusal::NoElement)
 }
 
 // How many elements a text has, or the first refusal: each element's 7, 8, and 3 where there is no room for it.
@@ -108,19 +89,14 @@ pub fn count_elements(text: &[u8]) -> Result<usize, Refusal>
 {
     let mut at = 0;
     let mut n: usize = 0;
-    loop {
-        match step_at(text, at) {
-            Step::Element(_, _, next) => {
-                if n == MOST_SEGMENTS {
-                    return Err(Refusal::TooMuch);
-                }
-                at = next;
-                n += 1;
-            }
-            Step::Refused(k) => return Err(k),
-            Step::End => return Ok(n),
+    while let Some(step) = step_at(text, at)? {
+        if n == MOST_SEGMENTS {
+            return Err(Refusal::TooMuch);
         }
+        at = step.next;
+        n += 1;
     }
+    Ok(n)
 }
 
 // A count as the signed number of a table.
@@ -139,18 +115,12 @@ fn fill_elements(text: &[u8], counts: &mut [i32], letters: &mut [u8])
 {
     let mut at = 0;
     let mut n = 0;
-    loop {
-        match step_at(text, at) {
-            Step::Element(count, letter, next) => {
-                let number = signed(count);
-                counts[n] = number;
-                letters[n] = letter;
-                n += 1;
-                at = next;
-            }
-            Step::Refused(_) => return,
-            Step::End => return,
-        }
+    while let Ok(Some(step)) = step_at(text, at) {
+        let number = signed(step.count);
+        counts[n] = number;
+        letters[n] = step.letter;
+        n += 1;
+        at = step.next;
     }
 }
 
@@ -167,13 +137,9 @@ pub fn read_cigar(
     if MOST_TEXT < text.len() {
         return Err(Refusal::TooMuch);
     }
-    match count_elements(text) {
-        Ok(n) => {
-            fill_elements(text, counts, letters);
-            Ok(n)
-        }
-        Err(k) => Err(k),
-    }
+    let n = count_elements(text)?;
+    fill_elements(text, counts, letters);
+    Ok(n)
 }
 
 // How far an element goes along the genome.
@@ -187,8 +153,8 @@ pub fn along_genome(letter: u8, count: u32) -> u32
 pub fn along_transcript(letter: u8, count: u32) -> u32
     ensures { (result ≡ along_transcript (kind_of letter) count) × (result ≤ count) }
 {
-    if letter == b'I' {
-        return 0;
+    match letter {
+        b'I' | b'N' => 0,
+        _ => count,
     }
-    if letter == b'N' { 0 } else { count }
 }

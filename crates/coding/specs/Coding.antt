@@ -2,7 +2,7 @@
 use Rattle.std.specs.Prelude.{ℕ, Bool, ◌&&◌, ◌||◌, ℤ, pos, if◌then◌else◌}
 use Rattle.std.specs.Bool.{beq}
 use Rattle.std.specs.Int.Signed.{lt_z, le_z}
-use Rattle.refusals.specs.Numbers.{NotCoding, NOutside, COutside}
+use Rattle.refusals.specs.declared.Refusal.TheVariants.{NotCoding, NOutside, COutside}
 use Rattle.refusals.specs.Outcome.{Outcome, Err}
 use Rattle.whole.specs.Whole.{eq_z}
 use Rattle.numbering.specs.Numbers.{c_of_n, n_of_c}

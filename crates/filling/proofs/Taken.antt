@@ -6,7 +6,8 @@ use native.Mathlib.Omega.{arith}
 use lib.Dec.{eqb, ltb}
 use lib.ListN.{take, drop}
 use borrow.Author.Tests.{ltb-true, ltb-false, eqb-true, eqb-false, ne_eqb}
-use Rattle.refusals.specs.Numbers.{most_text, most_segments, Refusal}
+use Rattle.refusals.specs.Numbers.{most_text, most_segments}
+use Rattle.refusals.specs.declared.Refusal.{Refusal}
 use Rattle.refusals.specs.Outcome.{Ok, Err}
 use Rattle.whole.specs.laws.Whole.{by_test}
 use Rattle.cigar.specs.declared.Step.TheVariants as step

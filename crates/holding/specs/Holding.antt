@@ -1,7 +1,8 @@
 -- Refusal 23: when a transcript that a host lends holds together, and what it then stands for. Assumes nothing.
 use Rattle.std.specs.Prelude.{ℕ, ◌+◌, Bool, false, ◌&&◌, ◌||◌, List, leb, pos, negsuc, nat_abs, get_or, if◌then◌else◌}
 use Rattle.std.specs.Int.Signed.{le_z}
-use Rattle.refusals.specs.Numbers.{most_records, most_segments, most_bases, NotTogether}
+use Rattle.refusals.specs.Numbers.{most_records, most_segments, most_bases}
+use Rattle.refusals.specs.declared.Refusal.TheVariants.{NotTogether}
 use Rattle.refusals.specs.Outcome.{Outcome, Err}
 use Rattle.whole.specs.Whole.{eq_z}
 use Rattle.segments.specs.Tables.{Tables, tables, segments_hold, read}

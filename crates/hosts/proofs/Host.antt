@@ -7,7 +7,9 @@ use lib.Dec.{eqb}
 use lib.IntN.{ℤ}
 use lib.ListN.{drop}
 use borrow.Author.Tests.{eqb-false}
-use Rattle.refusals.specs.Numbers.{NoGenome, most_segments, Refusal}
+use Rattle.refusals.specs.Numbers.{most_segments}
+use Rattle.refusals.specs.declared.Refusal.{Refusal}
+use Rattle.refusals.specs.declared.Refusal.TheVariants.{NoGenome}
 use Rattle.refusals.specs.Outcome.{Outcome, Ok, Err, Answered, and_then}
 use Rattle.refusals.specs.laws.Outcomes.{clash, same}
 use Rattle.refusals.specs.Refusing.{one_of, Only}

@@ -3,7 +3,7 @@
 --     HostSeesLength      and its answer about a length
 --     Host2, Host3        demands 2 and 3 in the numbers that the host is told
 use Rattle.std.specs.Prelude.{ℕ, ◌+◌, Bool, List, map, ◌≡◌, ℤ, if◌then◌else◌}
-use Rattle.refusals.specs.Numbers.{NoGenome, Falling}
+use Rattle.refusals.specs.declared.Refusal.TheVariants.{NoGenome, Falling}
 use Rattle.refusals.specs.Outcome.{Outcome, Ok, Err, and_then, through}
 use Rattle.segments.specs.Tables.{Tables}
 use Rattle.transcript.specs.Transcript.{Transcript, Cds, genome_length}

@@ -1,7 +1,8 @@
 -- A log: what entries are written as, what bytes read as, and what an entry more is written as behind them. Assumes nothing.
 use Rattle.std.specs.Prelude.{ℕ, zero, suc, ◌+◌, ◌-◌, ◌/◌, ◌%◌, ◌≡◌, Bool, true, false, ◌&&◌, not, List, [], ◌∷◌, ◌++◌, eqb, ltb, length, get_or, if◌then◌else◌}
 use Rattle.std.proofs.lemmas.List.Edits.{sets}
-use Rattle.refusals.specs.Numbers.{TooMuch, NoRoom, NoLog, most_log}
+use Rattle.refusals.specs.Numbers.{most_log}
+use Rattle.refusals.specs.declared.Refusal.TheVariants.{TooMuch, NoRoom, NoLog}
 use Rattle.refusals.specs.Outcome.{Outcome, Ok, Err}
 use Rattle.fields.specs.Fields.{le16, bytes16}
 use Rattle.journal.specs.Layout.{mark, version, version_at, entries_at}

@@ -1,7 +1,8 @@
 -- Building's judgment: the first refusal in document 01's order, or what is to be built. Assumes nothing.
 use Rattle.std.specs.Prelude.{ℕ, ◌+◌, Bool, true, false, not, List, eqb, ltb, ℤ, pos, negsuc, nat_abs, length, if◌then◌else◌, Some, None, Option}
 use Rattle.std.specs.Int.Signed.{lt_z}
-use Rattle.refusals.specs.Numbers.{NoRecords, NoStrand, TooMuch, BadBound, TooLong, NoSegment, HalfCds, BadCds, NoCard, NotTogether, most_records, most_bases}
+use Rattle.refusals.specs.Numbers.{most_records, most_bases}
+use Rattle.refusals.specs.declared.Refusal.TheVariants.{NoRecords, NoStrand, TooMuch, BadBound, TooLong, NoSegment, HalfCds, BadCds, NoCard, NotTogether}
 use Rattle.refusals.specs.Outcome.{Outcome, Ok, Err, unless}
 use Rattle.whole.specs.Whole.{eq_z}
 use Rattle.cigar.specs.Elements.{Element, genome, transcript, total}

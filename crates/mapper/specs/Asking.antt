@@ -1,6 +1,6 @@
 -- Questions to a transcript of either kind: 18 before the mapping, and the questions in-bounds and coding. Assumes nothing.
 use Rattle.std.specs.Prelude.{Bool}
-use Rattle.refusals.specs.Numbers.{NoGenome}
+use Rattle.refusals.specs.declared.Refusal.TheVariants.{NoGenome}
 use Rattle.refusals.specs.Outcome.{Outcome, Ok, Err, and_then, through}
 use Rattle.transcript.specs.Transcript.{Source, genome_length, length_of, coding_of}
 use Rattle.transcript.specs.Transcript.Source.{aligned, length_only}

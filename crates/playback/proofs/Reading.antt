@@ -1,6 +1,6 @@
 -- A log by what the code says of it: its entries are as many as they are read to be, and stand where they are looked for.
 -- Assumes nothing.
-use Rattle.refusals.specs.Numbers.{Refusal}
+use Rattle.refusals.specs.declared.Refusal.{Refusal}
 use mathlib.Core.Path.{◌≡◌, refl, sym, ap, ◌∙◌}
 use mathlib.Core.List.{List}
 use Prim.Native.Nat.{ℕ, ◌+◌, ◌*◌, ◌≤◌}

@@ -1,6 +1,6 @@
 -- A log replayed on a transcript that is lent: which answers differ, and what is written of them. Assumes nothing.
 use Rattle.std.specs.Prelude.{ℕ, ◌+◌, Bool, not, ◌&&◌, List, [], ◌∷◌, ◌++◌, eqb, ltb, length, if◌then◌else◌}
-use Rattle.refusals.specs.Numbers.{NoRoom}
+use Rattle.refusals.specs.declared.Refusal.TheVariants.{NoRoom}
 use Rattle.refusals.specs.Outcome.{Outcome, Ok, Err, and_then, through}
 use Rattle.whole.specs.Whole.{eq_z}
 use Rattle.transcript.specs.Transcript.{Source}

@@ -1,6 +1,7 @@
 -- A log replayed on the transcript that a card makes, and the two as one input of bytes. Assumes nothing.
 use Rattle.std.specs.Prelude.{ℕ, ◌+◌, ◌-◌, List, ltb, length, take, drop, if◌then◌else◌}
-use Rattle.refusals.specs.Numbers.{TooMuch, NoCard, most_segments, most_card}
+use Rattle.refusals.specs.Numbers.{most_segments, most_card}
+use Rattle.refusals.specs.declared.Refusal.TheVariants.{TooMuch, NoCard}
 use Rattle.refusals.specs.Outcome.{Outcome, Ok, Err, and_then}
 use Rattle.fields.specs.Fields.{le32}
 use Rattle.segments.specs.Tables.{padded, tables_of}

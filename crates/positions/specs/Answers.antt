@@ -1,6 +1,6 @@
 -- What a mapping is answered with: an interval with its mark, or the number of a refusal; and refusal 17. Assumes nothing.
 use Rattle.std.specs.Prelude.{ℕ, Bool, true, cond, ◌&&◌, ◌≡◌, if◌then◌else◌}
-use Rattle.refusals.specs.Numbers.{TooWide}
+use Rattle.refusals.specs.declared.Refusal.TheVariants.{TooWide}
 use Rattle.refusals.specs.Outcome.{Outcome, Ok, Err, and_then, through, both}
 use Rattle.whole.specs.Fits.{fits}
 use Rattle.positions.specs.Positions.{Interval, each, GPosition, NPosition, CPosition}

@@ -1,5 +1,5 @@
 -- What the promises shut out: a mapper that refuses everything, one that always says n.1, one that on strand -1 does not exchange the ends, and one that always says exon 1, whatever else they answer. Assumes nothing.
-use Rattle.refusals.specs.Numbers.{Refusal}
+use Rattle.refusals.specs.declared.Refusal.{Refusal}
 use Rattle.std.specs.Prelude.{if◌then◌else◌}
 use Prim.Native.Nat.{ℕ}
 use native.Mathlib.Omega.{arith}

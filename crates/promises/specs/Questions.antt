@@ -1,6 +1,6 @@
 -- Which refusals a question to what is lent can give in strict mode, where that is less than `mapper`'s row: 17 is then given by n. to g. and c. to g. alone. Assumes nothing.
 use Rattle.std.specs.Prelude.{ℕ, true, List, [], ◌∷◌, ◌≡◌}
-use Rattle.refusals.specs.Numbers.{NotCoding, Outside, NOutside, COutside, NoGenome, MissingEnd, NotTogether}
+use Rattle.refusals.specs.declared.Refusal.TheVariants.{NotCoding, Outside, NOutside, COutside, NoGenome, MissingEnd, NotTogether}
 use Rattle.refusals.specs.Refusing.{Only}
 use Rattle.whole.specs.Fits.{fits}
 use Rattle.holding.specs.Holding.{Lent, checked}

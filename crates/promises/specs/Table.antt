@@ -1,6 +1,6 @@
 -- The table of places: P1 to P15 of document 01 and rows beside them, as one statement over one list. A row is a question with the answer that is due. Assumes nothing.
 use Rattle.std.specs.Prelude.{ℕ, ◌+◌, Bool, true, false, List, [], ◌∷◌, map, ◌≡◌, ℤ, pos, neg_ℤ, drop, Some}
-use Rattle.refusals.specs.Numbers.{NotCoding, Outside, NOutside, COutside, TooWide, NoGenome, MissingEnd, NotSpanning}
+use Rattle.refusals.specs.declared.Refusal.TheVariants.{NotCoding, Outside, NOutside, COutside, TooWide, NoGenome, MissingEnd, NotSpanning}
 use Rattle.refusals.specs.Outcome.{Outcome, Ok, Err}
 use Rattle.sequences.specs.Alleles.{prefix_len, changed_of}
 use Rattle.numbering.specs.Numbers.{plain_c, star_c}

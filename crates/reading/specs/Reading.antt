@@ -1,6 +1,7 @@
 -- The CIGARs of the records as elements, or the first of 3, 7, 8 and 32: per record its CIGAR's size, the gap before it, its elements in text order, and then how far they go. Assumes nothing.
 use Rattle.std.specs.Prelude.{ℕ, ◌+◌, ◌-◌, Bool, List, [], ◌∷◌, eqb, ltb, ℤ, pos, nat_abs, ◌+ℤ◌, length, if◌then◌else◌}
-use Rattle.refusals.specs.Numbers.{TooMuch, NotSpanning, most_text, most_segments}
+use Rattle.refusals.specs.Numbers.{most_text, most_segments}
+use Rattle.refusals.specs.declared.Refusal.TheVariants.{TooMuch, NotSpanning}
 use Rattle.refusals.specs.Outcome.{Outcome, Ok, Err, and_then, both}
 use Rattle.whole.specs.Whole.{eq_z}
 use Rattle.cigar.specs.Elements.{Element, letter_n, genome, total}

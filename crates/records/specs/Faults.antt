@@ -1,7 +1,7 @@
 -- Refusals 4, 5 and 6: what is asked of a record, and of it beside the one before it. 0 is no refusal. Assumes nothing.
 use Rattle.std.specs.Prelude.{ℕ, Bool, cond, List, [], ◌∷◌, eqb, ℤ, pos, if◌then◌else◌}
 use Rattle.std.specs.Int.Signed.{lt_z}
-use Rattle.refusals.specs.Numbers.{BadBound, BadOrd, NotAdjacent}
+use Rattle.refusals.specs.declared.Refusal.TheVariants.{BadBound, BadOrd, NotAdjacent}
 use Rattle.whole.specs.Whole.{eq_z}
 use Rattle.records.specs.Records.{Record}
 

@@ -1,7 +1,7 @@
 -- The refusals' numbers and the limits, each named once: the refusals of document 01 in their order, those of the requests after it. The code's names for them are those of src/lib.rt.
 use Rattle.std.specs.Prelude.{ℕ}
-pub use Rattle.refusals.specs.declared.Refusal.{Refusal}
-pub use Rattle.refusals.specs.declared.Refusal.TheVariants.{NoRecords, NoStrand, TooMuch, BadBound, BadOrd, NotAdjacent, NoElement, BadCount, TooLong, NoSegment, HalfCds, BadCds, NotCoding, Outside, NOutside, COutside, TooWide, NoGenome, MissingEnd, NoRoom, NoCard, BadVersion, NotTogether, NoOperation, NoWord, NotSpanning, Falling, NoBase, NoLog}
+use Rattle.refusals.specs.declared.Refusal.{Refusal}
+use Rattle.refusals.specs.declared.Refusal.TheVariants.{NoRecords, NoStrand, TooMuch, BadBound, BadOrd, NotAdjacent, NoElement, BadCount, TooLong, NoSegment, HalfCds, BadCds, NotCoding, Outside, NOutside, COutside, TooWide, NoGenome, MissingEnd, NoRoom, NoCard, BadVersion, NotTogether, NoOperation, NoWord, NotSpanning, Falling, NoBase, NoLog}
 
 -- the number of a refusal
 abbrev pub number : Refusal → ℕ

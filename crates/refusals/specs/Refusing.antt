@@ -1,6 +1,7 @@
 -- What is said of refusals: which ones a question can give, and that strict mode only refuses more. Assumes nothing.
 use Rattle.std.specs.Prelude.{Bool, true, false, ◌||◌, List, [], ◌∷◌, ◌≡◌, eqb}
-use Rattle.refusals.specs.Numbers.{Refusal, number}
+use Rattle.refusals.specs.declared.Refusal.{Refusal}
+use Rattle.refusals.specs.Numbers.{number}
 use Rattle.refusals.specs.Outcome.{Outcome, Ok, Err, Answered}
 
 -- k is one of ks

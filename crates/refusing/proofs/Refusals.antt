@@ -10,7 +10,9 @@ use lib.IntN.{ℤ, pos, negsuc, nat_abs}
 use lib.ListN.{length, drop, get_or}
 use lib.Signed.{lt_z}
 use borrow.Author.Tests.{eqb-true, ltb-true}
-use Rattle.refusals.specs.Numbers.{NoRecords, NoStrand, TooMuch, BadBound, BadOrd, NotAdjacent, NoElement, BadCount, TooLong, NoSegment, HalfCds, BadCds, NoRoom, NoCard, NotTogether, NoOperation, NotSpanning, NoBase, NoLog, most_word_count, most_count, most_segments, most_text, most_records, most_bases, most_card, most_log, Refusal}
+use Rattle.refusals.specs.Numbers.{most_word_count, most_count, most_segments, most_text, most_records, most_bases, most_card, most_log}
+use Rattle.refusals.specs.declared.Refusal.{Refusal}
+use Rattle.refusals.specs.declared.Refusal.TheVariants.{NoRecords, NoStrand, TooMuch, BadBound, BadOrd, NotAdjacent, NoElement, BadCount, TooLong, NoSegment, HalfCds, BadCds, NoRoom, NoCard, NotTogether, NoOperation, NotSpanning, NoBase, NoLog}
 use Rattle.refusals.specs.Outcome.{Outcome, Ok, Err, and_then, unless}
 use Rattle.refusals.specs.Refusing.{one_of, Only}
 use Rattle.refusals.specs.laws.Refusing.{only_through, only_both, only_then}

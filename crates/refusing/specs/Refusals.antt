@@ -1,6 +1,6 @@
 -- The table of refusals, of what is not a question: which numbers building, CIGAR text, BAM's words, a card, a worklist, alleles and a log can give. That of the questions stands in `mapper`. Assumes nothing.
 use Rattle.std.specs.Prelude.{ℕ, Bool, List, [], ◌∷◌, ℤ}
-use Rattle.refusals.specs.Numbers.{NoRecords, NoStrand, TooMuch, BadBound, BadOrd, NotAdjacent, NoElement, BadCount, TooLong, NoSegment, HalfCds, BadCds, NoRoom, NoCard, BadVersion, NotTogether, NoOperation, NoWord, NotSpanning, NoBase, NoLog}
+use Rattle.refusals.specs.declared.Refusal.TheVariants.{NoRecords, NoStrand, TooMuch, BadBound, BadOrd, NotAdjacent, NoElement, BadCount, TooLong, NoSegment, HalfCds, BadCds, NoRoom, NoCard, BadVersion, NotTogether, NoOperation, NoWord, NotSpanning, NoBase, NoLog}
 use Rattle.refusals.specs.Refusing.{Only}
 use Rattle.cigar.specs.Read.{read_text}
 use Rattle.spelling.specs.Write.{writing}

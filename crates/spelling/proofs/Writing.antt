@@ -16,7 +16,9 @@ use lib.ListN.{length, get_or, length-append}
 use lib.Signed.{lt_z}
 use borrow.Author.Tests.{lt-ltb, le-ltb}
 use Rattle.whole.specs.laws.Whole.{by_test}
-use Rattle.refusals.specs.Numbers.{TooMuch, NoRoom, most_segments, most_text, Refusal}
+use Rattle.refusals.specs.Numbers.{most_segments, most_text}
+use Rattle.refusals.specs.declared.Refusal.{Refusal}
+use Rattle.refusals.specs.declared.Refusal.TheVariants.{TooMuch, NoRoom}
 use Rattle.refusals.specs.Outcome.{Ok, Err, Answered, Outcome}
 use Rattle.cigar.specs.Elements.{Element, is_letter}
 use Rattle.cigar.specs.Text.{Reading, before, element, elements_in}

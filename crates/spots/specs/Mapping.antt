@@ -1,7 +1,7 @@
 -- The mappings of g. intervals to n. and of n. intervals to g., of a transcript built from records. `strict` is true in strict mode. Assumes nothing.
 use Rattle.std.specs.Prelude.{ℕ, Bool, true, false, cond, not, ◌&&◌, ◌||◌, ℤ, pos, neg_ℤ, ◌+ℤ◌, ◌-ℤ◌, if◌then◌else◌}
 use Rattle.std.specs.Int.Signed.{le_z, lt_z}
-use Rattle.refusals.specs.Numbers.{Outside}
+use Rattle.refusals.specs.declared.Refusal.TheVariants.{Outside}
 use Rattle.refusals.specs.Outcome.{Ok, Err}
 use Rattle.numbering.specs.Numbers.{n_of_place, place_of_n}
 use Rattle.cigar.specs.Elements.{genome, transcript}

@@ -1,7 +1,7 @@
 -- An allele as the other strand reads it, and what a lent buffer then holds. Assumes nothing.
 use Rattle.std.specs.Prelude.{ℕ, ◌-◌, List, [], ◌∷◌, ◌++◌, map, reverse, Bool, true, not, ◌&&◌, cond, eqb, ltb, length, drop}
 use Prim.Native.Char.{Char, code}
-use Rattle.refusals.specs.Numbers.{NoRoom, NoBase}
+use Rattle.refusals.specs.declared.Refusal.TheVariants.{NoRoom, NoBase}
 use Rattle.refusals.specs.Outcome.{Outcome, Ok, Err, and_then}
 use Rattle.sequences.specs.Alleles.{prefix_len, suffix_len, without_last, stretch}
 

@@ -3,7 +3,7 @@ use Prim.Native.Nat.{ℕ}
 use mathlib.Core.Bool.{Bool, true}
 use mathlib.Core.Path.{◌≡◌, refl, ap, ◌∙◌}
 use Rattle.refusals.specs.Outcome.{Err, through}
-use Rattle.refusals.specs.Numbers.{NotCoding}
+use Rattle.refusals.specs.declared.Refusal.TheVariants.{NotCoding}
 use Rattle.transcript.specs.Transcript.{no_cds, cds}
 use Rattle.positions.specs.Positions.{NPosition, asks_n}
 use Rattle.positions.specs.Answers.{certain, once, ends, after, chain}

@@ -19,7 +19,8 @@ use lib.ListN.{length, get_or, drop, drop_of_length-le}
 use lib.Seq.{drop-cons}
 use Rattle.whole.specs.laws.Whole.{by_test}
 use borrow.Author.Tests.{lt-ltb, le-ltb, eq-eqb, ne_eqb}
-use Rattle.refusals.specs.Numbers.{TooMuch, NoRoom, NoOperation, most_segments}
+use Rattle.refusals.specs.Numbers.{most_segments}
+use Rattle.refusals.specs.declared.Refusal.TheVariants.{TooMuch, NoRoom, NoOperation}
 use Rattle.refusals.specs.Outcome.{Ok, Err}
 use Rattle.cigar.specs.Text.{element}
 use Rattle.words.specs.Words.{element_of_word, word_of, is_known, all_known, read_words, fault_of, fault_from, elements_at, write_words}

@@ -2,7 +2,8 @@
 -- Words and elements keep their order. BAM's run along the genome and a record's along the transcript, so on strand -1 a caller turns them round. Assumes nothing.
 use Rattle.std.specs.Prelude.{ℕ, zero, suc, ◌+◌, ◌*◌, ◌/◌, ◌%◌, ◌≤◌, min, Bool, true, not, ◌&&◌, List, [], ◌∷◌, map, ltb, eqb, ℤ, pos, nat_abs, length, get_or, if◌then◌else◌}
 use Rattle.std.specs.Int.Signed.{lt_z}
-use Rattle.refusals.specs.Numbers.{TooMuch, NoElement, NoRoom, NoOperation, NoWord, most_segments, most_word_count}
+use Rattle.refusals.specs.Numbers.{most_segments, most_word_count}
+use Rattle.refusals.specs.declared.Refusal.TheVariants.{TooMuch, NoElement, NoRoom, NoOperation, NoWord}
 use Rattle.refusals.specs.Outcome.{Ok, Err, unless, Outcome}
 use Rattle.cigar.specs.Bytes.{ascii}
 use Rattle.cigar.specs.Elements.{Element, is_letter, letter_d, letter_i}

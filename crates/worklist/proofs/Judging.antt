@@ -7,7 +7,7 @@ use mathlib.Core.List.{List, [], ◌∷◌, map}
 use mathlib.Core.Path.{◌≡◌, refl, sym, ap, ap₂, ◌∙◌}
 use lib.Dec.{T, eqb, lit<}
 use lib.IntN.{nat_abs}
-use Rattle.refusals.specs.Numbers.{NoGenome, NotTogether, Falling}
+use Rattle.refusals.specs.declared.Refusal.TheVariants.{NoGenome, NotTogether, Falling}
 use Rattle.refusals.specs.Outcome.{Ok, Err}
 use Rattle.whole.specs.laws.Whole.{by_test}
 use Rattle.segments.specs.laws.Meaning.{holds_means}

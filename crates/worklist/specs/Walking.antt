@@ -1,6 +1,6 @@
 -- Where the walk stands at a slot, and what it is to write there. Assumes nothing.
 use Rattle.std.specs.Prelude.{ℕ, ◌≤◌, ◌<◌, Bool, true, List, ◌≡◌, ℤ, if◌then◌else◌}
-use Rattle.refusals.specs.Numbers.{NoGenome, NotTogether, Falling}
+use Rattle.refusals.specs.declared.Refusal.TheVariants.{NoGenome, NotTogether, Falling}
 use Rattle.transcript.specs.Transcript.{Transcript}
 use Rattle.holding.specs.Holding.{of_records, Lent, holds}
 use Rattle.spots.specs.Mapping.{map_g_to_n}

@@ -2,7 +2,7 @@
 use Rattle.std.specs.Prelude.{ℕ, zero, suc, ◌+◌, ◌-◌, Bool, true, List, map, ℤ, pos, get_or, length, if◌then◌else◌}
 use Rattle.std.proofs.Math.Option.{Option, none, some}
 use Rattle.std.specs.Int.Signed.{lt_z, le_z}
-use Rattle.refusals.specs.Numbers.{NoGenome, Falling}
+use Rattle.refusals.specs.declared.Refusal.TheVariants.{NoGenome, Falling}
 use Rattle.refusals.specs.Outcome.{Outcome, Ok, Err}
 use Rattle.cigar.specs.Elements.{genome}
 use Rattle.segments.specs.Tables.{all_below, entries_of}

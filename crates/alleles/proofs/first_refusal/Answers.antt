@@ -1,6 +1,6 @@
 -- `alleles::first_refusal` meets its contract: the tests stand in the order of the refusals. Assumes nothing.
 use borrow.Author.Tests.{eq-eqb, ne_eqb}
-use Rattle.refusals.specs.Numbers.{NotTogether}
+use Rattle.refusals.specs.declared.Refusal.TheVariants.{NotTogether}
 use Rattle.alleles.proofs.first_refusal.Goals as goal
 
 pub returns-then-asked-eq-NOT_TOGETHER : goal.returns-then-asked-eq-NOT_TOGETHER

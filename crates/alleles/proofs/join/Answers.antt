@@ -1,5 +1,5 @@
 -- `alleles::join` meets its contract: the tests are those of the join in its order, and nothing is stored until all of them have passed. Assumes nothing.
-use Rattle.refusals.specs.Numbers.{Refusal}
+use Rattle.refusals.specs.declared.Refusal.{Refusal}
 use Prim.Native.Nat.{ℕ}
 use mathlib.Core.Bool.{Bool, true, ◌&&◌}
 use mathlib.Core.List.{List, ◌++◌}

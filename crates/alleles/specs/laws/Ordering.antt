@@ -7,7 +7,7 @@ use Rattle.std.specs.Prelude.{ℕ, Bool, true, false, ◌&&◌, List, ◌++◌, 
 use Rattle.std.proofs.lemmas.Bool.{false≢true}
 use Rattle.std.proofs.Common.{sym, ◌∙◌, arith, eqb-true}
 use Rattle.std.proofs.Math.Path.{ap}
-use Rattle.refusals.specs.Numbers.{NoRoom, NoBase, NotTogether}
+use Rattle.refusals.specs.declared.Refusal.TheVariants.{NoRoom, NoBase, NotTogether}
 use Rattle.refusals.specs.Outcome.{Outcome, Ok, Err, Answered, number_of, and_then, through}
 use Rattle.refusals.specs.Refusing.{one_of, Only}
 use Rattle.whole.specs.laws.Whole.{by_test}

@@ -1,6 +1,6 @@
 -- Which refusals the plain mapping gives once 23 is settled: neither 23 nor 0. Assumes nothing.
 use Rattle.std.specs.Prelude.{ℕ, Bool, List, [], ◌∷◌, refl}
-use Rattle.refusals.specs.Numbers.{NotCoding, Outside, NOutside, TooWide, NoGenome, MissingEnd}
+use Rattle.refusals.specs.declared.Refusal.TheVariants.{NotCoding, Outside, NOutside, TooWide, NoGenome, MissingEnd}
 use Rattle.refusals.specs.Refusing.{Only}
 use Rattle.transcript.specs.Transcript.{Source}
 use Rattle.positions.specs.Positions.{Interval, GAsked}

@@ -1,7 +1,7 @@
 -- Worked examples of the join, computed: 10M, a gap of 5 and 8M with the first start 10 and the CDS 3..15, on either strand. Assumes nothing.
 use Rattle.std.specs.Prelude.{ℕ, true, List, [], ◌∷◌, map, ◌≡◌, refl, ℤ, pos, negsuc}
 use Prim.Native.Char.{Char, code}
-use Rattle.refusals.specs.Numbers.{NoGenome, MissingEnd, NoRoom, NotTogether, NoBase, Outside}
+use Rattle.refusals.specs.declared.Refusal.TheVariants.{NoGenome, MissingEnd, NoRoom, NotTogether, NoBase, Outside}
 use Rattle.refusals.specs.Outcome.{Err, through}
 use Rattle.whole.specs.Fits.{fits, fit_of}
 use Rattle.numbering.specs.Numbers.{n_of_place, c_of_n, skip_zero}

@@ -8,7 +8,8 @@ use native.Mathlib.Omega.{arith}
 use mathlib.Core.List.{List, [], ◌∷◌}
 use Rattle.std.proofs.Common.{inl, inr}
 use Rattle.std.proofs.Math.Path.{refl, ap}
-use Rattle.refusals.specs.Numbers.{most_segments, most_bases, Refusal}
+use Rattle.refusals.specs.Numbers.{most_segments, most_bases}
+use Rattle.refusals.specs.declared.Refusal.{Refusal}
 use Rattle.refusals.specs.Outcome.{Outcome, Ok, Err}
 use Rattle.cigar.specs.Elements.{Element, genome, transcript, total}
 use Rattle.segments.specs.Tables.{Tables, padded, tables_of}

@@ -13,7 +13,8 @@ use native.Mathlib.Omega.{arith}
 use borrow.Author.Tests.{eq-eqb, eqb-true, eqb-false, le-leb, leb-true, leb-false, le-ltb, ltb-false}
 use Rattle.std.proofs.Math.ListN.{take-append-drop}
 use Rattle.std.specs.Int.{w32}
-use Rattle.refusals.specs.Numbers.{most_card, Refusal}
+use Rattle.refusals.specs.Numbers.{most_card}
+use Rattle.refusals.specs.declared.Refusal.{Refusal}
 use Rattle.refusals.specs.Outcome.{Ok, Err, Outcome}
 use Rattle.whole.specs.Whole.{eq_z}
 use Rattle.whole.specs.laws.Whole.{by_test, eq_means, eq_yes_by, both}

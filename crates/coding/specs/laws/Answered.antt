@@ -4,7 +4,7 @@ use Rattle.std.proofs.Math.Bool.{true, false}
 use Rattle.std.proofs.Math.Path.{sym, subst}
 use Rattle.std.proofs.Common.{ap}
 use Rattle.std.specs.Int.Signed.{le_z, lt_z}
-use Rattle.refusals.specs.Numbers.{NOutside}
+use Rattle.refusals.specs.declared.Refusal.TheVariants.{NOutside}
 use Rattle.refusals.specs.Outcome.{Ok, Err}
 use Rattle.refusals.specs.laws.Outcomes.{clash, same}
 use Rattle.whole.specs.laws.Whole.{by_test, neither, order}

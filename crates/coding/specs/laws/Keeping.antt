@@ -1,6 +1,6 @@
 -- A strict answer of n. to c. or of c. to n. is also the lenient answer: 15 and 16 alone are strict mode's. Assumes nothing.
 use Rattle.std.specs.Prelude.{ℕ, true, false, pos}
-use Rattle.refusals.specs.Numbers.{NOutside, COutside}
+use Rattle.refusals.specs.declared.Refusal.TheVariants.{NOutside, COutside}
 use Rattle.refusals.specs.Refusing.{Kept}
 use Rattle.refusals.specs.laws.Keeping.{kept_same}
 use Rattle.numbering.specs.Numbers.{n_of_c}

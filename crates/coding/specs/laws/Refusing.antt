@@ -1,6 +1,6 @@
 -- Which refusals n. to c. and c. to n. give: 13, 15, 17 and 13, 16, 17, of which 15 and 16 in strict mode alone. Assumes nothing.
 use Rattle.std.specs.Prelude.{ℕ, Bool, true, false, List, ◌≡◌, refl, ℤ, pos}
-use Rattle.refusals.specs.Numbers.{NotCoding, NOutside, COutside, TooWide}
+use Rattle.refusals.specs.declared.Refusal.TheVariants.{NotCoding, NOutside, COutside, TooWide}
 use Rattle.refusals.specs.Refusing.{one_of, Only}
 use Rattle.numbering.specs.Numbers.{n_of_c}
 use Rattle.positions.specs.Positions.{Interval, NAsked, CAsked}

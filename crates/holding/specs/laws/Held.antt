@@ -5,7 +5,8 @@ use Rattle.std.proofs.lemmas.Bool.{false≢true}
 use Rattle.std.proofs.Math.Logic.{inl, inr, ⊎_elim}
 use Rattle.std.specs.Int.Signed.{le_z}
 use borrow.Author.Tests.{leb-true, le-leb}
-use Rattle.refusals.specs.Numbers.{most_records, most_segments, most_bases, NotTogether}
+use Rattle.refusals.specs.Numbers.{most_records, most_segments, most_bases}
+use Rattle.refusals.specs.declared.Refusal.TheVariants.{NotTogether}
 use Rattle.refusals.specs.Outcome.{Outcome, Ok, Err}
 use Rattle.refusals.specs.laws.Outcomes.{clash}
 use Rattle.whole.specs.Whole.{eq_z}

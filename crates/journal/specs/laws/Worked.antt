@@ -1,6 +1,6 @@
 -- Worked examples, which compute: an entry byte by byte, each reason for 35, and logs.
 use Rattle.std.specs.Prelude.{◌≡◌, refl, Bool, true, ◌&&◌, not, List, [], ◌∷◌, ◌++◌, ℕ, ℤ, pos, negsuc, replicate}
-use Rattle.refusals.specs.Numbers.{Outside, NOutside, MissingEnd, NoRoom, NoLog}
+use Rattle.refusals.specs.declared.Refusal.TheVariants.{Outside, NOutside, MissingEnd, NoRoom, NoLog}
 use Rattle.refusals.specs.Outcome.{Ok, Err}
 use Rattle.fields.specs.Fields.{le16, le32}
 use Rattle.layout.specs.Layout.{nowhere, refusal}

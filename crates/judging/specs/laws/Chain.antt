@@ -1,7 +1,9 @@
 -- The chain of refusals, link by link. Assumes nothing.
 use Rattle.std.specs.Prelude.{◌≡◌, refl, Bool, true, List, ℕ, ◌-◌, ◌≤◌, ◌<◌, length}
 use Rattle.std.proofs.Common.{sym, ap, ◌∙◌, arith, eq-eqb, ne_eqb, lt-ltb, le-ltb}
-use Rattle.refusals.specs.Numbers.{TooMuch, most_records, Refusal}
+use Rattle.refusals.specs.Numbers.{most_records}
+use Rattle.refusals.specs.declared.Refusal.{Refusal}
+use Rattle.refusals.specs.declared.Refusal.TheVariants.{TooMuch}
 use Rattle.refusals.specs.Outcome.{Outcome, Ok, Err, and_then, unless}
 use Rattle.cigar.specs.Elements.{Element, genome, transcript, total}
 use Rattle.cigar.specs.Text.{Reading}

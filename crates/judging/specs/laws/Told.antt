@@ -1,5 +1,5 @@
 -- What the judgment is, by the tally that it is told as. Assumes nothing.
-use Rattle.refusals.specs.Numbers.{Refusal}
+use Rattle.refusals.specs.declared.Refusal.{Refusal}
 use Rattle.std.specs.Prelude.{ℕ, ◌≡◌, refl}
 use Rattle.std.proofs.Common.{arith, ap}
 use Rattle.refusals.specs.Outcome.{Outcome, Ok, Err}

@@ -1,6 +1,6 @@
 -- Worked examples of building's judgment, which compute: document 01's transcripts A and B, and refusals whose order its readings settle. Assumes nothing.
 use Rattle.std.specs.Prelude.{ℕ, ◌+◌, Bool, true, false, List, [], ◌∷◌, ◌++◌, map, ◌≡◌, refl, ℤ, pos, negsuc, length, replicate}
-use Rattle.refusals.specs.Numbers.{NoRecords, NoStrand, BadBound, BadOrd, NotAdjacent, NoElement, BadCount, TooLong, NoSegment, HalfCds, BadCds, NoCard, NotTogether, NotSpanning}
+use Rattle.refusals.specs.declared.Refusal.TheVariants.{NoRecords, NoStrand, BadBound, BadOrd, NotAdjacent, NoElement, BadCount, TooLong, NoSegment, HalfCds, BadCds, NoCard, NotTogether, NotSpanning}
 use Rattle.refusals.specs.Outcome.{Outcome, Ok, Err}
 use Rattle.fields.specs.Fields.{le16, le32}
 use Rattle.cigar.specs.Elements.{is_letter, kind_of, genome, transcript, total, letter_d, letter_equal, letter_i, letter_m, letter_n}

@@ -1,7 +1,7 @@
 -- What is known of what is lent, and what a question to it then is: 23 was settled once, so what is left is the question over how the transcript lies, or over its length. Assumes nothing.
 use Rattle.std.specs.Prelude.{ℕ, List, ◌≡◌, refl, true, false, nat_abs, get_or}
 use Rattle.std.proofs.Common.{arith, sym, ap, ◌∙◌}
-use Rattle.refusals.specs.Numbers.{NotTogether}
+use Rattle.refusals.specs.declared.Refusal.TheVariants.{NotTogether}
 use Rattle.refusals.specs.Outcome.{Outcome, Err}
 use Rattle.whole.specs.laws.Whole.{by_test}
 use Rattle.segments.specs.Tables.{Tables, read}

@@ -1,7 +1,7 @@
 -- g. to n. and back of one number, as the code goes: its end's spot follows from its start's, so that both ends are answered by one spot with one exon. Assumes nothing.
 use Rattle.std.specs.Prelude.{ℕ, List, ◌≡◌, refl, Bool, true, false, ℤ, get_or}
 use Rattle.std.proofs.Common.{ap, ◌∙◌}
-use Rattle.refusals.specs.Numbers.{Outside}
+use Rattle.refusals.specs.declared.Refusal.TheVariants.{Outside}
 use Rattle.refusals.specs.Outcome.{Err}
 use Rattle.numbering.specs.Numbers.{place_of_n}
 use Rattle.whole.specs.laws.Whole.{by_test}

@@ -1,6 +1,6 @@
 -- A strict answer to one of the six mapping questions is also the lenient answer: strict mode only refuses more. Assumes nothing.
 use Rattle.std.proofs.Math.Bool.{true, false}
-use Rattle.refusals.specs.Numbers.{NotTogether}
+use Rattle.refusals.specs.declared.Refusal.TheVariants.{NotTogether}
 use Rattle.refusals.specs.Outcome.{Outcome}
 use Rattle.refusals.specs.Refusing.{Kept}
 use Rattle.refusals.specs.laws.Keeping.{kept_same, kept_then}

@@ -2,7 +2,8 @@
 use Rattle.std.specs.Prelude.{ℕ, Bool, false, ◌&&◌, ◌≡◌, refl, ℤ, if◌then◌else◌}
 use Rattle.std.proofs.Math.Bool.{true}
 use Rattle.std.proofs.Common.{ap, subst}
-use Rattle.refusals.specs.Numbers.{Outside, Refusal}
+use Rattle.refusals.specs.declared.Refusal.{Refusal}
+use Rattle.refusals.specs.declared.Refusal.TheVariants.{Outside}
 use Rattle.refusals.specs.Outcome.{Ok, Err}
 use Rattle.refusals.specs.laws.Outcomes.{clash, same}
 use Rattle.numbering.specs.Numbers.{place_of_n}

@@ -1,6 +1,6 @@
 -- A strict answer of g. to n. or of n. to g. is also the lenient answer: 14 alone is strict mode's. Assumes nothing.
 use Rattle.std.specs.Prelude.{true, false, ◌&&◌, ℤ}
-use Rattle.refusals.specs.Numbers.{Outside}
+use Rattle.refusals.specs.declared.Refusal.TheVariants.{Outside}
 use Rattle.refusals.specs.Refusing.{Kept}
 use Rattle.transcript.specs.Transcript.{Transcript, genome_length}
 use Rattle.positions.specs.Positions.{Interval, NAsked}

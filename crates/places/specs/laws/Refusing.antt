@@ -2,7 +2,7 @@
 use Rattle.std.specs.Prelude.{ℕ, Bool, true, false, ◌&&◌, List, ◌≡◌, refl, ℤ}
 use Rattle.std.proofs.lemmas.Bool.{false≢true}
 use Rattle.std.proofs.Common.{sym, ◌∙◌}
-use Rattle.refusals.specs.Numbers.{Outside, TooWide}
+use Rattle.refusals.specs.declared.Refusal.TheVariants.{Outside, TooWide}
 use Rattle.refusals.specs.Refusing.{one_of, Only}
 use Rattle.whole.specs.laws.Whole.{both_of}
 use Rattle.numbering.specs.Numbers.{place_of_n}

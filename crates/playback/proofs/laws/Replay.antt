@@ -17,7 +17,8 @@ use Rattle.std.proofs.lemmas.Bool.{false≢true}
 use mathlib.Core.List.{List, [], ◌∷◌, ◌++◌, append_assoc}
 use Rattle.std.proofs.Math.ListN.{length, length-append}
 use borrow.Author.Tests.{eqb-true, eq-eqb, ne_eqb, le-ltb}
-use Rattle.refusals.specs.Numbers.{NotTogether, Refusal}
+use Rattle.refusals.specs.declared.Refusal.{Refusal}
+use Rattle.refusals.specs.declared.Refusal.TheVariants.{NotTogether}
 use Rattle.refusals.specs.Outcome.{Outcome, Ok, Err, and_then, through}
 use Rattle.refusals.specs.Refusing.{one_of}
 use Rattle.refusals.specs.laws.Outcomes.{clash, same}

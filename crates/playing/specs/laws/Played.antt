@@ -4,7 +4,7 @@
 --     made_holds    what a card makes holds together, so 23 is never written
 --     played_same   a log whose entries were all recorded on the transcript of a card is played as `0` and a newline
 -- Assumes nothing.
-use Rattle.refusals.specs.Numbers.{Refusal}
+use Rattle.refusals.specs.declared.Refusal.{Refusal}
 use Rattle.std.specs.Prelude.{ℕ, ◌≡◌, true, List, [], ◌∷◌, drop}
 use Rattle.std.proofs.Common.{ap, ◌∙◌}
 use Rattle.refusals.specs.Outcome.{Ok, Err}

@@ -1,7 +1,7 @@
 -- An answer and its parts: 17 of an interval is 17 of its ends, the first one's first; an interval that is answered has both its ends answered, and they fit; and its mark. Assumes nothing.
 use Rattle.std.specs.Prelude.{ℕ, ◌≡◌, refl, Bool, true, false, ◌&&◌, if◌then◌else◌}
 use Rattle.std.proofs.Common.{ap, subst}
-use Rattle.refusals.specs.Numbers.{TooWide}
+use Rattle.refusals.specs.declared.Refusal.TheVariants.{TooWide}
 use Rattle.refusals.specs.Outcome.{Outcome, Ok, Err, through}
 use Rattle.refusals.specs.laws.Outcomes.{clash, same, through_tells, then_tells}
 use Rattle.whole.specs.laws.Whole.{by_test, both}

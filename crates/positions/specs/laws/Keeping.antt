@@ -1,5 +1,5 @@
 -- A strict answer is also the lenient answer: the steps of an answer. Assumes nothing.
-use Rattle.refusals.specs.Numbers.{Refusal}
+use Rattle.refusals.specs.declared.Refusal.{Refusal}
 use Rattle.std.specs.Prelude.{ℕ, Bool, true, false, if◌then◌else◌}
 use Rattle.refusals.specs.Outcome.{Outcome, Err}
 use Rattle.refusals.specs.Refusing.{Kept}

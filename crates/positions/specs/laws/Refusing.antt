@@ -1,6 +1,7 @@
 -- Which refusals the steps of an answer can give. Assumes nothing.
 use Rattle.std.specs.Prelude.{ℕ, Bool, true, false, ◌&&◌, List, ◌≡◌, refl, if◌then◌else◌}
-use Rattle.refusals.specs.Numbers.{TooWide, Refusal}
+use Rattle.refusals.specs.declared.Refusal.{Refusal}
+use Rattle.refusals.specs.declared.Refusal.TheVariants.{TooWide}
 use Rattle.refusals.specs.Outcome.{Outcome, Ok, Err}
 use Rattle.refusals.specs.Refusing.{one_of, Only}
 use Rattle.refusals.specs.laws.Refusing.{only_through, only_both, only_then}

@@ -1,5 +1,5 @@
 -- The records are tallied one by one: from the sums up to a record, the tally of the rest. Assumes nothing.
-use Rattle.refusals.specs.Numbers.{Refusal}
+use Rattle.refusals.specs.declared.Refusal.{Refusal}
 use Rattle.std.proofs.Math.Path.{◌≡◌, sym, ap, ap₂}
 use Rattle.std.specs.Prelude.{refl, Bool, true, false, List, [], ◌∷◌, ◌++◌, ℕ, ◌+◌, ◌-◌, ◌<◌}
 use Rattle.std.proofs.Common.{◌∙◌, arith, length-append}

@@ -2,7 +2,8 @@
 use Rattle.std.specs.Prelude.{◌≡◌, true, false, List, ℕ, ◌+◌, ◌-◌, ◌≤◌, ◌<◌, length, take, drop, ltb}
 use Rattle.std.proofs.Common.{◌∙◌, arith, length-drop, length-take-le}
 use borrow.Author.Tests.{lt-ltb, le-ltb, eq-eqb, ne_eqb}
-use Rattle.refusals.specs.Numbers.{TooMuch, most_text, most_segments}
+use Rattle.refusals.specs.Numbers.{most_text, most_segments}
+use Rattle.refusals.specs.declared.Refusal.TheVariants.{TooMuch}
 use Rattle.refusals.specs.Outcome.{Err}
 use Rattle.cigar.specs.Text.{read_all}
 use Rattle.records.specs.Layout.{cigar_text}

@@ -3,7 +3,8 @@ use Rattle.std.proofs.Math.Path.{◌≡◌, refl}
 use Rattle.std.proofs.Common.{sym, ap, ◌∙◌, arith}
 use Rattle.std.proofs.Math.Bool.{true, false}
 use Rattle.std.specs.Prelude.{List, ◌∷◌, ℕ, ◌-◌, ◌≤◌, length}
-use Rattle.refusals.specs.Numbers.{NotSpanning, Refusal}
+use Rattle.refusals.specs.declared.Refusal.{Refusal}
+use Rattle.refusals.specs.declared.Refusal.TheVariants.{NotSpanning}
 use Rattle.refusals.specs.Outcome.{Ok, Err, and_then, through}
 use Rattle.refusals.specs.laws.Outcomes.{clash, same}
 use Rattle.whole.specs.laws.Whole.{by_test}

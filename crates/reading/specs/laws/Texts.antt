@@ -1,7 +1,9 @@
 -- A text is tallied element by element: the ways in which a step of the tally goes on. Assumes nothing.
 use Rattle.std.specs.Prelude.{◌≡◌, refl, List, [], ◌∷◌, ℕ, ◌+◌, ◌-◌, ◌<◌, drop}
 use Rattle.std.proofs.Common.{ap, ◌∙◌, arith, eq-eqb, ne_eqb}
-use Rattle.refusals.specs.Numbers.{TooMuch, most_segments, Refusal}
+use Rattle.refusals.specs.Numbers.{most_segments}
+use Rattle.refusals.specs.declared.Refusal.{Refusal}
+use Rattle.refusals.specs.declared.Refusal.TheVariants.{TooMuch}
 use Rattle.refusals.specs.Outcome.{Ok, Err, Outcome}
 use Rattle.cigar.specs.declared.Step.TheVariants as step
 use Rattle.cigar.specs.Elements.{Element, total}

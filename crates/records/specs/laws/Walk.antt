@@ -3,7 +3,7 @@ use Rattle.std.specs.Prelude.{ℕ, zero, suc, ◌+◌, ◌-◌, ◌≤◌, ◌<�
 use Rattle.std.proofs.Common.{arith, true≢false, sym, ap, subst, ◌∙◌, ltb-false, leb-true, le-leb}
 use Rattle.std.specs.Int.Signed.{lt_z}
 use Rattle.std.proofs.lemmas.Bool.{lt-leb}
-use Rattle.refusals.specs.Numbers.{BadBound}
+use Rattle.refusals.specs.declared.Refusal.TheVariants.{BadBound}
 use Rattle.whole.specs.laws.Whole.{both}
 use Rattle.records.specs.Layout.{cigar_text}
 use Rattle.records.specs.Records.{Record, next_at, record_at, exactly, records_from}

@@ -1,7 +1,7 @@
 -- The two laws of an outcome, and what a chain that answers tells of its steps. Assumes nothing.
 use Rattle.std.specs.Prelude.{ℕ, ◌≡◌, refl}
 use Rattle.std.proofs.Common.{arith, subst}
-use Rattle.refusals.specs.Numbers.{Refusal}
+use Rattle.refusals.specs.declared.Refusal.{Refusal}
 use Rattle.refusals.specs.Outcome.{Outcome, Ok, Err, Test, no_fault, and_then, through, unless}
 
 -- a refusal is no answer

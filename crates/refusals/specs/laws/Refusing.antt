@@ -1,6 +1,6 @@
 -- Which refusals a chain of steps can give: those of its steps. Assumes nothing.
 use Rattle.std.specs.Prelude.{List, ◌≡◌, refl}
-use Rattle.refusals.specs.Numbers.{Refusal}
+use Rattle.refusals.specs.declared.Refusal.{Refusal}
 use Rattle.refusals.specs.Outcome.{Outcome, Ok, Err, and_then, through, both}
 use Rattle.refusals.specs.Refusing.{Only}
 

@@ -1,7 +1,7 @@
 -- g. to n. and back of a transcript that lies on the genome, as the code goes: the lengths are the tables' last entries, 14 is tested first, and 17 is asked of each end. Assumes nothing.
 use Rattle.std.specs.Prelude.{ℕ, ◌<◌, List, ◌≡◌, Bool, true, false, ◌&&◌, ℤ, get_or}
 use Rattle.std.proofs.Common.{arith, sym, subst}
-use Rattle.refusals.specs.Numbers.{Outside}
+use Rattle.refusals.specs.declared.Refusal.TheVariants.{Outside}
 use Rattle.refusals.specs.Outcome.{Err}
 use Rattle.numbering.specs.Numbers.{place_of_n}
 use Rattle.segments.specs.Tables.{Tables, read}

@@ -16,7 +16,7 @@ use Rattle.std.proofs.Math.Dec.{ltb}
 use Rattle.std.proofs.lemmas.List.{length-reverse, length-map}
 use Rattle.std.proofs.Math.ListN.{get_or-map}
 use borrow.Author.Tests.{lt-ltb, le-ltb}
-use Rattle.refusals.specs.Numbers.{NoRoom, NoBase}
+use Rattle.refusals.specs.declared.Refusal.TheVariants.{NoRoom, NoBase}
 use Rattle.refusals.specs.Outcome.{Ok, Err, and_then}
 use Rattle.refusals.specs.laws.Outcomes.{clash, same}
 use Rattle.strands.specs.Turned.{partner_in, partner, is_base, complement, are_bases, turned, on_strand, fitting, turning}

@@ -13,7 +13,8 @@ use Rattle.std.proofs.lemmas.List.{length-map, get_or_at}
 use Rattle.std.proofs.Math.Seq.{append_snoc}
 use Rattle.std.specs.Int.Signed.{lt_z}
 use Rattle.whole.specs.laws.Whole.{by_test, both}
-use Rattle.refusals.specs.Numbers.{NoElement, NoWord, most_word_count, most_segments}
+use Rattle.refusals.specs.Numbers.{most_word_count, most_segments}
+use Rattle.refusals.specs.declared.Refusal.TheVariants.{NoElement, NoWord}
 use Rattle.refusals.specs.Outcome.{Ok}
 use Rattle.refusals.specs.laws.Outcomes.{clash, same, passed}
 use Rattle.cigar.specs.Elements.{Element, is_letter, letter_equal, letter_d, letter_i, letter_m, letter_n, letter_x}

@@ -1,5 +1,5 @@
 -- `worklist::answer_list` meets its contract: where nothing speaks against it the list is walked, and the walk answers what the definition says; else it is refused as a whole, and no slot is written. Assumes nothing.
-use Rattle.refusals.specs.Numbers.{Refusal}
+use Rattle.refusals.specs.declared.Refusal.{Refusal}
 use Rattle.std.proofs.Common.{◌≡◌, sym, ap, ◌∙◌, ne_eqb}
 use Rattle.std.specs.Prelude.{true, ℕ, List}
 use Rattle.refusals.specs.Outcome.{Err}

@@ -1,6 +1,6 @@
 -- Which refusals a worklist gives: 23, 18 and 33, and each of them occurs, computed. Assumes nothing.
 use Rattle.std.specs.Prelude.{ℕ, List, [], ◌∷◌, map, ◌≡◌, refl, ℤ, pos}
-use Rattle.refusals.specs.Numbers.{NoGenome, NotTogether, Falling}
+use Rattle.refusals.specs.declared.Refusal.TheVariants.{NoGenome, NotTogether, Falling}
 use Rattle.refusals.specs.Outcome.{Err}
 use Rattle.refusals.specs.Refusing.{Only}
 use Rattle.cigar.specs.Elements.{letter_m, is_letter, kind_of}

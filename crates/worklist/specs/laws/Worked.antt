@@ -1,6 +1,6 @@
 -- A worked list, computed: over transcript A of document 01 (10M 5N 8M at 10..33) the base before the first, one base twice, the middle of the intron, the last base, and the one behind it. Assumes nothing.
 use Rattle.std.specs.Prelude.{ℕ, List, [], ◌∷◌, map, ◌≡◌, refl, ℤ, pos}
-use Rattle.refusals.specs.Numbers.{Outside}
+use Rattle.refusals.specs.declared.Refusal.TheVariants.{Outside}
 use Rattle.refusals.specs.Outcome.{Ok}
 use Rattle.whole.specs.Fits.{fits, fit_of}
 use Rattle.numbering.specs.Numbers.{n_of_place}
