@@ -19,7 +19,6 @@ use native.Mathlib.Omega.{arith}
 use lib.ListN.{length, get_or, drop, drop_of_length-le}
 use lib.Seq.{drop-cons}
 use borrow.Author.Tests.{lt-ltb}
-use Rattle.cigar.specs.declared.Step.{Step}
 use Rattle.refusals.specs.Numbers.{most_count}
 use Rattle.refusals.specs.declared.Refusal.TheVariants.{NoElement}
 use Rattle.cigar.specs.Elements.{is_letter}

@@ -23,7 +23,11 @@ pub struct Step {
 pub fn is_letter(b: u8) -> bool
     ensures { result ≡ is_letter b }
 {
-    matches!(b, b'=' | b'D' | b'I' | b'M' | b'N' | b'X')
+    match b {
+        b'=' | b'D' | b'I' | b'M' | b'X' => true,
+        b'N' => true,
+        _ => false,
+    }
 }
 
 // One above the largest count. No count above the largest is finished, so this one stands for all of them.
@@ -77,7 +81,7 @@ pub fn step_at(text: &[u8], at: usize) -> Result<Option<Step>, Refusal>
         } else if is_letter(b) {
             return finish(given, n, b, i + 1);
         } else {
-            break;
+            return Err(Refusal::NoElement);
         }
     }
     Err(Refusal::NoElement)
@@ -115,12 +119,18 @@ fn fill_elements(text: &[u8], counts: &mut [i32], letters: &mut [u8])
 {
     let mut at = 0;
     let mut n = 0;
-    while let Ok(Some(step)) = step_at(text, at) {
-        let number = signed(step.count);
-        counts[n] = number;
-        letters[n] = step.letter;
-        n += 1;
-        at = step.next;
+    loop {
+        match step_at(text, at) {
+            Ok(Some(step)) => {
+                let number = signed(step.count);
+                counts[n] = number;
+                letters[n] = step.letter;
+                n += 1;
+                at = step.next;
+            }
+            Ok(None) => return,
+            Err(_) => return,
+        }
     }
 }
 
