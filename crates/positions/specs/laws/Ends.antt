@@ -43,7 +43,7 @@ module _ {P : Type 0} where
   pub fitting_is : (fit : P → Bool) (a : Answer P) (i : Marked P) → fitting fit a ≡ Ok i → a ≡ Ok i
   fitting_is fit (Ok j) i e = go (fit j.interval.from && fit j.interval.to) e
     where
-      go : (t : Bool) → (if t then Ok j else Err TooWide) ≡ Ok i → Ok j ≡ Ok i
+      go : (t : Bool) → ◌≡◌ {A = Answer P} (if t then Ok j else Err TooWide) (Ok i) → ◌≡◌ {A = Answer P} (Ok j) (Ok i)
       go true h = h
       go false h = absurd (clash h)
   fitting_is fit (Err k) i e = absurd (clash e)

@@ -1,6 +1,6 @@
 -- A strict answer is also the lenient answer: the steps of an answer. Assumes nothing.
 use Rattle.refusals.specs.declared.Refusal.{Refusal}
-use Rattle.std.specs.Prelude.{ℕ, Bool, true, false, if◌then◌else◌}
+use Rattle.std.specs.Prelude.{Bool, true, false, if◌then◌else◌}
 use Rattle.refusals.specs.Outcome.{Outcome, Err}
 use Rattle.refusals.specs.Refusing.{Kept}
 use Rattle.refusals.specs.laws.Keeping.{kept_same, kept_through, kept_both, kept_then}

@@ -1,5 +1,5 @@
 -- Which refusals the steps of an answer can give. Assumes nothing.
-use Rattle.std.specs.Prelude.{ℕ, Bool, true, false, ◌&&◌, List, ◌≡◌, refl, if◌then◌else◌}
+use Rattle.std.specs.Prelude.{Bool, true, false, ◌&&◌, List, ◌≡◌, refl, if◌then◌else◌}
 use Rattle.refusals.specs.declared.Refusal.{Refusal}
 use Rattle.refusals.specs.declared.Refusal.TheVariants.{TooWide}
 use Rattle.refusals.specs.Outcome.{Outcome, Ok, Err}
@@ -8,7 +8,7 @@ use Rattle.refusals.specs.laws.Refusing.{only_through, only_both, only_then}
 use Rattle.positions.specs.Positions.{Interval, each}
 use Rattle.positions.specs.Answers.{Mark, Marked, Answer, ends, after, chain, if_fits, fitting}
 
-module _ (ks : List ℕ) where
+module _ (ks : List Refusal) where
   -- a refusal where a test fails, and where one passes
   pub only_if : {A : Type 0} (test : Bool) (k : Refusal) (o : Outcome A) → Only ks o → (test ≡ false → one_of k ks ≡ true) → Only ks (if test then o else Err k)
   only_if true k o h n = h
