@@ -9,14 +9,13 @@ ghost use Rattle.segments.specs.Tables.{tables};
 ghost use Rattle.segments.specs.Places.End.{start};
 ghost use Rattle.segments.specs.Paper.{Small, end_said, spot_said, to_transcript, to_genome};
 ghost use Rattle.segments.specs.Exons.{last_number, exon_found, exon_chosen};
-ghost use Rattle.positions.specs.Paper.{paper_g_end, paper_n_end, paper_exons, paper_g, paper_n};
+ghost use Rattle.positions.specs.Paper.{paper_g_end, paper_n_end, paper_g, paper_n};
 ghost use Rattle.spots.specs.Mapping.{inside, turned, signed, place_of_g};
 ghost use Rattle.spots.specs.Aligned.{number_by, Aligns, Numbers, n_end_at, n_joined, g_end_at, g_joined};
 
 use numbering::Place;
-use positions::fitting::{GEnd, NEnd};
-use positions::{Exons, GAnswer, NAnswer, fitting};
-use refusals::{MOST_SEGMENTS, MOST_STARTS};
+use positions::{Answer, Exons, GPosition, NPosition, fitting};
+use refusals::{MOST_SEGMENTS, MOST_STARTS, Refusal};
 use segments::{End, Spot, exons};
 
 // How a transcript lies on the genome, beside its tables: whether its strand is 1, its first start, how many segments it has, and of how many records.
@@ -100,7 +99,7 @@ pub fn place_of_n(forward: bool, len: u32, base: i32) -> Place
 }
 
 // The n. position of a spot of the transcript: place and offset turned; 17.
-pub fn n_of_spot(forward: bool, len: u32, s: Spot) -> NEnd
+pub fn n_of_spot(forward: bool, len: u32, s: Spot) -> Result<NPosition, Refusal>
     requires { Small 38 s }
     ensures { paper_n_end result ≡ n_end_at forward len (spot_said s) }
 {
@@ -111,7 +110,7 @@ pub fn n_of_spot(forward: bool, len: u32, s: Spot) -> NEnd
 }
 
 // The g. number of a place of the genome with an n. number's own offset, which is turned; 17.
-pub fn g_of_place(forward: bool, first: u32, p: Place, offset: i32) -> GEnd
+pub fn g_of_place(forward: bool, first: u32, p: Place, offset: i32) -> Result<GPosition, Refusal>
     requires { Within 38 p.0 }
     ensures { paper_g_end result ≡ g_end_at forward first p.0 offset }
 {
@@ -221,17 +220,17 @@ pub fn chosen_exon(at: Alignment, exons: &[u16; MOST_SEGMENTS], spot: Spot) -> u
 }
 
 // The n. interval of an interval's two spots, with these exons: on strand -1 start and end change places.
-pub fn n_answer(forward: bool, len: u32, exons: Exons, a: Spot, b: Spot) -> NAnswer
+pub fn n_answer(forward: bool, len: u32, exons: Exons, a: Spot, b: Spot) -> Answer<NPosition>
     requires { Small 38 a × Small 38 b }
-    ensures { paper_n result ≡ n_joined forward len (paper_exons exons) (spot_said a) (spot_said b) }
+    ensures { paper_n result ≡ n_joined forward len exons (spot_said a) (spot_said b) }
 {
     let sure = a.sure & b.sure;
     let first = n_of_spot(forward, len, a);
     let second = n_of_spot(forward, len, b);
     if forward {
-        fitting::n_marked(sure, exons, fitting::n_both(first, second))
+        fitting::marked(sure, exons, fitting::both(first, second))
     } else {
-        fitting::n_marked(sure, exons, fitting::n_both(second, first))
+        fitting::marked(sure, exons, fitting::both(second, first))
     }
 }
 
@@ -244,15 +243,12 @@ pub fn g_answer(
     b: Spot,
     o: i32,
     u: i32,
-) -> GAnswer
+) -> Answer<GPosition>
     requires { Small 38 a × Small 38 b }
-    ensures { paper_g result ≡ g_joined forward first (paper_exons exons) (spot_said a) (spot_said b) o u }
+    ensures { paper_g result ≡ g_joined forward first exons (spot_said a) (spot_said b) o u }
 {
     let sure = a.sure & b.sure;
-    fitting::g_marked(
-        sure,
-        exons,
-        g_of_place(forward, first, a.place, o),
-        g_of_place(forward, first, b.place, u),
-    )
+    let from = g_of_place(forward, first, a.place, o);
+    let to = g_of_place(forward, first, b.place, u);
+    fitting::marked(sure, exons, fitting::both(from, to))
 }
