@@ -46,6 +46,7 @@ pub fn place_of_g(first: u32, g: i32) -> Place
 }
 
 // Whether a place lies at or above 0 and below the last entry, which is asked in strict mode alone.
+#[tactic(auto, unfolding(crate::specs::Mapping::inside))]
 pub fn is_inside(strict: bool, len: u32, p: Place) -> bool
     ensures { result ≡ inside strict len p.0 }
 {
@@ -68,6 +69,7 @@ pub fn are_inside(strict: bool, len: u32, p: Place, q: Place) -> bool
 }
 
 // The turn of a place: on strand -1 it becomes length - 1 - place.
+#[tactic(auto, unfolding(crate::specs::Mapping::turned))]
 fn turn(forward: bool, len: u32, p: Place) -> Place
     requires { Within 38 p.0 }
     ensures { result.0 ≡ turned forward len p.0 }
@@ -91,6 +93,7 @@ fn sign(forward: bool, offset: i64) -> i64
 }
 
 // The place of an n. number, turned.
+#[tactic(auto, using(crate::proofs::Sizes::of_n_34, crate::proofs::Sizes::widen_34, crate::proofs::Sizes::turned_36))]
 pub fn place_of_n(forward: bool, len: u32, base: i32) -> Place
     ensures { (result.0 ≡ turned forward len (place_of_n base)) × Within 36 result.0 }
 {
@@ -99,6 +102,7 @@ pub fn place_of_n(forward: bool, len: u32, base: i32) -> Place
 }
 
 // The n. position of a spot of the transcript: place and offset turned; 17.
+#[tactic(auto, using(crate::proofs::Sizes::turned_40))]
 pub fn n_of_spot(forward: bool, len: u32, s: Spot) -> Result<NPosition, Refusal>
     requires { Small 38 s }
     ensures { paper_n_end result ≡ n_end_at forward len (spot_said s) }
@@ -220,6 +224,7 @@ pub fn chosen_exon(at: Alignment, exons: &[u16; MOST_SEGMENTS], spot: Spot) -> u
 }
 
 // The n. interval of an interval's two spots, with these exons: on strand -1 start and end change places.
+#[tactic(auto, unfolding(crate::specs::Aligned::n_joined), using(positions::specs::laws::Reading::marked_both))]
 pub fn n_answer(forward: bool, len: u32, exons: Exons, a: Spot, b: Spot) -> Answer<NPosition>
     requires { Small 38 a × Small 38 b }
     ensures { paper_n result ≡ n_joined forward len exons (spot_said a) (spot_said b) }
