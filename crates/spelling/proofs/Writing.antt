@@ -20,6 +20,7 @@ use Rattle.refusals.specs.Numbers.{most_segments, most_text}
 use Rattle.refusals.specs.declared.Refusal.{Refusal}
 use Rattle.refusals.specs.declared.Refusal.TheVariants.{TooMuch, NoRoom}
 use Rattle.refusals.specs.Outcome.{Ok, Err, Answered, Outcome}
+use Rattle.refusals.specs.laws.Outcomes.{clash, same}
 use Rattle.cigar.specs.Elements.{Element, is_letter}
 use Rattle.cigar.specs.Text.{Reading, before, element, elements_in}
 use Rattle.cigar.specs.laws.Steps.{answered_before}
@@ -65,13 +66,6 @@ size_before n x (Ok es) =
     ap {A = ℕ} Ok (omega arith)
 size_before n x (Err k) = refl
 
--- a refusal is no size
-clash : {m : ℕ} {k : Refusal} → Err k ≡ Ok m → ⊥
-clash e = let z : ◌≡◌ {A = ℕ} 0 1 = cc in omega arith
-
-size_is : {k m : ℕ} → Ok k ≡ Ok m → k ≡ m
-size_is e = cc
-
 -- the text of one element
 pub alone_long : (n letter : ℕ) → length (elements_text (element n letter ∷ [])) ≡ length (element_text n letter)
 unfolding elements_text
@@ -84,8 +78,8 @@ module _ (n : ℕ) (z : ℤ) (letter : ℕ) (r : Reading) where
       (λ l.
       by_test (lt_z z (pos 0)) (λ b. absurd (clash (rw (l, b) at e)))
       (λ b.
-      let same : length (element_text (nat_abs z) letter) ≡ m = sym (alone_long (nat_abs z) letter) ∙ size_is (rw (l, b) at e) in
-      rw (l, b) (size_before n (element (nat_abs z) letter) r ∙ ap (λ (k : ℕ). size_from (n + k) r) same)))
+      let long : length (element_text (nat_abs z) letter) ≡ m = sym (alone_long (nat_abs z) letter) ∙ same (rw (l, b) at e) in
+      rw (l, b) (size_before n (element (nat_abs z) letter) r ∙ ap (λ (k : ℕ). size_from (n + k) r) long)))
       (λ l. absurd (clash (rw l at e)))
 
   pub size_refused : {k : Refusal} → size_of (judged z letter (Ok [])) ≡ Err k → size_from n (judged z letter r) ≡ Err k
@@ -117,12 +111,12 @@ pub record Sized (r : Reading) (size : ℕ) : Type 0 where
   pub long : size ≡ length (elements_text (elements_in r))
 
 pub sized : (r : Reading) {size : ℕ} → size_of r ≡ Ok size → Sized r size
-sized (Ok es) e = record { granted = tt; is = refl; long = sym (size_is e) }
+sized (Ok es) e = record { granted = tt; is = refl; long = sym (same e) }
 sized (Err k) e = absurd (clash e)
 
 refusal_is : (r : Reading) {k : Refusal} → size_of r ≡ Err k → r ≡ Err k
 refusal_is (Ok es) e = absurd (clash (sym e))
-refusal_is (Err j) {k} e = let same : j ≡ k = cc in ap Err same
+refusal_is (Err j) {k} e = let one : j ≡ k = cc in ap Err one
 
 module _ (number : ℕ) (counts : List ℤ) (letters : List ℕ) (room : ℕ) where
   abbrev all : Reading
