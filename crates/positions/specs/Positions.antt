@@ -1,7 +1,11 @@
 -- Positions on the genome (g.), on the transcript (n.) and on the coding sequence (c.), as they are asked and as they are answered, and intervals of them. Assumes nothing.
 use Rattle.std.specs.Prelude.{ℤ, Option}
 use Rattle.numbering.specs.declared.CNumber.{CNumber}
-pub use Rattle.positions.specs.declared.Interval.{Interval}
+use Rattle.positions.specs.declared.Interval as code
+
+-- an interval by its two ends
+abbrev pub Interval : Type 0 → Type 0
+Interval P = code.Interval P
 
 -- the interval between two ends
 abbrev pub between : {P : Type 0} → P → P → Interval P
