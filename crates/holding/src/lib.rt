@@ -8,7 +8,7 @@ ghost use Rattle.segments.specs.Tables.{tables};
 ghost use Rattle.holding.specs.Holding.{segments_in, records_in, is_forward, head_holds, cds_holds, totals_hold};
 ghost use Rattle.holding.specs.Parts.{bases_of, tables_hold};
 
-use refusals::{MOST_BASES, MOST_RECORDS, MOST_SEGMENTS, MOST_STARTS, Refusal};
+use refusals::{MOST_BASES, MOST_RECORDS, MOST_SEGMENTS, MOST_STARTS};
 use transcript::{BOTH_GIVEN, Head, NONE_GIVEN, OF_LENGTH, OF_RECORDS};
 
 // A number that is not negative.
@@ -90,14 +90,7 @@ fn totals_hold(first: u32, genome: u32, transcript: u32) -> bool
     ((first as u64) + (genome as u64) <= (MOST_BASES as u64)) & (transcript <= MOST_BASES)
 }
 
-// How many bases a transcript has, which is known only where the head's own tests pass.
-#[derive(Clone, Copy)]
-pub enum Bases {
-    Known(u32),
-    Unknown,
-}
-
-// Of records it has as many as the transcript's table says, of a length as many as that.
+// How many bases a transcript has, which is known only where the head's own tests pass: of records as many as the transcript's table says, of a length as many as that.
 pub fn bases_of(head: Head, transcript: &[u32; MOST_STARTS]) -> Option<u32>
     ensures { result ≡ bases_of head transcript.now }
 {

@@ -1,7 +1,7 @@
 -- BAM's words are judged, read and written one by one.
 --     known_more, known_not, known_none            whether the words that are left are known
 --     elements_more, elements_none                 the elements of the words that are left
---     fault_more, fault_here, fault_end            the first refusal of the elements that are left
+--     fault_more, fault_end                        the first refusal of the elements that are left
 --     fault_left, words_more, words_none           the words of the elements that are left, where none is refused
 --     unknown_read, .., all_read                   what is read, by the tests in their order
 --     fault_written, .., all_written               what is written, by the tests in their order
@@ -18,10 +18,11 @@ use lib.IntN.{ℤ, pos, nat_abs}
 use lib.ListN.{length, get_or, drop, drop_of_length-le}
 use lib.Seq.{drop-cons}
 use Rattle.whole.specs.laws.Whole.{by_test}
-use borrow.Author.Tests.{lt-ltb, le-ltb, eq-eqb, ne_eqb}
+use borrow.Author.Tests.{lt-ltb, le-ltb}
 use Rattle.refusals.specs.Numbers.{most_segments}
+use Rattle.refusals.specs.declared.Refusal.{Refusal}
 use Rattle.refusals.specs.declared.Refusal.TheVariants.{TooMuch, NoRoom, NoOperation}
-use Rattle.refusals.specs.Outcome.{Ok, Err}
+use Rattle.refusals.specs.Outcome.{Ok, Err, Test, no_fault, unless}
 use Rattle.cigar.specs.Text.{element}
 use Rattle.words.specs.Words.{element_of_word, word_of, is_known, all_known, read_words, fault_of, fault_from, elements_at, write_words}
 use Rattle.words.specs.laws.RoundTrips.{fault_first}
@@ -46,27 +47,23 @@ module _ (words : List ℕ) (i : ℕ) where
   elements_none h = rw (drop_of_length-le words h)
 
 module _ (counts : List ℤ) (letters : List ℕ) (number i : ℕ) where
-  abbrev here : ℕ
+  abbrev here : Test
   here = fault_of (get_or counts i (pos 0)) (get_or letters i 0)
 
   one_more : i < number → number - i ≡ suc (number - (i + 1))
   one_more h = omega arith
 
-  pub fault_more : i < number → here ≡ 0 → fault_from counts letters i (number - i) ≡ fault_from counts letters (i + 1) (number - (i + 1))
+  pub fault_more : i < number → fault_from counts letters i (number - i) ≡ unless here (fault_from counts letters (i + 1) (number - (i + 1)))
   unfolding fault_from
-  fault_more h e = rw (one_more h, eq-eqb here 0 e)
+  fault_more h = rw (one_more h)
 
-  pub fault_here : i < number → (here ≡ 0 → ⊥) → fault_from counts letters i (number - i) ≡ here
-  unfolding fault_from
-  fault_here h e = rw (one_more h, ne_eqb here 0 e)
-
-  pub fault_end : number ≤ i → fault_from counts letters i (number - i) ≡ 0
+  pub fault_end : number ≤ i → fault_from counts letters i (number - i) ≡ no_fault
   unfolding fault_from
   fault_end h =
       let none : number - i ≡ 0 = omega arith in
       rw none
 
-  pub fault_left : i < number → fault_from counts letters i (number - i) ≡ 0 → (here ≡ 0) × (fault_from counts letters (i + 1) (number - (i + 1)) ≡ 0)
+  pub fault_left : i < number → fault_from counts letters i (number - i) ≡ no_fault → (here ≡ no_fault) × (fault_from counts letters (i + 1) (number - (i + 1)) ≡ no_fault)
   fault_left h e = fault_first counts letters i (number - (i + 1)) (ap (fault_from counts letters i) (sym (one_more h)) ∙ e)
 
   pub words_more : i < number → map word_of (elements_at counts letters i (number - i))
@@ -104,25 +101,25 @@ module _ (words : List ℕ) (c l : ℕ) where
     all_read r h = rw (k, le-ltb most_segments (length words) few, le-ltb c (length words) r, le-ltb l (length words) h)
 
 module _ (number : ℕ) (counts : List ℤ) (letters : List ℕ) (room : ℕ) where
-  abbrev fault : ℕ
+  abbrev fault : Test
   fault = fault_from counts letters 0 (min number most_segments)
 
-  pub fault_written : (fault ≡ 0 → ⊥) → write_words number counts letters room ≡ Err fault
+  pub fault_written : {k : Refusal} → fault ≡ Err k → write_words number counts letters room ≡ Err k
   unfolding write_words
-  fault_written k = rw (ne_eqb fault 0 k)
+  fault_written e = rw e
 
-  module _ (k : fault ≡ 0) where
+  module _ (k : fault ≡ no_fault) where
     pub many_words : most_segments < number → write_words number counts letters room ≡ Err TooMuch
     unfolding write_words
-    many_words h = rw (eq-eqb fault 0 k, lt-ltb most_segments number h)
+    many_words h = rw (k, lt-ltb most_segments number h)
 
     pub full_words : number ≤ most_segments → room < number → write_words number counts letters room ≡ Err NoRoom
     unfolding write_words
-    full_words few h = rw (eq-eqb fault 0 k, le-ltb most_segments number few, lt-ltb room number h)
+    full_words few h = rw (k, le-ltb most_segments number few, lt-ltb room number h)
 
     pub all_written : number ≤ most_segments → number ≤ room → write_words number counts letters room ≡ Ok (map word_of (elements_at counts letters 0 number))
     unfolding write_words
-    all_written few h = rw (eq-eqb fault 0 k, le-ltb most_segments number few, le-ltb room number h)
+    all_written few h = rw (k, le-ltb most_segments number few, le-ltb room number h)
 
-    pub all_held : number ≤ most_segments → fault_from counts letters 0 number ≡ 0
+    pub all_held : number ≤ most_segments → fault_from counts letters 0 number ≡ no_fault
     all_held few = ap (fault_from counts letters 0) (sym (min-eq_left few)) ∙ k

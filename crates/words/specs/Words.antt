@@ -4,7 +4,7 @@ use Rattle.std.specs.Prelude.{ℕ, zero, suc, ◌+◌, ◌*◌, ◌/◌, ◌%◌
 use Rattle.std.specs.Int.Signed.{lt_z}
 use Rattle.refusals.specs.Numbers.{most_segments, most_word_count}
 use Rattle.refusals.specs.declared.Refusal.TheVariants.{TooMuch, NoElement, NoRoom, NoOperation, NoWord}
-use Rattle.refusals.specs.Outcome.{Ok, Err, unless, Outcome}
+use Rattle.refusals.specs.Outcome.{Ok, Err, Test, no_fault, unless, Outcome}
 use Rattle.cigar.specs.Bytes.{ascii}
 use Rattle.cigar.specs.Elements.{Element, is_letter, letter_d, letter_i}
 use Rattle.cigar.specs.Text.{Reading, element}
@@ -79,20 +79,18 @@ read_words words counts_room letters_room =
 
 -- ---- writing
 
--- an element's refusal, 0 for none: 7 where its letter is not of the six, then 31 where its count is below 0 or above the largest length
-unfoldable pub fault_of : ℤ → ℕ → ℕ
+-- an element's refusal: 7 where its letter is not of the six, then 31 where its count is below 0 or above the largest length
+unfoldable pub fault_of : ℤ → ℕ → Test
 fault_of count letter =
-    if not (is_letter letter) then NoElement
-    else if lt_z count (pos 0) then NoWord
-    else if lt_z (pos most_word_count) count then NoWord
-    else 0
+    if not (is_letter letter) then Err NoElement
+    else if lt_z count (pos 0) then Err NoWord
+    else if lt_z (pos most_word_count) count then Err NoWord
+    else no_fault
 
--- the first refusal at m places of the tables from place i on, 0 for none
-unfoldable pub fault_from : List ℤ → List ℕ → ℕ → ℕ → ℕ
-fault_from counts letters i zero = 0
-fault_from counts letters i (suc m) =
-    let here : ℕ = fault_of (get_or counts i (pos 0)) (get_or letters i 0) in
-    if eqb here 0 then fault_from counts letters (i + 1) m else here
+-- the first refusal at m places of the tables from place i on
+unfoldable pub fault_from : List ℤ → List ℕ → ℕ → ℕ → Test
+fault_from counts letters i zero = no_fault
+fault_from counts letters i (suc m) = unless (fault_of (get_or counts i (pos 0)) (get_or letters i 0)) (fault_from counts letters (i + 1) m)
 
 -- the elements at m places of the tables from place i on
 unfoldable pub elements_at : List ℤ → List ℕ → ℕ → ℕ → List Element

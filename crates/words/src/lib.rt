@@ -2,9 +2,10 @@
 // transcript, so on strand -1 the caller turns them round.
 #![tactic(auto)]
 
-ghost use Rattle.std.specs.Prelude.{◌≡◌, true, map, ◌≤◌, min, pos, nat_abs, length};
+ghost use Rattle.std.specs.Prelude.{◌≡◌, true, map, ◌≤◌, pos, nat_abs, length};
 ghost use Rattle.std.proofs.lemmas.List.Edits.{sets};
 ghost use Rattle.refusals.specs.Numbers.{most_word_count, most_segments};
+ghost use Rattle.refusals.specs.Outcome.{no_fault};
 ghost use Rattle.cigar.specs.Elements.{is_letter};
 ghost use Rattle.cigar.specs.Text.{element, counted_of};
 ghost use Rattle.cigar.specs.Read.{counts_after, letters_after, FullLength, Filled};
@@ -22,10 +23,7 @@ fn letter_in(word: u32) -> u8
 {
     let letters = b"MDINSHP=X";
     let code = (word % CODES) as usize;
-    if code < letters.len() {
-        return letters[code];
-    }
-    0
+    letters.get(code).copied().unwrap_or(0)
 }
 
 // A word's length as the signed number of a table.
@@ -46,15 +44,7 @@ fn is_known(word: u32) -> bool
 fn all_known(words: &[u32]) -> bool
     ensures { result ≡ all_known words.now }
 {
-    let mut i = 0;
-    while i < words.len() {
-        if is_known(words[i]) {
-            i += 1;
-        } else {
-            return false;
-        }
-    }
-    true
+    words.iter().all(|word| is_known(*word))
 }
 
 // The elements of words, from the front of two tables that have room for them.
@@ -62,13 +52,9 @@ fn fill_from_words(words: &[u32], counts: &mut [i32], letters: &mut [u8])
     requires { Room counts.old letters.old (length words.now) }
     ensures { Filled counts.old letters.old counts.new letters.new 0 (map element_of_word words.now) }
 {
-    let mut i = 0;
-    while i < words.len() {
-        let count = length_in(words[i]);
-        let letter = letter_in(words[i]);
-        counts[i] = count;
-        letters[i] = letter;
-        i += 1;
+    for (i, word) in words.iter().enumerate() {
+        counts[i] = length_in(*word);
+        letters[i] = letter_in(*word);
     }
 }
 
@@ -78,21 +64,18 @@ pub fn read_words(words: &[u32], counts: &mut [i32], letters: &mut [u8]) -> Resu
     ensures counts_after { counts.new ≡ counts_after counts.old (read_words words.now (length counts.old) (length letters.old)) }
     ensures letters_after { letters.new ≡ letters_after letters.old (read_words words.now (length counts.old) (length letters.old)) }
 {
-    let number = words.len();
-    if all_known(words) {
-        if MOST_SEGMENTS < number {
-            return Err(Refusal::TooMuch);
-        }
-        if counts.len() < number {
-            return Err(Refusal::NoRoom);
-        }
-        if letters.len() < number {
-            return Err(Refusal::NoRoom);
-        }
-        fill_from_words(words, counts, letters);
-        return Ok(number);
+    if !all_known(words) {
+        return Err(Refusal::NoOperation);
     }
-    Err(Refusal::NoOperation)
+    let number = words.len();
+    if MOST_SEGMENTS < number {
+        return Err(Refusal::TooMuch);
+    }
+    if counts.len() < number || letters.len() < number {
+        return Err(Refusal::NoRoom);
+    }
+    fill_from_words(words, counts, letters);
+    Ok(number)
 }
 
 // The code of one of the six letters.
@@ -110,71 +93,47 @@ fn code_of(letter: u8) -> u32
     }
 }
 
-// An element's refusal, 0 for none: 7, then 31.
-fn fault_of(count: i32, letter: u8) -> u8
+// An element's refusal: 7, then 31.
+fn fault_of(count: i32, letter: u8) -> Result<(), Refusal>
     ensures { result ≡ fault_of count letter }
 {
-    if cigar::is_letter(letter) {
-        if count < 0 {
-            return Refusal::NoWord;
-        }
-        if MOST_WORD_COUNT < count {
-            return Refusal::NoWord;
-        }
-        return 0;
+    if !cigar::is_letter(letter) {
+        return Err(Refusal::NoElement);
     }
-    Refusal::NoElement
+    if count < 0 || MOST_WORD_COUNT < count {
+        return Err(Refusal::NoWord);
+    }
+    Ok(())
 }
 
-// The first refusal of the first elements of the tables, 0 for none.
-fn first_fault(number: usize, counts: &[i32], letters: &[u8]) -> u8
+// The first refusal of the first elements of the tables.
+fn first_fault(number: usize, counts: &[i32], letters: &[u8]) -> Result<(), Refusal>
     requires { FullLength counts.now letters.now × (number ≤ most_segments) }
     ensures { result ≡ fault_from counts.now letters.now 0 number }
 {
-    let mut i = 0;
-    while i < number {
-        let fault = fault_of(counts[i], letters[i]);
-        if fault == 0 {
-            i += 1;
-        } else {
-            return fault;
-        }
+    for i in 0..number {
+        fault_of(counts[i], letters[i])?;
     }
-    0
+    Ok(())
 }
 
 // The word of an element that is not refused.
 fn word_of(count: i32, letter: u8) -> u32
-    requires { fault_of count letter ≡ 0 }
+    requires { fault_of count letter ≡ no_fault }
     ensures { result ≡ word_of (element (nat_abs count) letter) }
 {
-    let length = spelling::unsigned(count);
-    let code = code_of(letter);
-    length * CODES + code
+    spelling::unsigned(count) * CODES + code_of(letter)
 }
 
 // The words of the first elements of the tables, from the front of lent words that have room for them.
 fn put_words(number: usize, counts: &[i32], letters: &[u8], words: &mut [u32])
     requires full_length { FullLength counts.now letters.now × (number ≤ most_segments) }
-    requires number_value { fault_from counts.now letters.now 0 number ≡ 0 }
+    requires number_value { fault_from counts.now letters.now 0 number ≡ no_fault }
     requires number_in_bounds { number ≤ length words.old }
     ensures { words.new ≡ sets words.old 0 (map word_of (elements_at counts.now letters.now 0 number)) }
 {
-    let mut i = 0;
-    while i < number {
+    for i in 0..number {
         words[i] = word_of(counts[i], letters[i]);
-        i += 1;
-    }
-}
-
-// How many of the elements that are asked for the tables can hold.
-fn held(number: usize) -> usize
-    ensures { result ≡ min number most_segments }
-{
-    if number < MOST_SEGMENTS {
-        number
-    } else {
-        MOST_SEGMENTS
     }
 }
 
@@ -190,17 +149,13 @@ pub fn write_words(
     ensures words_after { words.new ≡ buffer_after words.old (write_words number counts.now letters.now (length words.old)) }
 {
     // Elements past the tables' ends are not there to be judged.
-    let judged = held(number);
-    let fault = first_fault(judged, counts, letters);
-    if fault == 0 {
-        if MOST_SEGMENTS < number {
-            return Err(Refusal::TooMuch);
-        }
-        if words.len() < number {
-            return Err(Refusal::NoRoom);
-        }
-        put_words(number, counts, letters, words);
-        return Ok(number);
+    first_fault(number.min(MOST_SEGMENTS), counts, letters)?;
+    if MOST_SEGMENTS < number {
+        return Err(Refusal::TooMuch);
     }
-    Err(fault)
+    if words.len() < number {
+        return Err(Refusal::NoRoom);
+    }
+    put_words(number, counts, letters, words);
+    Ok(number)
 }

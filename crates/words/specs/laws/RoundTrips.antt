@@ -7,15 +7,15 @@
 -- Assumes nothing.
 use Rattle.std.specs.Prelude.{◌≡◌, refl, true, false, List, [], ◌∷◌, ◌++◌, map, ℕ, zero, suc, ◌+◌, ◌≤◌, ◌<◌, ◌^◌, min, ltb, eqb, ℤ, pos, negsuc, nat_abs, length, get_or, drop}
 use Rattle.std.proofs.Common.{sym, ap, ap₂, subst, ◌∙◌, true≢false, arith, length-append, eqb-true, le-ltb, ltb-false}
-use Rattle.std.proofs.lemmas.Bool.{false≢true, eqb-false}
+use Rattle.std.proofs.lemmas.Bool.{false≢true}
 use Rattle.std.proofs.Math.Nat.{min-eq_left}
 use Rattle.std.proofs.lemmas.List.{length-map, get_or_at}
 use Rattle.std.proofs.Math.Seq.{append_snoc}
 use Rattle.std.specs.Int.Signed.{lt_z}
 use Rattle.whole.specs.laws.Whole.{by_test, both}
 use Rattle.refusals.specs.Numbers.{most_word_count, most_segments}
-use Rattle.refusals.specs.declared.Refusal.TheVariants.{NoElement, NoWord}
-use Rattle.refusals.specs.Outcome.{Ok}
+use Rattle.refusals.specs.declared.Refusal.TheVariants.{NoElement}
+use Rattle.refusals.specs.Outcome.{Ok, Err, no_fault}
 use Rattle.refusals.specs.laws.Outcomes.{clash, same, passed}
 use Rattle.cigar.specs.Elements.{Element, is_letter, letter_equal, letter_d, letter_i, letter_m, letter_n, letter_x}
 use Rattle.cigar.specs.Text.{element}
@@ -142,36 +142,34 @@ elements_wordable (w ∷ ws) h f =
 -- ---- tables
 
 -- a letter that is not of the six is 7, whatever the count
-pub fault_letter : (z : ℤ) (letter : ℕ) → is_letter letter ≡ false → fault_of z letter ≡ NoElement
+pub fault_letter : (z : ℤ) (letter : ℕ) → is_letter letter ≡ false → fault_of z letter ≡ Err NoElement
 unfolding fault_of
-fault_letter z letter l = by_test (lt_z (pos most_word_count) z) (λ m. rw (m, l)) (λ m. rw (m, l))
+fault_letter z letter l = rw l
 
 -- an element of the tables that is not refused
-pub fault_none : (z : ℤ) (letter : ℕ) → fault_of z letter ≡ 0 → Held z letter
+pub fault_none : (z : ℤ) (letter : ℕ) → fault_of z letter ≡ no_fault → Held z letter
 unfolding fault_of
 fault_none z letter h =
     by_test (is_letter letter)
     (λ l.
-    by_test (lt_z z (pos 0)) (λ b. let e : NoWord ≡ 0 = rw (l, b) at h in absurd (omega arith))
+    by_test (lt_z z (pos 0)) (λ b. absurd (clash (rw (l, b) at h)))
     (λ b.
-    by_test (lt_z (pos most_word_count) z) (λ s. let e : NoWord ≡ 0 = rw (l, b, s) at h in absurd (omega arith))
+    by_test (lt_z (pos most_word_count) z) (λ s. absurd (clash (rw (l, b, s) at h)))
     (λ s. record { whole = b; wordable = record { lettered = l; small = size_small z b s } })))
-    (λ l. let e : NoElement ≡ 0 = sym (fault_letter z letter l) ∙ h in absurd (omega arith))
+    (λ l. absurd (clash (rw l at h)))
 
 -- an element that a word can hold is not refused
-held_no_fault : (x : Element) → Wordable x → fault_of (pos x.count) x.letter ≡ 0
+held_no_fault : (x : Element) → Wordable x → fault_of (pos x.count) x.letter ≡ no_fault
 unfolding fault_of
 held_no_fault x h = rw (h.lettered, le-ltb x.count 0 (omega arith), le-ltb most_word_count x.count h.small)
 
 -- the first place of those that are not refused
-pub fault_first : (counts : List ℤ) (letters : List ℕ) (i m : ℕ) → fault_from counts letters i (suc m) ≡ 0
-    → (fault_of (get_or counts i (pos 0)) (get_or letters i 0) ≡ 0) × (fault_from counts letters (i + 1) m ≡ 0)
+pub fault_first : (counts : List ℤ) (letters : List ℕ) (i m : ℕ) → fault_from counts letters i (suc m) ≡ no_fault
+    → (fault_of (get_or counts i (pos 0)) (get_or letters i 0) ≡ no_fault) × (fault_from counts letters (i + 1) m ≡ no_fault)
 unfolding fault_from
-fault_first counts letters i m h =
-    let here = fault_of (get_or counts i (pos 0)) (get_or letters i 0) in
-    by_test (eqb here 0) (λ e. (eqb-true here 0 e, rw e at h)) (λ e. absurd (eqb-false here 0 e (rw e at h)))
+fault_first counts letters i m h = passed (fault_of (get_or counts i (pos 0)) (get_or letters i 0)) (fault_from counts letters (i + 1) m) tt h
 
-from_wordable : (counts : List ℤ) (letters : List ℕ) (m i : ℕ) → fault_from counts letters i m ≡ 0 → AllWordable (elements_at counts letters i m)
+from_wordable : (counts : List ℤ) (letters : List ℕ) (m i : ℕ) → fault_from counts letters i m ≡ no_fault → AllWordable (elements_at counts letters i m)
 unfolding elements_at
 from_wordable counts letters zero i h = tt
 from_wordable counts letters (suc m) i h =
@@ -185,7 +183,7 @@ from_length counts letters (suc m) i = ap suc (from_length counts letters m (i +
 
 -- elements that stand after some others in both tables: none is refused, and they are those that the tables hold
 after_others : (es : List Element) (cs : List ℤ) (ls : List ℕ) (counts : List ℤ) (letters : List ℕ) (i : ℕ) → length cs ≡ i → length ls ≡ i → AllWordable es
-    → (fault_from (cs ++ (counts_of es ++ counts)) (ls ++ (letters_of es ++ letters)) i (length es) ≡ 0)
+    → (fault_from (cs ++ (counts_of es ++ counts)) (ls ++ (letters_of es ++ letters)) i (length es) ≡ no_fault)
     × (elements_at (cs ++ (counts_of es ++ counts)) (ls ++ (letters_of es ++ letters)) i (length es) ≡ es)
 unfolding fault_from elements_at
 after_others [] cs ls counts letters i p q h = (refl, refl)
@@ -236,7 +234,7 @@ read_write words c l {es} counts letters room f e h =
 -- what holds of words that were written
 record WereWritten (number : ℕ) (counts : List ℤ) (letters : List ℕ) (words : List ℕ) : Type 0 where
   few : number ≤ most_segments
-  held : fault_from counts letters 0 number ≡ 0
+  held : fault_from counts letters 0 number ≡ no_fault
   is : map word_of (elements_at counts letters 0 number) ≡ words
 
 write_says : (number : ℕ) (counts : List ℤ) (letters : List ℕ) (room : ℕ) {words : List ℕ} → write_words number counts letters room ≡ Ok words
