@@ -1,6 +1,6 @@
 // An allele as the other strand reads it: its letters from the back, each as its complement.
 ghost use Rattle.std.specs.Prelude.{◌≡◌, true, ◌++◌, ◌<◌, ◌≤◌, length, get_or, drop};
-ghost use Rattle.refusals.specs.Outcome.{number_of};
+ghost use Rattle.refusals.specs.Outcome.{through};
 ghost use Rattle.strands.specs.Turned.{partner, are_bases, on_strand, turning, turned_into};
 
 use refusals::Refusal;
@@ -84,17 +84,17 @@ pub fn put_on_strand(allele: &[u8], back: bool, buffer: &mut [u8])
     }
 }
 
-// An allele, turned, at the front of a lent buffer: 0, or the number of a refusal, which leaves the buffer as it is.
-pub fn turn(allele: &[u8], buffer: &mut [u8]) -> u8
-    ensures value { result ≡ number_of (turning allele.now (length buffer.old)) }
+// An allele, turned, at the front of a lent buffer, or a refusal, which leaves the buffer as it is.
+pub fn turn(allele: &[u8], buffer: &mut [u8]) -> Result<(), Refusal>
+    ensures value { result ≡ through (λ _. tt) (turning allele.now (length buffer.old)) }
     ensures buffer_after { buffer.new ≡ turned_into buffer.old (turning allele.now (length buffer.old)) }
 {
-    if are_bases(allele) {
-        if buffer.len() < allele.len() {
-            return Refusal::NoRoom;
-        }
-        put_on_strand(allele, true, buffer);
-        return 0;
+    if !are_bases(allele) {
+        return Err(Refusal::NoBase);
     }
-    Refusal::NoBase
+    if buffer.len() < allele.len() {
+        return Err(Refusal::NoRoom);
+    }
+    put_on_strand(allele, true, buffer);
+    Ok(())
 }
