@@ -131,7 +131,7 @@ module _ (s : List ℕ) (k at : ℕ) (some : 0 < k) where
       go (Ok es) q =
           let is : to ≡ sums_on nothing es = cc in
           let n : length es ≡ to.count = omega (arith, ap (λ (t : Sums). t.count) is) in
-          one_first (exon_of here es) (exons_after (length es) others) ∙ ap₂ (λ (t : Sums) (i : Refusal). tallied_after (genome_end_of here) t (exons_after i others)) (sym is) n
+          one_first (exon_of here es) (exons_after (length es) others) ∙ ap₂ (λ (t : Sums) (n : ℕ). tallied_after (genome_end_of here) t (exons_after n others)) (sym is) n
       go (Err i) q = let z : ◌≡◌ {A = ℕ} 0 1 = cc in absurd (omega arith)
 
   pub first_refused : {i : Refusal} → Err i ≡ tallied nothing (spanned here (read_first here)) → tallied_all (exons_of (records_from k s at)) ≡ Err i

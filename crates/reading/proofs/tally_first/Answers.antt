@@ -1,4 +1,5 @@
 -- `reading::tally_first` meets its contract: a CIGAR over the largest size is refused (`first_large`), and any other reads as its text (`first_read`), which is tallied from nothing, with 32. Assumes nothing.
+use Rattle.reading.specs.declared.Sums.{Sums}
 use Rattle.refusals.specs.Outcome.{Outcome}
 use mathlib.Core.Path.{sym, ap, ◌∙◌}
 use native.Mathlib.Omega.{arith}

@@ -1,4 +1,5 @@
 -- `reading::tally_next` meets its contract: a large CIGAR and a full table are refused (`next_large`, `next_full`); otherwise the text (`next_read`) is tallied from the sums with the gap, with 32. Assumes nothing.
+use Rattle.reading.specs.declared.Sums.{Sums}
 use Rattle.refusals.specs.Outcome.{Outcome}
 use mathlib.Core.Path.{sym, ap, ◌∙◌}
 use native.Mathlib.Omega.{arith}

@@ -1,11 +1,11 @@
 -- A text is tallied element by element: the ways in which a step of the tally goes on. Assumes nothing.
-use Rattle.std.specs.Prelude.{◌≡◌, refl, List, [], ◌∷◌, ℕ, ◌+◌, ◌-◌, ◌<◌, drop}
+use Rattle.std.specs.Prelude.{◌≡◌, refl, List, [], ◌∷◌, ℕ, ◌+◌, ◌-◌, ◌<◌, drop, Some, None}
 use Rattle.std.proofs.Common.{ap, ◌∙◌, arith, eq-eqb, ne_eqb}
 use Rattle.refusals.specs.Numbers.{most_segments}
 use Rattle.refusals.specs.declared.Refusal.{Refusal}
 use Rattle.refusals.specs.declared.Refusal.TheVariants.{TooMuch}
 use Rattle.refusals.specs.Outcome.{Ok, Err, Outcome}
-use Rattle.cigar.specs.declared.Step.TheVariants as step
+use Rattle.cigar.specs.declared.Step.{Step}
 use Rattle.cigar.specs.Elements.{Element, total}
 use Rattle.cigar.specs.Text.{step_at, Reading, before, element, read_all}
 use Rattle.cigar.specs.laws.Steps.{go_on, goes_on}
@@ -40,19 +40,19 @@ module _ (text : List ℕ) (at : ℕ) (s : Sums) where
   goes : rest ≡ tallied s (go_on (most_segments - s.count) text (step_at text at))
   goes = ap (tallied s) (goes_on (most_segments - s.count) text at)
 
-  pub tally_element : {k c next : ℕ} → s.count < most_segments → step_at text at ≡ step.Element k c next
-      → rest ≡ tallied (one_on s (element k c)) (read_all (most_segments - (s.count + 1)) (drop next text))
-  tally_element {k} {c} {next} h e =
+  pub tally_element : {found : Step} → s.count < most_segments → step_at text at ≡ Ok (Some found)
+      → rest ≡ tallied (one_on s (element found.count found.letter)) (read_all (most_segments - (s.count + 1)) (drop found.next text))
+  tally_element {found} h e =
       let fewer : most_segments - s.count - 1 ≡ most_segments - (s.count + 1) = omega arith in
       goes
       ∙ rw (e, ne_eqb (most_segments - s.count) 0 (λ z. omega arith), fewer)
-      (tallied_before s (element k c) (read_all (most_segments - (s.count + 1)) (drop next text)))
+      (tallied_before s (element found.count found.letter) (read_all (most_segments - (s.count + 1)) (drop found.next text)))
 
-  pub tally_full : {k c next : ℕ} → s.count ≡ most_segments → step_at text at ≡ step.Element k c next → rest ≡ Err TooMuch
+  pub tally_full : {found : Step} → s.count ≡ most_segments → step_at text at ≡ Ok (Some found) → rest ≡ Err TooMuch
   tally_full h e = goes ∙ rw (e, eq-eqb (most_segments - s.count) 0 (omega arith))
 
-  pub tally_refused : {k : Refusal} → step_at text at ≡ step.Refused k → rest ≡ Err k
+  pub tally_refused : {k : Refusal} → step_at text at ≡ Err k → rest ≡ Err k
   tally_refused e = goes ∙ rw e
 
-  pub tally_end : step_at text at ≡ step.End → rest ≡ Ok s
+  pub tally_end : step_at text at ≡ Ok None → rest ≡ Ok s
   tally_end e = goes ∙ rw e (ap Ok (on_none s))
