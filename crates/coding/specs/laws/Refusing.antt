@@ -1,5 +1,6 @@
 -- Which refusals n. to c. and c. to n. give: 13, 15, 17 and 13, 16, 17, of which 15 and 16 in strict mode alone. Assumes nothing.
 use Rattle.std.specs.Prelude.{ℕ, Bool, true, false, List, ◌≡◌, refl, ℤ, pos}
+use Rattle.refusals.specs.declared.Refusal.{Refusal}
 use Rattle.refusals.specs.declared.Refusal.TheVariants.{NotCoding, NOutside, COutside, TooWide}
 use Rattle.refusals.specs.Refusing.{one_of, Only}
 use Rattle.numbering.specs.Numbers.{n_of_c}
@@ -20,7 +21,7 @@ unfolding beyond
 either_strict true len i e = refl
 either_strict false len i e = e
 
-module _ (ks : List ℕ) (strict : Bool) where
+module _ (ks : List Refusal) (strict : Bool) where
   pub n_to_c_only : one_of NotCoding ks ≡ true → (strict ≡ true → one_of NOutside ks ≡ true) → one_of TooWide ks ≡ true → (len : ℕ) (c : Cds) (i : Interval NAsked) → Only ks (map_n_to_c strict len c i)
   unfolding map_n_to_c c_of_interval
   n_to_c_only m o w len no_cds i = record { only = m }

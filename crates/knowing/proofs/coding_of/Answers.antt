@@ -31,5 +31,5 @@ returns-then-bits-eq-BOTH_GIVEN c =
     let end = simp (told w32 c.args.head.end c.struct_told-then-bits-eq-BOTH_GIVEN-2-1.given.1.1.1.1.1.1.0.1) at c.natural-end.ensures in
     simp (is_given (goal.at.returns-then-bits-eq-BOTH_GIVEN c).Then-bits-eq-BOTH_GIVEN, start, end)
 
-pub returns-else-bits-eq-BOTH_GIVEN : goal.returns-else-bits-eq-BOTH_GIVEN
-returns-else-bits-eq-BOTH_GIVEN c = simp (is_missing c)
+pub returns : goal.returns
+returns c = simp (is_missing c)
