@@ -1,9 +1,10 @@
 -- Building's judgment: the first refusal in document 01's order, or what is to be built. Assumes nothing.
+use Rattle.reading.specs.declared.Sums.{Sums}
 use Rattle.std.specs.Prelude.{ℕ, ◌+◌, Bool, true, false, not, List, eqb, ltb, ℤ, pos, negsuc, nat_abs, length, if◌then◌else◌, Some, None, Option}
 use Rattle.std.specs.Int.Signed.{lt_z}
 use Rattle.refusals.specs.Numbers.{most_records, most_bases}
 use Rattle.refusals.specs.declared.Refusal.TheVariants.{NoRecords, NoStrand, TooMuch, BadBound, TooLong, NoSegment, HalfCds, BadCds, NoCard, NotTogether}
-use Rattle.refusals.specs.Outcome.{Outcome, Ok, Err, unless}
+use Rattle.refusals.specs.Outcome.{Outcome, Ok, Err, unless, Test, no_fault}
 use Rattle.whole.specs.Whole.{eq_z}
 use Rattle.cigar.specs.Elements.{Element, genome, transcript, total}
 use Rattle.records.specs.Records.{exactly}
@@ -20,25 +21,25 @@ use Rattle.transcript.specs.declared.Numbers.{Numbers}
 -- ---- the CDS
 
 -- 11: one bound is given and the other is not
-abbrev pub half_fault : Option ℤ → Option ℤ → ℕ
-half_fault (Some s) (Some e) = 0
-half_fault (Some s) None = HalfCds
-half_fault None (Some e) = HalfCds
-half_fault None None = 0
+abbrev pub half_fault : Option ℤ → Option ℤ → Test
+half_fault (Some s) (Some e) = no_fault
+half_fault (Some s) None = Err HalfCds
+half_fault None (Some e) = Err HalfCds
+half_fault None None = no_fault
 
 -- 12: not 0 <= start <= end <= length
-unfoldable pub range_fault : ℤ → ℤ → ℤ → ℕ
+unfoldable pub range_fault : ℤ → ℤ → ℤ → Test
 range_fault start end last =
-    if lt_z start (pos 0) then BadCds
-    else if lt_z end start then BadCds
-    else if lt_z last end then BadCds
-    else 0
+    if lt_z start (pos 0) then Err BadCds
+    else if lt_z end start then Err BadCds
+    else if lt_z last end then Err BadCds
+    else no_fault
 
 -- 12, where both bounds are given
-abbrev pub cds_fault : Option ℤ → Option ℤ → ℕ → ℕ
+abbrev pub cds_fault : Option ℤ → Option ℤ → ℕ → Test
 cds_fault (Some s) (Some e) last = range_fault s e (pos last)
-cds_fault (Some s) None last = 0
-cds_fault None end last = 0
+cds_fault (Some s) None last = no_fault
+cds_fault None end last = no_fault
 
 -- the CDS, where neither 11 nor 12 applies
 abbrev pub cds_of : Option ℤ → Option ℤ → Cds
@@ -59,11 +60,11 @@ abbrev pub elements_made : Made → List Element
 elements_made m = elements_of m.forward m.exon_list
 
 -- 10, 9 and 12, of the number of segments, the first start, and how far the segments go
-unfoldable pub last_fault : Option ℤ → Option ℤ → ℕ → ℕ → ℕ → ℕ → ℕ
+unfoldable pub last_fault : Option ℤ → Option ℤ → ℕ → ℕ → ℕ → ℕ → Test
 last_fault start end n first g t =
-    if eqb n 0 then NoSegment
-    else if ltb most_bases t then TooLong
-    else if ltb most_bases (first + g) then TooLong
+    if eqb n 0 then Err NoSegment
+    else if ltb most_bases t then Err TooLong
+    else if ltb most_bases (first + g) then Err TooLong
     else cds_fault start end t
 
 -- the CIGARs were read: their refusal, or 10, 9 and 12
@@ -109,11 +110,11 @@ pub record Measured : Type 0 where
   pub coding : Cds
 
 -- 4 and 9
-unfoldable pub length_fault : ℤ → ℕ
+unfoldable pub length_fault : ℤ → Test
 length_fault len =
-    if lt_z len (pos 0) then BadBound
-    else if lt_z (pos most_bases) len then TooLong
-    else 0
+    if lt_z len (pos 0) then Err BadBound
+    else if lt_z (pos most_bases) len then Err TooLong
+    else no_fault
 
 -- CDS bits above 3 are 23; then 4, 9, 11 and 12
 unfoldable pub judge_length : ℤ → ℕ → ℤ → ℤ → Outcome Measured

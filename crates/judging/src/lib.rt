@@ -8,41 +8,29 @@ ghost use Rattle.judging.specs.Input.{input_of};
 ghost use Rattle.judging.specs.Judging.{half_fault, range_fault, cds_fault, last_fault, judge_on, judge_input, judge, told_of};
 ghost use Rattle.reading.specs.Tallies.{Bounded, BoundedTally};
 
-use reading::{Sums};
+use reading::Sums;
 use records::ALT_START;
 use refusals::{MOST_BASES, MOST_RECORDS, Refusal};
 use transcript::{BOTH_BITS, Numbers};
 
 // 11, where one bound is given and the other is not.
-pub fn half_fault(start: Option<i32>, end: Option<i32>) -> u8
+pub fn half_fault(start: Option<i32>, end: Option<i32>) -> Result<(), Refusal>
     ensures { result ≡ half_fault start end }
 {
-    match start {
-        Some(_) => match end {
-            Some(_) => 0,
-            None => Refusal::HalfCds,
-        },
-        None => match end {
-            Some(_) => Refusal::HalfCds,
-            None => 0,
-        },
+    match (start, end) {
+        (Some(_), None) | (None, Some(_)) => Err(Refusal::HalfCds),
+        (Some(_), Some(_)) | (None, None) => Ok(()),
     }
 }
 
 // 12, where not 0 <= start <= end <= last.
-fn range_fault(start: i64, end: i64, last: i64) -> u8
+fn range_fault(start: i64, end: i64, last: i64) -> Result<(), Refusal>
     ensures { result ≡ range_fault start end last }
 {
-    if start < 0 {
-        return Refusal::BadCds;
+    if start < 0 || end < start || last < end {
+        return Err(Refusal::BadCds);
     }
-    if end < start {
-        return Refusal::BadCds;
-    }
-    if last < end {
-        return Refusal::BadCds;
-    }
-    0
+    Ok(())
 }
 
 // A length that passed 9, as a signed number.
@@ -54,39 +42,31 @@ fn signed(n: u64) -> i64
 }
 
 // 12, where both bounds are given.
-pub fn cds_fault(start: Option<i32>, end: Option<i32>, last: u64) -> u8
+pub fn cds_fault(start: Option<i32>, end: Option<i32>, last: u64) -> Result<(), Refusal>
     requires { last ≤ most_bases }
     ensures { result ≡ cds_fault start end last }
 {
-    match start {
-        Some(s) => match end {
-            Some(e) => {
-                let from = s as i64;
-                let to = e as i64;
-                range_fault(from, to, signed(last))
-            }
-            None => 0,
-        },
-        None => 0,
+    match (start, end) {
+        (Some(from), Some(to)) => range_fault(i64::from(from), i64::from(to), signed(last)),
+        _ => Ok(()),
     }
 }
 
 // 10, 9 and 12.
-fn last_fault(start: Option<i32>, end: Option<i32>, first: u32, sums: Sums) -> u8
+fn last_fault(start: Option<i32>, end: Option<i32>, first: u32, sums: Sums) -> Result<(), Refusal>
     requires { Bounded sums }
     ensures { result ≡ last_fault start end sums.count first sums.genome sums.transcript }
 {
-    let n = sums.count;
-    if n == 0 {
-        return Refusal::NoSegment;
+    if sums.count == 0 {
+        return Err(Refusal::NoSegment);
     }
     let length = sums.transcript;
     if length > MOST_BASES as u64 {
-        return Refusal::TooLong;
+        return Err(Refusal::TooLong);
     }
-    let last = first as u64 + sums.genome;
+    let last = u64::from(first) + sums.genome;
     if last > MOST_BASES as u64 {
-        return Refusal::TooLong;
+        return Err(Refusal::TooLong);
     }
     cds_fault(start, end, length)
 }
@@ -100,27 +80,14 @@ fn judge_on(forward: bool, numbers: Numbers, s: &[u8]) -> Result<Sums, Refusal>
     if count > MOST_RECORDS {
         return Err(Refusal::TooMuch);
     }
-    let fault = records::records_fault(forward, count, s);
-    if fault != 0 {
-        return Err(fault);
-    }
+    records::records_fault(forward, count, s)?;
     let start = transcript::start_of(numbers.cds, numbers.start);
     let end = transcript::end_of(numbers.cds, numbers.end);
-    let half = half_fault(start, end);
-    if half != 0 {
-        return Err(half);
-    }
-    match reading::tally_all(count, s) {
-        Ok(sums) => {
-            let first = reading::bound(s, ALT_START);
-            let last = last_fault(start, end, first, sums);
-            if last != 0 {
-                return Err(last);
-            }
-            Ok(sums)
-        }
-        Err(k) => Err(k),
-    }
+    half_fault(start, end)?;
+    let sums = reading::tally_all(count, s)?;
+    let first = reading::bound(s, ALT_START);
+    last_fault(start, end, first, sums)?;
+    Ok(sums)
 }
 
 // Building's own order: 1, 2, and the rest on a strand.

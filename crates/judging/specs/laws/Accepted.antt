@@ -12,7 +12,7 @@ use Rattle.std.proofs.Math.ListN.{length, length-append}
 use Rattle.std.specs.Int.Signed.{lt_z}
 use Rattle.std.proofs.lemmas.Bool.{eqb-false}
 use Rattle.refusals.specs.Numbers.{most_records, most_segments, most_text, most_bases}
-use Rattle.refusals.specs.Outcome.{Ok, Err, and_then, unless}
+use Rattle.refusals.specs.Outcome.{Ok, Err, and_then, unless, no_fault}
 use Rattle.refusals.specs.laws.Outcomes.{clash, same, passed}
 use Rattle.whole.specs.Whole.{eq_z}
 use Rattle.whole.specs.laws.Whole.{by_test, order, eq_means}
@@ -42,14 +42,14 @@ use Rattle.transcript.specs.declared.Numbers.{Numbers}
 -- on a strand
 pub record On (i : Input) (m : Made) : Type 0 where
   pub few : length i.records ≤ most_records
-  pub sound : faults m.forward i.records ≡ 0
-  pub both_or_none : half_fault i.start i.end ≡ 0
+  pub sound : faults m.forward i.records ≡ no_fault
+  pub both_or_none : half_fault i.start i.end ≡ no_fault
   pub were_read : exons_of i.records ≡ Ok m.exon_list
-  pub last : last_fault i.start i.end (length (elements_made m)) (first_start m.exon_list) (total genome (elements_made m)) (total transcript (elements_made m)) ≡ 0
+  pub last : last_fault i.start i.end (length (elements_made m)) (first_start m.exon_list) (total genome (elements_made m)) (total transcript (elements_made m)) ≡ no_fault
   pub coding_is : m.coding ≡ cds_of i.start i.end
 
 module _ (forward : Bool) (i : Input) (m : Made) where
-  exons_pass : (x : Exons) → x ≡ exons_of i.records → length i.records ≤ most_records → faults forward i.records ≡ 0 → half_fault i.start i.end ≡ 0
+  exons_pass : (x : Exons) → x ≡ exons_of i.records → length i.records ≤ most_records → faults forward i.records ≡ no_fault → half_fault i.start i.end ≡ no_fault
       → judge_exons forward i x ≡ Ok m → (m.forward ≡ forward) × On i m
   exons_pass (Ok xs) read few sound half h =
       let (no_last, is) = passed _ (Ok _) m h in
@@ -125,40 +125,40 @@ pub whole : (z : ℤ) → lt_z z (pos 0) ≡ false → z ≡ pos (nat_abs z)
 whole (pos n) h = refl
 whole (negsuc n) h = absurd (omega order)
 
-range_pass : (s e : ℤ) (len : ℕ) → range_fault s e (pos len) ≡ 0 → CdsPass (Some s) (Some e) len
+range_pass : (s e : ℤ) (len : ℕ) → range_fault s e (pos len) ≡ no_fault → CdsPass (Some s) (Some e) len
 unfolding range_fault
 range_pass s e len =
     by_test (lt_z s (pos 0))
-    (λ t. rw t (λ h. absurd (omega arith)))
+    (λ t. rw t (λ h. absurd (clash h)))
     (λ t.
     by_test (lt_z e s)
-    (λ u. rw (t, u) (λ h. absurd (omega arith)))
+    (λ u. rw (t, u) (λ h. absurd (clash h)))
     (λ u.
     by_test (lt_z (pos len) e)
-    (λ v. rw (t, u, v) (λ h. absurd (omega arith)))
+    (λ v. rw (t, u, v) (λ h. absurd (clash h)))
     (λ v h.
     let s_whole = whole s t in
     let e_whole = whole e (omega order) in
     record { inside = (omega order, omega order); start_is = s_whole; end_is = e_whole })))
 
-pub cds_pass : (start end : Option ℤ) (len : ℕ) → half_fault start end ≡ 0 → cds_fault start end len ≡ 0 → CdsPass start end len
+pub cds_pass : (start end : Option ℤ) (len : ℕ) → half_fault start end ≡ no_fault → cds_fault start end len ≡ no_fault → CdsPass start end len
 cds_pass (Some s) (Some e) len h k = range_pass s e len k
-cds_pass (Some s) None len h k = absurd (omega arith)
-cds_pass None (Some e) len h k = absurd (omega arith)
+cds_pass (Some s) None len h k = absurd (clash h)
+cds_pass None (Some e) len h k = absurd (clash h)
 cds_pass None None len h k = record { inside = tt; start_is = refl; end_is = refl }
 
 -- bits that pass 23 and 11 are those of the CDS
-pub bits_are : (bits : ℕ) (start end : ℤ) → bits ≤ both_bits → half_fault (start_of bits start) (end_of bits end) ≡ 0
+pub bits_are : (bits : ℕ) (start end : ℤ) → bits ≤ both_bits → half_fault (start_of bits start) (end_of bits end) ≡ no_fault
     → pos bits ≡ bits_of (cds_of (start_of bits start) (end_of bits end))
 bits_are bits start end known =
     by_test (eqb (bits % 2) 1)
     (λ t.
     by_test (leb 2 bits)
     (λ u. rw (t, u) (λ h. ap pos (omega (arith, eqb-true (bits % 2) 1 t, leb-true 2 bits u))))
-    (λ u. rw (t, u) (λ h. absurd (omega arith))))
+    (λ u. rw (t, u) (λ h. absurd (clash h))))
     (λ t.
     by_test (leb 2 bits)
-    (λ u. rw (t, u) (λ h. absurd (omega arith)))
+    (λ u. rw (t, u) (λ h. absurd (clash h)))
     (λ u. rw (t, u) (λ h. ap pos (even bits (leb-false 2 bits u) (eqb-false (bits % 2) 1 t)))))
   where
     even : (n : ℕ) → n < 2 → (n % 2 ≡ 1 → ⊥) → n ≡ 0
@@ -172,19 +172,19 @@ pub record LastPass (start end : Option ℤ) (n first g t : ℕ) : Type 0 where
   pub some : 0 < n
   pub transcript_small : t ≤ most_bases
   pub genome_small : first + g ≤ most_bases
-  pub cds_fits : cds_fault start end t ≡ 0
+  pub cds_fits : cds_fault start end t ≡ no_fault
 
-pub last_pass : (start end : Option ℤ) (n first g t : ℕ) → last_fault start end n first g t ≡ 0 → LastPass start end n first g t
+pub last_pass : (start end : Option ℤ) (n first g t : ℕ) → last_fault start end n first g t ≡ no_fault → LastPass start end n first g t
 unfolding last_fault
 last_pass start end n first g t =
     by_test (eqb n 0)
-    (λ a. rw a (λ h. absurd (omega arith)))
+    (λ a. rw a (λ h. absurd (clash h)))
     (λ a.
     by_test (ltb most_bases t)
-    (λ b. rw (a, b) (λ h. absurd (omega arith)))
+    (λ b. rw (a, b) (λ h. absurd (clash h)))
     (λ b.
     by_test (ltb most_bases (first + g))
-    (λ c. rw (a, b, c) (λ h. absurd (omega arith)))
+    (λ c. rw (a, b, c) (λ h. absurd (clash h)))
     (λ c. rw (a, b, c) (λ h. record {
       some = omega (arith, eqb-false n 0 a);
       transcript_small = ltb-false most_bases t b;
@@ -214,7 +214,7 @@ split r p next xs h = go (spanned r p) refl (sym (followed r p next) ∙ h)
         with_rest (Err k) n h = absurd (clash h)
     go (Err k) e h = absurd (clash h)
 
-none_left : (xs : List Exon) → Ok [] ≡ Ok xs → xs ≡ []
+none_left : (xs : List Exon) → ◌≡◌ {A = Exons} (Ok []) (Ok xs) → xs ≡ []
 none_left xs h = let is : [] ≡ xs = cc in sym is
 
 -- ---- few segments, and six letters
@@ -334,7 +334,7 @@ after_in_order p used (r ∷ rs) xs (b, o) h =
     let s = split r (read_next used r) (λ n. exons_after (used + 1 + n) rs) xs h in
     rw s.is (beside_order b, after_in_order r (used + 1 + length s.own) rs s.rest o s.others)
 
-pub all_in_order : (forward : Bool) (rs : List Record) (xs : List Exon) → faults forward rs ≡ 0 → exons_of rs ≡ Ok xs → InOrder 0 xs
+pub all_in_order : (forward : Bool) (rs : List Record) (xs : List Exon) → faults forward rs ≡ no_fault → exons_of rs ≡ Ok xs → InOrder 0 xs
 unfolding exons_of faults
 all_in_order forward [] xs f h = rw (none_left xs h) tt
 all_in_order forward (r ∷ rs) xs f h =
@@ -379,18 +379,18 @@ pub record Measures (len : ℤ) (bits : ℕ) (start end : ℤ) (m : Measured) : 
   pub known : bits ≤ both_bits
   pub length_is : len ≡ pos m.bases
   pub small : m.bases ≤ most_bases
-  pub both_or_none : half_fault (start_of bits start) (end_of bits end) ≡ 0
-  pub cds_fits : cds_fault (start_of bits start) (end_of bits end) m.bases ≡ 0
+  pub both_or_none : half_fault (start_of bits start) (end_of bits end) ≡ no_fault
+  pub cds_fits : cds_fault (start_of bits start) (end_of bits end) m.bases ≡ no_fault
   pub coding_is : m.coding ≡ cds_of (start_of bits start) (end_of bits end)
 
-pub length_pass : (len : ℤ) → length_fault len ≡ 0 → (len ≡ pos (nat_abs len)) × (nat_abs len ≤ most_bases)
+pub length_pass : (len : ℤ) → length_fault len ≡ no_fault → (len ≡ pos (nat_abs len)) × (nat_abs len ≤ most_bases)
 unfolding length_fault
 length_pass len =
     by_test (lt_z len (pos 0))
-    (λ t. rw t (λ h. absurd (omega arith)))
+    (λ t. rw t (λ h. absurd (clash h)))
     (λ t.
     by_test (lt_z (pos most_bases) len)
-    (λ u. rw (t, u) (λ h. absurd (omega arith)))
+    (λ u. rw (t, u) (λ h. absurd (clash h)))
     (λ u h. let is = whole len t in (is, omega (order, is))))
 
 pub measured_means : (len : ℤ) (bits : ℕ) (start end : ℤ) (m : Measured) → judge_length len bits start end ≡ Ok m → Measures len bits start end m

@@ -1,10 +1,10 @@
 -- The chain of refusals, link by link. Assumes nothing.
 use Rattle.std.specs.Prelude.{◌≡◌, refl, Bool, true, List, ℕ, ◌-◌, ◌≤◌, ◌<◌, length}
-use Rattle.std.proofs.Common.{sym, ap, ◌∙◌, arith, eq-eqb, ne_eqb, lt-ltb, le-ltb}
+use Rattle.std.proofs.Common.{sym, ap, ◌∙◌, arith, lt-ltb, le-ltb}
 use Rattle.refusals.specs.Numbers.{most_records}
 use Rattle.refusals.specs.declared.Refusal.{Refusal}
 use Rattle.refusals.specs.declared.Refusal.TheVariants.{TooMuch}
-use Rattle.refusals.specs.Outcome.{Outcome, Ok, Err, and_then, unless}
+use Rattle.refusals.specs.Outcome.{Outcome, Ok, Err, and_then, unless, Test, no_fault}
 use Rattle.cigar.specs.Elements.{Element, genome, transcript, total}
 use Rattle.cigar.specs.Text.{Reading}
 use Rattle.records.specs.Records.{next_at, record_at, records_from}
@@ -21,11 +21,11 @@ use Rattle.reading.proofs.laws.Tallied.{either_strand}
 
 -- ---- a test in the chain
 
-pub refuses : {A : Type 0} {k : Refusal} (j : Outcome A) → (k ≡ 0 → ⊥) → unless k j ≡ Err k
-refuses {k = k} j h = rw (ne_eqb k 0 h)
+pub refuses : {A : Type 0} {k : Refusal} {t : Test} (j : Outcome A) → t ≡ Err k → unless t j ≡ Err k
+refuses j h = rw h refl
 
-pub passes : {A : Type 0} {k : ℕ} (j : Outcome A) → k ≡ 0 → unless k j ≡ j
-passes {k = k} j h = rw (eq-eqb k 0 h)
+pub passes : {A : Type 0} {t : Test} (j : Outcome A) → t ≡ no_fault → unless t j ≡ j
+passes j h = rw h refl
 
 -- ---- up to 11
 
@@ -35,16 +35,16 @@ module _ (forward : Bool) (i : Input) where
   too_many h = rw (lt-ltb most_records (length i.records) h)
 
   module _ (few : length i.records ≤ most_records) where
-    pub faulty : {k : Refusal} → k ≡ faults forward i.records → (k ≡ 0 → ⊥) → judge_on forward i ≡ Err k
+    pub faulty : {k : Refusal} → faults forward i.records ≡ Err k → judge_on forward i ≡ Err k
     unfolding judge_on
-    faulty {k} e h = rw (le-ltb most_records (length i.records) few, ← e) (refuses _ h)
+    faulty e = rw (le-ltb most_records (length i.records) few, e) refl
 
-    module _ (sound : faults forward i.records ≡ 0) where
-      pub half_given : {k : Refusal} → k ≡ half_fault i.start i.end → (k ≡ 0 → ⊥) → judge_on forward i ≡ Err k
+    module _ (sound : faults forward i.records ≡ no_fault) where
+      pub half_given : {k : Refusal} → half_fault i.start i.end ≡ Err k → judge_on forward i ≡ Err k
       unfolding judge_on
-      half_given {k} e h = rw (le-ltb most_records (length i.records) few, sound, ← e) (refuses _ h)
+      half_given e = rw (le-ltb most_records (length i.records) few, sound, e) refl
 
-      pub to_exons : half_fault i.start i.end ≡ 0 → judge_on forward i ≡ judge_exons forward i (exons_of i.records)
+      pub to_exons : half_fault i.start i.end ≡ no_fault → judge_on forward i ≡ judge_exons forward i (exons_of i.records)
       unfolding judge_on
       to_exons e = rw (le-ltb most_records (length i.records) few, sound, e)
 
@@ -76,7 +76,7 @@ module _ (forward : Bool) (i : Input) where
   unread_refused (Err l) {k} e = let is : l ≡ k = cc in ap Err is
 
   -- 10, 9 and 12 are asked of what was tallied
-  module _ (s : Sums) (first : ℕ) {k : ℕ} (asked : k ≡ last_fault i.start i.end s.count first s.genome s.transcript) where
+  module _ (s : Sums) (first : ℕ) {t : Test} (asked : t ≡ last_fault i.start i.end s.count first s.genome s.transcript) where
     module _ (xs : List Exon) (starts : first_start xs ≡ first) (sums : Ok s ≡ tallied_all (Ok xs)) where
       abbrev es : List Element
       es = elements_of forward xs
@@ -84,13 +84,13 @@ module _ (forward : Bool) (i : Input) where
       sums_are : s ≡ sums_of es
       sums_are = let is : s ≡ sums_of (elements_of true xs) = cc in is ∙ sym (either_strand forward xs)
 
-      last_is : last_fault i.start i.end (length es) (first_start xs) (total genome es) (total transcript es) ≡ k
+      last_is : last_fault i.start i.end (length es) (first_start xs) (total genome es) (total transcript es) ≡ t
       last_is = sym (asked ∙ rw (sums_are, ← starts))
 
-    pub last_refused : (x : Exons) → FirstIs first x → Ok s ≡ tallied_all x → (k ≡ 0 → ⊥) → judge_exons forward i x ≡ Err k
-    last_refused (Ok xs) f e h = rw (last_is xs f e) (refuses _ h)
-    last_refused (Err l) f e h = let z : ◌≡◌ {A = ℕ} 0 1 = cc in absurd (omega arith)
+    pub last_refused : (x : Exons) → FirstIs first x → Ok s ≡ tallied_all x → {k : Refusal} → t ≡ Err k → judge_exons forward i x ≡ Err k
+    last_refused (Ok xs) f e {k} h = rw (last_is xs f e) (refuses _ h)
+    last_refused (Err l) f e {k} h = let z : ◌≡◌ {A = ℕ} 0 1 = cc in absurd (omega arith)
 
-    pub last_passed : (x : Exons) → FirstIs first x → Ok s ≡ tallied_all x → k ≡ 0 → told_of (judge_exons forward i x) ≡ Ok s
+    pub last_passed : (x : Exons) → FirstIs first x → Ok s ≡ tallied_all x → t ≡ no_fault → told_of (judge_exons forward i x) ≡ Ok s
     last_passed (Ok xs) f e h = rw (last_is xs f e) (ap told_of (passes _ h) ∙ ap Ok (sym (sums_are xs f e)))
     last_passed (Err l) f e h = let z : ◌≡◌ {A = ℕ} 0 1 = cc in absurd (omega arith)
