@@ -1,5 +1,5 @@
 -- A turned allele is as long as the allele. Assumes nothing.
-use Rattle.std.proofs.Common.{◌≡◌, ℕ, List, length, refl, sym, ap, ◌∙◌, arith}
+use Rattle.std.proofs.Common.{◌≡◌, ℕ, List, length, refl, sym, ap, ◌∙◌, arith, rules}
 use Rattle.std.proofs.Math.Decide.{dec_lt}
 use Rattle.refusals.specs.Outcome.{through}
 use Rattle.whole.specs.laws.Whole.{by_test}
@@ -21,4 +21,5 @@ laid s room =
 pub returns-clause-value : goal.returns-clause-value
 returns-clause-value c =
     let a = c.args in
-    ?
+    let told : c.map.result ≡ through (λ _. length a.allele.now) (turning a.allele.now (length a.buffer.now)) = search rules in
+    c.counted_laid.ensures ∙ ap counted_laid told ∙ laid a.allele.now (length a.buffer.now)
