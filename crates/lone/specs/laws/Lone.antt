@@ -1,5 +1,4 @@
 -- What a lone base is answered with: its one spot's position at both ends, certain, or 17; and one that is not sure. Assumes nothing.
-use Rattle.refusals.specs.Outcome.{Ok}
 use Rattle.std.specs.Prelude.{ℕ, Bool, true, false, List, ◌≡◌, refl, ℤ, get_or, length}
 use Rattle.std.proofs.lemmas.Bool.{false≢true}
 use Rattle.std.proofs.Common.{sym, ap, ◌∙◌}
@@ -52,13 +51,13 @@ module _ (a : Alignment) (x : Tables) (exons : List ℕ) (sound : Aligns a x) (s
     answered = rw one (one_answered a x exons sound strict g (inside_either strict _ _ within))
 
     pub lone_to_n : s.sure ≡ true → map_g_to_n strict (aligned_by a x exons) (record { from = g; to = g }) ≡ n_once a x.transcript exons s
-    lone_to_n is_sure = Ok ∙ one_joined a.forward (get_or x.transcript a.count 0) _ s is_sure
+    lone_to_n is_sure = answered ∙ one_joined a.forward (get_or x.transcript a.count 0) _ s is_sure
 
     -- and one that is not sure, by where it lies
     pub beside_to_n : s.sure ≡ false → map_g_to_n strict (aligned_by a x exons) (record { from = g; to = g }) ≡ n_beside a x.transcript exons s.place s.number
     beside_to_n not_sure =
         let by : Spot → Answer NPosition = λ t. n_joined a.forward (get_or x.transcript a.count 0) (record { from = exon_found (number_by a exons) t; to = exon_found (number_by a exons) t }) t (stop_of t) in
-        Ok ∙ ap by (rw (← one) at (lies_beside genome transcript (read x a.count) (place_of_g a.first g) a.forward (rw (← one) not_sure)))
+        answered ∙ ap by (rw (← one) at (lies_beside genome transcript (read x a.count) (place_of_g a.first g) a.forward (rw (← one) not_sure)))
 
   -- from the transcript, by the spot s of the place of n, with the number's own offset o
   module _ (n o : ℤ) (s : Spot) (within : inside true (get_or x.transcript a.count 0) (turned a.forward (get_or x.transcript a.count 0) (place_of_n n)) ≡ true)
