@@ -18,28 +18,13 @@ const VERSION_AT: usize = 3;
 // Where the entries begin.
 pub const ENTRIES_AT: usize = 5;
 
-// How many entries bytes are, or a refusal.
-#[derive(Clone, Copy)]
-pub enum ReadLog {
-    Entries(usize),
-    // 3 or 35.
-    Refused(u8),
-}
-
-// How many bytes a log has with one entry more, or a refusal.
-#[derive(Clone, Copy)]
-pub enum Appended {
-    Length(usize),
-    // 35, 3 or 20.
-    Refused(u8),
-}
+const MARK: &[u8] = b"QLG";
 
 // Whether bytes begin with the mark.
 fn is_marked(log: &[u8]) -> bool
-    requires { entries_at ≤ length log.now }
     ensures { result ≡ is_marked log.now }
 {
-    (log[0] == b'Q') & (log[1] == b'L') & (log[2] == b'G')
+    log.starts_with(MARK)
 }
 
 // Whether the first bytes have the mark, the version and the length of a log.
@@ -61,13 +46,8 @@ fn are_canonical(log: &[u8], count: usize) -> bool
     requires { entries_at + entry_size * count ≤ length log.now }
     ensures { result ≡ all_canonical (entries_from count log.now entries_at) }
 {
-    let mut left = count;
-    let mut at = ENTRIES_AT;
-    while left > 0 {
-        if canonical::is_canonical(entries::entry_at(log, at)) {
-            at += ENTRY_SIZE;
-            left -= 1;
-        } else {
+    for i in 0..count {
+        if !canonical::is_canonical(entries::entry_at(log, ENTRIES_AT + ENTRY_SIZE * i)) {
             return false;
         }
     }
@@ -75,6 +55,7 @@ fn are_canonical(log: &[u8], count: usize) -> bool
 }
 
 // How many entries bytes are, or a refusal.
+#[tactic(auto, using(crate::specs::laws::LogTrips::from_length), unfolding(crate::specs::Logs::read_log))]
 pub fn read_log(log: &[u8]) -> Result<usize, Refusal>
     ensures { result ≡ answer_of (read_log log.now) }
 {
@@ -82,14 +63,14 @@ pub fn read_log(log: &[u8]) -> Result<usize, Refusal>
     if MOST_LOG < size {
         return Err(Refusal::TooMuch);
     }
-    if is_headed(log, size) {
-        let count = (size - ENTRIES_AT) / ENTRY_SIZE;
-        if are_canonical(log, count) {
-            return Ok(count);
-        }
+    if !is_headed(log, size) {
         return Err(Refusal::NoLog);
     }
-    Err(Refusal::NoLog)
+    let count = (size - ENTRIES_AT) / ENTRY_SIZE;
+    if !are_canonical(log, count) {
+        return Err(Refusal::NoLog);
+    }
+    Ok(count)
 }
 
 // Writes the mark and the version at the front.
@@ -97,9 +78,7 @@ fn put_header(log: &mut [u8])
     requires { entries_at ≤ length log.old }
     ensures { log.new ≡ sets log.old 0 header_bytes }
 {
-    log[0] = b'Q';
-    log[1] = b'L';
-    log[2] = b'G';
+    log[..VERSION_AT].copy_from_slice(MARK);
     fields::put_u16(log, VERSION_AT, VERSION);
 }
 
@@ -134,6 +113,7 @@ fn put_next(log: &mut [u8], used: usize, entry: Entry) -> Result<usize, Refusal>
 }
 
 // Puts an entry behind the bytes in use, or refuses and leaves all bytes as they are.
+#[tactic(auto, unfolding(crate::specs::Logs::appending))]
 pub fn append(log: &mut [u8], used: usize, entry: Entry) -> Result<usize, Refusal>
     ensures value { result ≡ appended_of used (appending log.old used entry) }
     ensures log_after { log.new ≡ log_after log.old used (appending log.old used entry) }
@@ -144,8 +124,8 @@ pub fn append(log: &mut [u8], used: usize, entry: Entry) -> Result<usize, Refusa
     if used == 0 {
         return put_first(log, entry);
     }
-    if is_headed(log, used) {
-        return put_next(log, used, entry);
+    if !is_headed(log, used) {
+        return Err(Refusal::NoLog);
     }
-    Err(Refusal::NoLog)
+    put_next(log, used, entry)
 }

@@ -3,7 +3,6 @@ use Rattle.refusals.specs.Outcome.{Ok}
 use mathlib.Core.Path.{◌≡◌, refl, sym, ap}
 use mathlib.Core.List.{◌++◌}
 use Prim.Native.Nat.{◌+◌}
-use native.Mathlib.Omega.{arith}
 use borrow.Author.Tests.{lt-ltb, le-ltb}
 use lib.ListN.{length}
 use Rattle.journal.specs.Layout.{entries_at}
@@ -27,9 +26,3 @@ pub returns : goal.returns
 returns c =
     let a = c.args in
     rw (entry_length a.entry, le-ltb _ _ c.if-log-size.false) record { value = ap Ok (sym (first_length a.entry)); log_after = then_stored header_bytes (entry_bytes a.entry) a.log.now 0 c.put_header.ensures c.put_entry.ensures }
-
-pub overflow_add-size : goal.overflow_add-size
-overflow_add-size c = omega arith
-
-pub shape_of-log : goal.shape_of-log
-shape_of-log c = omega arith

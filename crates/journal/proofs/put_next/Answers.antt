@@ -26,12 +26,3 @@ returns c =
     let a = c.args in
     let small : a.used + entry_size ≤ most_log = omega arith in
     rw (entry_length a.entry, le-ltb _ _ small, le-ltb _ _ c.if-log-size.false) record { value = ap (λ (n : ℕ). Ok (a.used + n)) (sym (entry_length a.entry)); log_after = c.put_entry.ensures }
-
-pub overflow_sub-t-5 : goal.overflow_sub-t-5
-overflow_sub-t-5 c = omega arith
-
-pub overflow_add-size : goal.overflow_add-size
-overflow_add-size c = omega arith
-
-pub shape_of-log : goal.shape_of-log
-shape_of-log c = omega arith

@@ -1,5 +1,6 @@
 -- Worked examples, which compute: an entry byte by byte, each reason for 35, and logs.
 use Rattle.std.specs.Prelude.{◌≡◌, refl, Bool, true, ◌&&◌, not, List, [], ◌∷◌, ◌++◌, ℕ, ℤ, pos, negsuc, replicate}
+use Rattle.refusals.specs.Numbers.{number}
 use Rattle.refusals.specs.declared.Refusal.TheVariants.{Outside, NOutside, MissingEnd, NoRoom, NoLog}
 use Rattle.refusals.specs.Outcome.{Ok, Err}
 use Rattle.fields.specs.Fields.{le16, le32}
@@ -59,7 +60,7 @@ text : entry_bytes (n gave on_c)
 unfolding entry_bytes question_bytes answer_bytes four_bytes four_numbers
 text = refl
 
-taken : all_canonical ((c gave on_g) ∷ (g gave refusal MissingEnd) ∷ (n gave on_c) ∷ []) ≡ true
+taken : all_canonical ((c gave on_g) ∷ (g gave refusal (number MissingEnd)) ∷ (n gave on_c) ∷ []) ≡ true
 unfolding all_canonical canonical holdable end_holdable sayable refusals_of is_nowhere tag_of_kind end_sayable exon_of_kind
 taken = refl
 
@@ -75,23 +76,23 @@ wrong =
     ∷ (asks map_c_to_g 1 4 0 (pos 7) (pos 0) (pos 9) (pos 0) gave on_g)
     -- a star outside c.
     ∷ (asks map_n_to_c 1 1 0 (pos 7) (pos 0) (pos 9) (pos 0) gave on_c)
-    ∷ (asks map_g_to_n 1 0 1 (pos 7) (pos 0) (pos 9) (pos 0) gave refusal Outside)
+    ∷ (asks map_g_to_n 1 0 1 (pos 7) (pos 0) (pos 9) (pos 0) gave refusal (number Outside))
     -- a missing mark outside g.
     ∷ (asks map_c_to_g 1 2 0 (pos 0) (pos 0) (pos 9) (pos 0) gave on_g)
     ∷ (asks map_n_to_c 1 0 2 (pos 7) (pos 0) (pos 0) (pos 0) gave on_c)
     -- an offset on g.
-    ∷ (asks map_g_to_n 1 0 0 (pos 7) (pos 1) (pos 9) (pos 0) gave refusal Outside)
+    ∷ (asks map_g_to_n 1 0 0 (pos 7) (pos 1) (pos 9) (pos 0) gave refusal (number Outside))
     ∷ (c gave says 1 0 (at (pos 24) (pos 0) 0 1) (at (pos 30) (pos 1) 0 2))
     -- a number under a missing mark
-    ∷ (asks map_g_to_n 1 0 2 (pos 7) (pos 0) (pos 9) (pos 0) gave refusal MissingEnd)
+    ∷ (asks map_g_to_n 1 0 2 (pos 7) (pos 0) (pos 9) (pos 0) gave refusal (number MissingEnd))
     -- an answer's star of no such value, and one outside c.
     ∷ (n gave says 3 0 (at (pos 1) (pos 0) 2 0) (at (pos 2) (pos 0) 0 0))
     ∷ (c gave says 1 0 (at (pos 24) (pos 0) 0 1) (at (pos 30) (pos 0) 1 2))
     -- a field that the kind or the tag does not use: an exon where there is no g., a refusal beside an answer, a position beside a refusal
     ∷ (n gave says 3 0 (at (pos 1) (pos 0) 0 1) (at (pos 2) (pos 0) 0 0))
-    ∷ (c gave says 1 Outside (at (pos 24) (pos 0) 0 1) (at (pos 30) (pos 0) 0 2))
-    ∷ (g gave says 0 MissingEnd (at (pos 1) (pos 0) 0 0) nowhere)
-    ∷ (g gave says 0 MissingEnd nowhere (at (pos 0) (pos 0) 0 1))
+    ∷ (c gave says 1 (number Outside) (at (pos 24) (pos 0) 0 1) (at (pos 30) (pos 0) 0 2))
+    ∷ (g gave says 0 (number MissingEnd) (at (pos 1) (pos 0) 0 0) nowhere)
+    ∷ (g gave says 0 (number MissingEnd) nowhere (at (pos 0) (pos 0) 0 1))
     -- a tag above 3, and one not of the kind
     ∷ (c gave says 4 0 (at (pos 24) (pos 0) 0 1) (at (pos 30) (pos 0) 0 2))
     ∷ (c gave says 3 0 (at (pos 24) (pos 0) 0 1) (at (pos 30) (pos 0) 0 2))
@@ -99,7 +100,7 @@ wrong =
     -- exon 0 in an answer from g. or to g.
     ∷ (c gave says 1 0 (at (pos 24) (pos 0) 0 1) (at (pos 30) (pos 0) 0 0))
     -- a refusal that the kind cannot give, and none
-    ∷ (g gave refusal NOutside)
+    ∷ (g gave refusal (number NOutside))
     ∷ (g gave refusal 0)
     ∷ []
 

@@ -2,6 +2,7 @@
 use Rattle.std.specs.Prelude.{ℕ, Bool, true, false, ◌&&◌, List, ◌≡◌, refl, ℤ}
 use Rattle.std.proofs.lemmas.Bool.{false≢true}
 use Rattle.std.proofs.Common.{sym, ◌∙◌}
+use Rattle.refusals.specs.declared.Refusal.{Refusal}
 use Rattle.refusals.specs.declared.Refusal.TheVariants.{Outside, TooWide}
 use Rattle.refusals.specs.Refusing.{one_of, Only}
 use Rattle.whole.specs.laws.Whole.{both_of}
@@ -27,7 +28,7 @@ in_order : {A : Type 0} (forward : Bool) (f : A → Bool) (a b : A) → f a ≡ 
 in_order true f a b h k = both_of h k
 in_order false f a b h k = both_of k h
 
-module _ (ks : List ℕ) (strict : Bool) where
+module _ (ks : List Refusal) (strict : Bool) where
   pub g_to_n_only : (strict ≡ true → one_of Outside ks ≡ true) → one_of TooWide ks ≡ true → (t : Transcript) (i : Interval ℤ) → Only ks (map_g_to_n strict t i)
   unfolding map_g_to_n whole_n
   g_to_n_only o w t i =
