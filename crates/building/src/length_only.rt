@@ -7,16 +7,16 @@ use refusals::{MOST_BASES, Refusal};
 use transcript::{BOTH_BITS, Head, OF_LENGTH};
 
 // 4 and 9.
-fn length_fault(length: i64) -> u8
+fn length_fault(length: i64) -> Result<(), Refusal>
     ensures { result ≡ length_fault length }
 {
     if length < 0 {
-        return Refusal::BadBound;
+        return Err(Refusal::BadBound);
     }
     if length > MOST_BASES as i64 {
-        return Refusal::TooLong;
+        return Err(Refusal::TooLong);
     }
-    0
+    Ok(())
 }
 
 // A length that is not negative.
@@ -27,27 +27,18 @@ fn bases_of(length: i32) -> u64
     length as u64
 }
 
-// The transcript of a length: its head, or the number of a refusal.
+// The transcript of a length: its head, or a refusal.
 pub fn build_length(length: i32, cds: u32, start: i32, end: i32) -> Result<Head, Refusal>
     ensures { result ≡ length_answer (judge_length length cds start end) }
 {
     if cds > BOTH_BITS {
         return Err(Refusal::NotTogether);
     }
-    let fault = length_fault(length as i64);
-    if fault != 0 {
-        return Err(fault);
-    }
+    length_fault(i64::from(length))?;
     let from = transcript::start_of(cds, start);
     let to = transcript::end_of(cds, end);
-    let half = judging::half_fault(from, to);
-    if half != 0 {
-        return Err(half);
-    }
-    let outside = judging::cds_fault(from, to, bases_of(length));
-    if outside != 0 {
-        return Err(outside);
-    }
+    judging::half_fault(from, to)?;
+    judging::cds_fault(from, to, bases_of(length))?;
     let bare = Head {
         kind: OF_LENGTH,
         strand: 0,

@@ -11,7 +11,7 @@ ghost use Rattle.segments.specs.Tables.{tables};
 ghost use Rattle.filling.specs.Filling.{Long};
 ghost use Rattle.building.specs.Afterwards.{built_answer, tables_after, exons_after};
 
-use reading::{Sums};
+use reading::Sums;
 use records::ALT_START;
 use refusals::{MOST_SEGMENTS, MOST_STARTS, Refusal};
 use transcript::{Head, Numbers, OF_RECORDS};
@@ -55,27 +55,22 @@ fn build_into(
     ensures letters_after { tables genome.new transcript.new letters.new ≡ tables_after (judge numbers s.now) (tables genome.old transcript.old letters.old) }
     ensures exons_after { exons.new ≡ exons_after (judge numbers s.now) exons.old }
 {
-    match judging::judge(numbers, s) {
-        Ok(to) => {
-            let strand = numbers.strand;
-            let forward = strand == 1;
-            filling::write_tables(
-                forward,
-                numbers.count,
-                s,
-                to,
-                genome,
-                transcript,
-                letters,
-                exons,
-            );
-            Ok(head_of(numbers, s, to))
-        }
-        Err(k) => Err(k),
-    }
+    let to = judging::judge(numbers, s)?;
+    let forward = numbers.strand == 1;
+    filling::write_tables(
+        forward,
+        numbers.count,
+        s,
+        to,
+        genome,
+        transcript,
+        letters,
+        exons,
+    );
+    Ok(head_of(numbers, s, to))
 }
 
-// The transcript that records make: its head, with its tables in the lent memory, or the number of a refusal, which leaves them as they are.
+// The transcript that records make: its head, with its tables in the lent memory, or a refusal, which leaves them as they are.
 pub fn build(
     numbers: Numbers,
     records: &[u8],

@@ -10,14 +10,13 @@ ghost use Rattle.transcript.specs.Heads.{strand_of};
 ghost use Rattle.segments.specs.Tables.{tables};
 ghost use Rattle.building.specs.Afterwards.{built_answer, tables_after, exons_after};
 ghost use Rattle.card.specs.Layout.{mark, version, start_at, records_at};
-ghost use Rattle.whole.specs.Whole.{eq_z};
 ghost use Rattle.fields.specs.Fields.{bytes16};
 ghost use Rattle.card.specs.Card.{strand_byte, given_bit, cds_byte, header_text, card_text, is_marked, numbers_in, are_plain, is_card, read_card};
 ghost use Rattle.judging.specs.Input.{input_of};
 ghost use Rattle.card.specs.Writing.{judge_card, card_writing};
 
 use refusals::{MOST_CARD, MOST_SEGMENTS, MOST_STARTS, Refusal};
-use transcript::{BOTH_BITS, Numbers};
+use transcript::{BOTH_BITS, Head, Numbers};
 
 const VERSION: u32 = 1;
 
@@ -36,14 +35,6 @@ const COUNT_AT: usize = 15;
 
 pub const RECORDS_AT: usize = 17;
 
-// What bytes read as: the numbers of building's input, whose records are the card's bytes from RECORDS_AT on.
-#[derive(Clone, Copy)]
-pub enum ReadCard {
-    Card(Numbers),
-    // 3, 21 or 22.
-    Refused(u8),
-}
-
 // Writes the mark at the front.
 pub fn put_mark(buffer: &mut [u8])
     requires { 3 ≤ length buffer.old }
@@ -58,26 +49,14 @@ pub fn put_mark(buffer: &mut [u8])
 fn is_marked(card: &[u8]) -> bool
     ensures { result ≡ is_marked card.now }
 {
-    if card.len() < STRAND_AT {
-        return false;
-    }
-    if card[0] == b'T' {
-        if card[1] == b'X' {
-            return card[2] == b'C';
-        }
-        return false;
-    }
-    false
+    STRAND_AT <= card.len() && card.starts_with(b"TXC")
 }
 
 // The strand of a strand byte.
 fn strand_of(b: u8) -> i32
     ensures { result ≡ strand_of (eqb b 0) }
 {
-    if b == 0 {
-        return 1;
-    }
-    -1
+    if b == 0 { 1 } else { -1 }
 }
 
 // The numbers before the records.
@@ -99,26 +78,13 @@ fn read_numbers(card: &[u8]) -> Numbers
     }
 }
 
-// Whether two numbers are the same.
-fn is_same(a: i64, b: i64) -> bool
-    ensures { result ≡ eq_z a b }
-{
-    if a == b {
-        return true;
-    }
-    false
-}
-
 // Whether the number of a CDS bound that is not given is 0.
 fn are_plain(cds: u32, start: i32, end: i32) -> bool
     ensures { result ≡ are_plain cds start end }
 {
     let from = transcript::number_of(transcript::start_of(cds, start));
     let to = transcript::number_of(transcript::end_of(cds, end));
-    if is_same(from as i64, start as i64) {
-        return is_same(to as i64, end as i64);
-    }
-    false
+    from == start && to == end
 }
 
 // Whether bytes with the mark and the version are a card.
@@ -141,23 +107,24 @@ fn is_card(card: &[u8]) -> bool
     false
 }
 
-// The numbers of the input that a card holds, or a refusal.
+// The numbers of the input that a card holds, whose records are its bytes from RECORDS_AT on, or a refusal: 3, 21 or 22.
 pub fn read_card(card: &[u8]) -> Result<Numbers, Refusal>
     ensures { result ≡ read_card card.now }
 {
     if MOST_CARD < card.len() {
         return Err(Refusal::TooMuch);
     }
-    if is_marked(card) {
-        if fields::u16_at(card, VERSION_AT) == VERSION {
-            if is_card(card) {
-                return Ok(read_numbers(card));
-            }
-            return Err(Refusal::NoCard);
-        }
+    if !is_marked(card) {
+        return Err(Refusal::NoCard);
+    }
+    if fields::u16_at(card, VERSION_AT) != VERSION {
         return Err(Refusal::BadVersion);
     }
-    Err(Refusal::NoCard)
+    if is_card(card) {
+        Ok(read_numbers(card))
+    } else {
+        Err(Refusal::NoCard)
+    }
 }
 
 // The transcript that a card's input makes, or a refusal, which leaves the tables as they are.
@@ -172,12 +139,8 @@ pub fn build_card(
     ensures letters_after { tables genome.new transcript.new letters.new ≡ tables_after (judge_card card.now) (tables genome.old transcript.old letters.old) }
     ensures exons_after { exons.new ≡ exons_after (judge_card card.now) exons.old }
 {
-    match read_card(card) {
-        Ok(n) => {
-            building::build(n, &card[RECORDS_AT..], genome, transcript, letters, exons)
-        }
-        Err(k) => Err(k),
-    }
+    let n = read_card(card)?;
+    building::build(n, &card[RECORDS_AT..], genome, transcript, letters, exons)
 }
 
 // Writes bytes from a place on.
@@ -185,31 +148,21 @@ fn put_bytes(buffer: &mut [u8], at: usize, bytes: &[u8])
     requires { at + length bytes.now ≤ length buffer.old }
     ensures { buffer.new ≡ sets buffer.old at bytes.now }
 {
-    let mut i = 0;
-    while i < bytes.len() {
-        buffer[at + i] = bytes[i];
-        i += 1;
-    }
+    buffer[at..at + bytes.len()].copy_from_slice(bytes);
 }
 
 // The byte of a strand.
 fn strand_byte(strand: i64) -> u8
     ensures { result ≡ strand_byte strand }
 {
-    if strand == 1 {
-        return 0;
-    }
-    1
+    if strand == 1 { 0 } else { 1 }
 }
 
 // Whether a bound is given, as a bit.
 fn given_bit(bound: Option<i32>) -> u8
     ensures { (result ≡ given_bit bound) × (result ≤ 1) }
 {
-    match bound {
-        Some(_) => 1,
-        None => 0,
-    }
+    u8::from(bound.is_some())
 }
 
 // The CDS byte.
@@ -266,8 +219,6 @@ pub fn write_card(numbers: Numbers, records: &[u8], buffer: &mut [u8]) -> Result
     ensures value { result ≡ written_answer (card_writing numbers records.now (length buffer.old)) }
     ensures buffer_after { buffer.new ≡ buffer_after buffer.old (card_writing numbers records.now (length buffer.old)) }
 {
-    match judging::judge(numbers, records) {
-        Ok(_) => write_taken(numbers, records, buffer),
-        Err(k) => Err(k),
-    }
+    judging::judge(numbers, records)?;
+    write_taken(numbers, records, buffer)
 }

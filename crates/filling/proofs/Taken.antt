@@ -1,4 +1,5 @@
 -- A text and a record whose tally is no refusal. Assumes nothing.
+use Rattle.std.specs.Prelude.{Some, None}
 use mathlib.Core.Path.{◌≡◌, refl, sym, ap, ◌∙◌}
 use mathlib.Core.List.{List, [], ◌∷◌}
 use Prim.Native.Nat.{ℕ, ◌+◌, ◌-◌, ◌≤◌, ◌<◌}
@@ -8,9 +9,9 @@ use lib.ListN.{take, drop}
 use borrow.Author.Tests.{ltb-true, ltb-false, eqb-true, eqb-false, ne_eqb}
 use Rattle.refusals.specs.Numbers.{most_text, most_segments}
 use Rattle.refusals.specs.declared.Refusal.{Refusal}
-use Rattle.refusals.specs.Outcome.{Ok, Err}
+use Rattle.refusals.specs.Outcome.{Ok, Err, Outcome}
 use Rattle.whole.specs.laws.Whole.{by_test}
-use Rattle.cigar.specs.declared.Step.TheVariants as step
+use Rattle.cigar.specs.declared.Step.{Step}
 use Rattle.cigar.specs.Elements.{Element}
 use Rattle.cigar.specs.Text.{step_at, Reading, before, element, read_all, elements_in}
 use Rattle.cigar.specs.laws.Steps.{go_on, goes_on}
@@ -24,7 +25,7 @@ use Rattle.reading.specs.laws.Sizes.{cigar_is, first_large, first_read, next_lar
 use Rattle.reading.specs.laws.Texts.{tally_element, tally_full, tally_refused}
 
 -- a refusal is no sums
-pub never : {k : Refusal} {s : Sums} → Err k ≡ Ok s → ⊥
+pub never : {k : Refusal} {s : Sums} → ◌≡◌ {A = Outcome Sums} (Err k) (Ok s) → ⊥
 never e = let z : ◌≡◌ {A = ℕ} 0 1 = cc in omega arith
 
 -- where elements end that were tallied
@@ -36,32 +37,32 @@ ends_at s to (Err k) e = absurd (never e)
 
 module _ (text : List ℕ) (at : ℕ) (s to : Sums) (told : tallied s (read_all (most_segments - s.count) (drop at text)) ≡ Ok to) where
   -- one element more
-  pub record Taken (k c next : ℕ) : Type 0 where
+  pub record Taken (found : Step) : Type 0 where
     pub room : s.count < most_segments
-    pub told_next : tallied (one_on s (element k c)) (read_all (most_segments - (s.count + 1)) (drop next text)) ≡ Ok to
-    pub is : elements_in (read_all (most_segments - s.count) (drop at text)) ≡ element k c ∷ elements_in (read_all (most_segments - (s.count + 1)) (drop next text))
+    pub told_next : tallied (one_on s (element found.count found.letter)) (read_all (most_segments - (s.count + 1)) (drop found.next text)) ≡ Ok to
+    pub is : elements_in (read_all (most_segments - s.count) (drop at text)) ≡ element found.count found.letter ∷ elements_in (read_all (most_segments - (s.count + 1)) (drop found.next text))
 
   taken_in : (x : Element) (r : Reading) → tallied (one_on s x) r ≡ Ok to → elements_in (before x r) ≡ x ∷ elements_in r
   taken_in x (Ok es) e = refl
   taken_in x (Err k) e = absurd (never e)
 
-  pub take_element : {k c next : ℕ} → s.count ≤ most_segments → step_at text at ≡ step.Element k c next → Taken k c next
-  take_element {k} {c} {next} few e =
+  pub take_element : {found : Step} → s.count ≤ most_segments → step_at text at ≡ Ok (Some found) → Taken found
+  take_element {found} few e =
       by_test (ltb s.count most_segments)
       (λ q.
       let room = ltb-true s.count most_segments q in
       let fewer : most_segments - s.count - 1 ≡ most_segments - (s.count + 1) = omega arith in
-      let rest = read_all (most_segments - (s.count + 1)) (drop next text) in
-      let next_told : tallied (one_on s (element k c)) rest ≡ Ok to = sym (tally_element text at s room e) ∙ told in
-      let is : read_all (most_segments - s.count) (drop at text) ≡ before (element k c) rest =
+      let rest = read_all (most_segments - (s.count + 1)) (drop found.next text) in
+      let next_told : tallied (one_on s (element found.count found.letter)) rest ≡ Ok to = sym (tally_element text at s room e) ∙ told in
+      let is : read_all (most_segments - s.count) (drop at text) ≡ before (element found.count found.letter) rest =
       goes_on (most_segments - s.count) text at ∙ rw (e, ne_eqb (most_segments - s.count) 0 (λ z. omega arith), fewer) in
-      record { room = room; told_next = next_told; is = ap elements_in is ∙ taken_in (element k c) rest next_told })
+      record { room = room; told_next = next_told; is = ap elements_in is ∙ taken_in (element found.count found.letter) rest next_told })
       (λ q. let past = ltb-false s.count most_segments q in absurd (never (sym (tally_full text at s (omega arith) e) ∙ told)))
 
-  pub take_none : {k : ℕ} → step_at text at ≡ step.Refused k → ⊥
+  pub take_none : {k : Refusal} → step_at text at ≡ Err k → ⊥
   take_none e = never (sym (tally_refused text at s e) ∙ told)
 
-  pub take_end : step_at text at ≡ step.End → elements_in (read_all (most_segments - s.count) (drop at text)) ≡ []
+  pub take_end : step_at text at ≡ Ok None → elements_in (read_all (most_segments - s.count) (drop at text)) ≡ []
   take_end e = ap elements_in (goes_on (most_segments - s.count) text at ∙ ap (go_on (most_segments - s.count) text) e)
 
 -- ---- a record whose tally is no refusal reads as its text does

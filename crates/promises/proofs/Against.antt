@@ -8,6 +8,7 @@ use mathlib.Core.List.{List}
 use mathlib.Core.Path.{◌≡◌, sym, ap, ◌∙◌}
 use lib.IntN.{ℤ, pos}
 use lib.ListN.{get_or}
+use Rattle.refusals.specs.declared.Refusal.TheVariants.{NoRecords}
 use Rattle.refusals.specs.Outcome.{Ok, Err, through}
 use Rattle.whole.specs.laws.Whole.{order}
 use Rattle.whole.specs.Fits.{fit_of, fits}
@@ -43,7 +44,7 @@ second_is_2 m d b always = sym (always _ _ _) ∙ ap start_n ((d input_a A all_b
 -- it refuses everything, with whatever numbers
 pub refusing_fails : (m : Mapper) → ((strict : Bool) (t : Transcript) (i : Interval ℤ) → (k : Refusal) × (m.g_to_n strict t i ≡ Err k)) → Demand2Built m → ⊥
 refusing_fails m refuses d =
-    let h = second_is_2 m d (Err 0) (λ strict t i. ap start_n (refuses strict t i).1) in
+    let h = second_is_2 m d (Err NoRecords) (λ strict t i. ap start_n (refuses strict t i).1) in
     omega order
 
 -- it always says n.1, with whatever exon numbers
@@ -69,7 +70,7 @@ answer_n e = cc
 pub unexchanged_n_fails : (m : Mapper) → ((strict : Bool) (t : Transcript) (i : Interval ℤ) → m.g_to_n strict t i ≡ exchanged_in t.forward (map_g_to_n strict t i)) → TableOfPlaces m → ⊥
 unfolding kind_of genome transcript total entries_from first_below index_of spot_in nearer map_by_tables map_place n_of_place inside turned n_of_spot fit_of fits whole_n map_g_to_n parts_of elements_after elements_of first_start build
 unexchanged_n_fails m turns h =
-    let row = ap (λ (l : List Reply). get_or l 22 (in_n (Err 0))) h in
+    let row = ap (λ (l : List Reply). get_or l 22 (in_n (Err NoRecords))) h in
     let start : pos 18 ≡ pos 1 = ap start_n (sym (turns _ _ _) ∙ answer_n row) in
     omega order
 
@@ -81,7 +82,7 @@ end_exon (Err k) = 1
 -- it always says exon 1: the end of row 22 lies in exon 2
 pub exon_1_fails : (m : Mapper) → ((strict : Bool) (t : Transcript) (i : Interval ℤ) → end_exon (m.g_to_n strict t i) ≡ 1) → TableOfPlaces m → ⊥
 exon_1_fails m says h =
-    let row = ap (λ (l : List Reply). get_or l 22 (in_n (Err 0))) h in
+    let row = ap (λ (l : List Reply). get_or l 22 (in_n (Err NoRecords))) h in
     let number : ◌≡◌ {A = ℕ} 1 2 = sym (says _ _ _) ∙ ap end_exon (answer_n row) in
     omega arith
 
@@ -89,7 +90,7 @@ exon_1_fails m says h =
 pub unexchanged_g_fails : (m : Mapper) → ((strict : Bool) (t : Transcript) (i : Interval NAsked) → m.n_to_g strict t i ≡ map_n_to_g strict t (exchanged t.forward i)) → TableOfPlaces m → ⊥
 unfolding kind_of genome transcript total entries_from first_below index_of spot_in nearer map_by_tables map_place place_of_n inside turned g_of_spot fit_of fits g_of_ends map_n_to_g parts_of elements_after elements_of first_start build
 unexchanged_g_fails m turns h =
-    let row = ap (λ (l : List Reply). get_or l 23 (in_g (Err 0))) h in
+    let row = ap (λ (l : List Reply). get_or l 23 (in_g (Err NoRecords))) h in
     let start : pos 33 ≡ pos 11 = ap start_g (sym (turns _ _ _) ∙ answer row) in
     omega order
   where

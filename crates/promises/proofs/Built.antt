@@ -9,7 +9,7 @@ use lib.IntN.{ℤ, pos, negsuc, nat_abs, ◌+ℤ◌}
 use lib.ListN.{length}
 use lib.Signed.{lt_z}
 use Rattle.refusals.specs.Numbers.{most_segments, most_text}
-use Rattle.refusals.specs.Outcome.{Outcome, Ok, Err, Answered, through}
+use Rattle.refusals.specs.Outcome.{Outcome, Ok, Err, Answered, through, no_fault}
 use Rattle.refusals.specs.laws.Outcomes.{clash, same}
 use Rattle.whole.specs.Whole.{eq_z}
 use Rattle.whole.specs.laws.Whole.{by_test, order}
@@ -90,7 +90,7 @@ whole_after : (p : Record) (rs : List Record) → Ordered p rs → AllWhole rs
 whole_after p [] o = tt
 whole_after p (r ∷ rs) (b, o) = (b.start_whole, whole_after r rs o)
 
-all_whole : (forward : Bool) (rs : List Record) → faults forward rs ≡ 0 → AllWhole rs
+all_whole : (forward : Bool) (rs : List Record) → faults forward rs ≡ no_fault → AllWhole rs
 unfolding faults
 all_whole forward [] f = tt
 all_whole forward (r ∷ rs) f =

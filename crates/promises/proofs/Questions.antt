@@ -1,4 +1,5 @@
 -- In strict mode 14, 15 and 16 leave only numbers that fit: what g. to n. maps lies within the genome, so that the place that it gives and its offset are no larger than the transcript and the genome; and a number that 15 or 16 lets pass lies in the transcript. Assumes nothing.
+use Rattle.refusals.specs.declared.Refusal.{Refusal}
 use Prim.Native.Nat.{ℕ, ◌+◌, ◌≤◌, ◌<◌}
 use native.Mathlib.Omega.{arith}
 use mathlib.Core.Bool.{Bool, true, false, ◌&&◌, false≢true}
@@ -44,7 +45,7 @@ use Rattle.promises.proofs.InRange.{InRange, SourceInRange, held_source}
 -- ---- 17
 
 -- what fits is answered
-fits_only : (ks : List ℕ) {P : Type 0} (fit : P → Bool) (a : Marked P) → (fit a.interval.from && fit a.interval.to) ≡ true → Only ks (fitting fit (Ok a))
+fits_only : (ks : List Refusal) {P : Type 0} (fit : P → Bool) (a : Marked P) → (fit a.interval.from && fit a.interval.to) ≡ true → Only ks (fitting fit (Ok a))
 fits_only ks fit a h = only_if ks (fit a.interval.from && fit a.interval.to) TooWide (Ok a) (record { only = tt }) (λ e. absurd (false≢true (sym e ∙ h)))
 
 -- and what is answered fits
@@ -86,7 +87,7 @@ module _ (t : Transcript) (in_range : InRange t) where
       (number_fits len _ in_range.transcript_small (near_turned t.forward len _ (near_place genome transcript even t.elements p e t.forward p_in)))
       (within_fits (genome_length t) _ (omega (arith, in_range.genome_small)) (signed_within t.forward (genome_length t) _ (near_offset genome transcript t.elements p e t.forward p_in))))
 
-  g_to_n_only : (ks : List ℕ) → one_of Outside ks ≡ true → (i : Interval ℤ) → Only ks (map_g_to_n true t i)
+  g_to_n_only : (ks : List Refusal) → one_of Outside ks ≡ true → (i : Interval ℤ) → Only ks (map_g_to_n true t i)
   unfolding map_g_to_n whole_n
   g_to_n_only ks o i =
       let span = genome_length t in
@@ -115,7 +116,7 @@ module _ (t : Transcript) (in_range : InRange t) where
 
 -- ---- n. to c., and back
 
-module _ (ks : List ℕ) (no_cds_in : one_of NotCoding ks ≡ true) (len : ℕ) (small : len ≤ most_bases) where
+module _ (ks : List Refusal) (no_cds_in : one_of NotCoding ks ≡ true) (len : ℕ) (small : len ≤ most_bases) where
   n_to_c_only : one_of NOutside ks ≡ true → (c : Cds) → CdsInside c len → (i : Interval NAsked) → fits i.from.offset ≡ true → fits i.to.offset ≡ true → Only ks (map_n_to_c true len c i)
   unfolding map_n_to_c c_of_interval c_position
   n_to_c_only o no_cds inside i h k = record { only = no_cds_in }
@@ -151,7 +152,7 @@ module _ (ks : List ℕ) (no_cds_in : one_of NotCoding ks ≡ true) (len : ℕ) 
 -- ---- the questions
 
 -- of what is lent, where a question to what is in range gives only these
-lent_only : (ks : List ℕ) → one_of NotTogether ks ≡ true → {A : Type 0} (x : Lent) (ask : Source → Outcome A) → ((y : Source) → SourceInRange y → Only ks (ask y)) → Only ks (checked x ask)
+lent_only : (ks : List Refusal) → one_of NotTogether ks ≡ true → {A : Type 0} (x : Lent) (ask : Source → Outcome A) → ((y : Source) → SourceInRange y → Only ks (ask y)) → Only ks (checked x ask)
 unfolding checked
 lent_only ks r x ask o = by_test (holds x) (λ h. rw h (o (source_of x) (held_source x h))) (λ h. rw h (record { only = r }))
 
@@ -160,12 +161,12 @@ length_in_range : (y : Source) → SourceInRange y → (length_of y ≤ most_bas
 length_in_range (aligned t) r = (r.transcript_small, r.cds_inside)
 length_in_range (length_only n c) r = r
 
-ask_g_to_n_lem : (ks : List ℕ) → one_of Outside ks ≡ true → one_of MissingEnd ks ≡ true → one_of NoGenome ks ≡ true → (q : Interval GAsked) (y : Source) → SourceInRange y → Only ks (ask_g_to_n true q y)
+ask_g_to_n_lem : (ks : List Refusal) → one_of Outside ks ≡ true → one_of MissingEnd ks ≡ true → one_of NoGenome ks ≡ true → (q : Interval GAsked) (y : Source) → SourceInRange y → Only ks (ask_g_to_n true q y)
 unfolding ask_g_to_n
 ask_g_to_n_lem ks o m g q (aligned t) r = only_then ks (given q) (map_g_to_n true t) (given_only ks m q) (λ i e. g_to_n_only t r ks o i)
 ask_g_to_n_lem ks o m g q (length_only n c) r = record { only = g }
 
-ask_n_to_c_lem : (ks : List ℕ) → one_of NotCoding ks ≡ true → one_of NOutside ks ≡ true → (q : Interval NAsked) → fits q.from.offset ≡ true → fits q.to.offset ≡ true → (y : Source) → SourceInRange y → Only ks (ask_n_to_c true q y)
+ask_n_to_c_lem : (ks : List Refusal) → one_of NotCoding ks ≡ true → one_of NOutside ks ≡ true → (q : Interval NAsked) → fits q.from.offset ≡ true → fits q.to.offset ≡ true → (y : Source) → SourceInRange y → Only ks (ask_n_to_c true q y)
 unfolding ask_n_to_c
 ask_n_to_c_lem ks d o q h k y r = let (small, inside) = length_in_range y r in n_to_c_only ks d (length_of y) small o (coding_of y) inside q h k
 

@@ -1,5 +1,5 @@
 -- The table of places: P1 to P15 of document 01 and rows beside them, as one statement over one list. A row is a question with the answer that is due. Assumes nothing.
-use Rattle.std.specs.Prelude.{ℕ, ◌+◌, Bool, true, false, List, [], ◌∷◌, map, ◌≡◌, ℤ, pos, neg_ℤ, drop, Some}
+use Rattle.std.specs.Prelude.{ℕ, ◌+◌, Bool, true, false, List, [], ◌∷◌, map, ◌≡◌, ℤ, pos, neg_ℤ, drop, Some, None}
 use Rattle.refusals.specs.declared.Refusal.TheVariants.{NotCoding, Outside, NOutside, COutside, TooWide, NoGenome, MissingEnd, NotSpanning}
 use Rattle.refusals.specs.Outcome.{Outcome, Ok, Err}
 use Rattle.sequences.specs.Alleles.{prefix_len, changed_of}
@@ -13,7 +13,7 @@ use Rattle.transcript.specs.Transcript.{Transcript, Source}
 use Rattle.transcript.specs.Transcript.Cds.{no_cds, cds}
 use Rattle.transcript.specs.Transcript.Source.{aligned, length_only}
 use Rattle.transcript.specs.Building.{Exon, build}
-use Rattle.positions.specs.Positions.{Interval, each, GAsked, at, missing, NAsked, CAsked, GPosition, NPosition, CPosition, asks_n, asks_c}
+use Rattle.positions.specs.Positions.{Interval, each, GAsked, NAsked, CAsked, GPosition, NPosition, CPosition, asks_n, asks_c}
 use Rattle.positions.specs.Answers.{Answer, certainly, uncertainly, plainly}
 use Rattle.mapper.specs.Asking.{ask_g_to_n, ask_in_bounds}
 use Rattle.judging.specs.Input.{Input}
@@ -121,7 +121,7 @@ abbrev in_exons : ℕ → ℕ → Interval ℕ
 in_exons k l = record { from = k; to = l }
 
 abbrev asked : ℕ → ℕ → Interval GAsked
-asked a b = record { from = at (pos a); to = at (pos b) }
+asked a b = record { from = Some (pos a); to = Some (pos b) }
 
 -- an element, and the bytes of a digit and of the four bases
 infix 70 ◌of◌
@@ -287,7 +287,7 @@ rows =
     ∷ n_g lenient A (asked_n (ns (pos 1) (pos 2147483647) (pos 1) (pos 0))) (Err TooWide)
     -- 18 and 19
     ∷ asked_g_n strict (asked 11 11) (length_only 18 no_cds) (Err NoGenome)
-    ∷ asked_g_n strict (record { from = at (pos 11); to = missing }) (aligned A) (Err MissingEnd)
+    ∷ asked_g_n strict (record { from = Some (pos 11); to = None }) (aligned A) (Err MissingEnd)
     -- A g.11_33 is in bounds, g.33_11 too; g.11_34, g.34_11, g.10_33 and g.33_10 are not; 18 and 19
     ∷ in_bounds (asked 11 33) (aligned A) (Ok true)
     ∷ in_bounds (asked 33 11) (aligned A) (Ok true)
@@ -296,7 +296,7 @@ rows =
     ∷ in_bounds (asked 10 33) (aligned A) (Ok false)
     ∷ in_bounds (asked 33 10) (aligned A) (Ok false)
     ∷ in_bounds (asked 11 33) (length_only 18 no_cds) (Err NoGenome)
-    ∷ in_bounds (record { from = missing; to = at (pos 33) }) (aligned A) (Err MissingEnd)
+    ∷ in_bounds (record { from = None; to = Some (pos 33) }) (aligned A) (Err MissingEnd)
     -- demand 3 speaks of answers: A g.34_33 refuses 14, and with an exon added it is c.*3+1_*3
     ∷ g_c strict A (gs 34 33) (Err Outside)
     ∷ g_c strict A+ (gs 34 33) (certainly (in_exon 2) (cs (star_c (pos 3)) (pos 1) (star_c (pos 3)) (pos 0)))

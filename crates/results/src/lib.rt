@@ -3,11 +3,11 @@
 
 ghost use Rattle.std.specs.Prelude.{◌≡◌};
 ghost use Rattle.lending.specs.Lending.{head_row};
-ghost use Rattle.results.specs.Results.{counted_laid, written_laid, number_laid, part_laid, built_number, built_head};
+ghost use Rattle.results.specs.Results.{counted_laid, part_laid, built_number, built_head};
 
-use refusals::Refusal;
 use layout::lay::Length;
-use transcript::{Head};
+use refusals::Refusal;
+use transcript::Head;
 
 // Where the changed part stands: of the reference (0) or of the alternative (1).
 #[repr(C)]
@@ -18,48 +18,16 @@ pub struct Part {
     pub to: usize,
 }
 
-// A number of elements or words, as a length.
+// A number of elements, words or bytes, as a length.
 pub fn counted_laid(counted: Result<usize, Refusal>) -> Length
     ensures { result ≡ counted_laid counted }
 {
     match counted {
-        Ok(n) => Length {
-            number: 0,
-            length: n,
-        },
-        Err(k) => Length {
-            number: k as u32,
+        Ok(length) => Length { number: 0, length },
+        Err(refusal) => Length {
+            number: u32::from(refusal.number()),
             length: 0,
         },
-    }
-}
-
-// A text that was written, as a length.
-pub fn written_laid(written: Result<usize, Refusal>) -> Length
-    ensures { result ≡ written_laid written }
-{
-    match written {
-        Ok(n) => Length {
-            number: 0,
-            length: n,
-        },
-        Err(k) => Length {
-            number: k as u32,
-            length: 0,
-        },
-    }
-}
-
-// That many bytes, or the number of a refusal.
-pub fn number_laid(number: u8, length: usize) -> Length
-    ensures { result ≡ number_laid number length }
-{
-    if number == 0 {
-        return Length { number: 0, length };
-    }
-    Length {
-        number: number as u32,
-        length: 0,
     }
 }
 
@@ -67,9 +35,8 @@ pub fn number_laid(number: u8, length: usize) -> Length
 pub fn part_laid(part: sequences::Part) -> Part
     ensures { result ≡ part_laid part }
 {
-    let alternative = layout::lay::star_number(part.alternative);
     Part {
-        alternative,
+        alternative: layout::lay::star_number(part.alternative),
         from: part.from,
         to: part.to,
     }
@@ -94,6 +61,6 @@ pub fn lay_built(b: Result<Head, Refusal>, head: &mut [i32; 9]) -> u32
             lay_head(h, head);
             0
         }
-        Err(k) => k as u32,
+        Err(refusal) => u32::from(refusal.number()),
     }
 }

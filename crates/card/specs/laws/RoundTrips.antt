@@ -226,10 +226,10 @@ read_means s m e =
     (λ v. absurd (clash (simp (t, u, v) at e))))
     (λ u. absurd (clash (simp (t, u) at e))))
   where
-    clash : {k : Refusal} → Err k ≡ Ok m → ⊥
+    clash : {k : Refusal} → ◌≡◌ {A = Outcome Numbers} (Err k) (Ok m) → ⊥
     clash q = let z : ◌≡◌ {A = ℕ} 0 1 = cc in omega arith
 
-    same : Ok (numbers_in s) ≡ Ok m → m ≡ numbers_in s
+    same : ◌≡◌ {A = Outcome Numbers} (Ok (numbers_in s)) (Ok m) → m ≡ numbers_in s
     same q = cc
 
 strand_kept : (b : ℕ) → b ≤ 1 → strand_byte (strand_of (eqb b 0)) ≡ b
@@ -295,6 +295,6 @@ is_canonical s i bs e = go (read_card s) refl e
         let j : i ≡ input_in s (numbers_in s) = sym (input_same q) ∙ ap (input_in s) k.1 in
         ap card_text j ∙ text_kept s bs k.0
       where
-        input_same : {a : Input} → Ok a ≡ Ok i → a ≡ i
+        input_same : {a : Input} → ◌≡◌ {A = Outcome Input} (Ok a) (Ok i) → a ≡ i
         input_same x = cc
     go (Err k) h q = absurd (let z : ◌≡◌ {A = ℕ} 0 1 = cc in omega arith)

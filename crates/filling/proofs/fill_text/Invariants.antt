@@ -11,12 +11,12 @@ use Rattle.filling.specs.Filling.{Long, fill, ordered, UpTo}
 use Rattle.filling.proofs.Fills.{left_from}
 use Rattle.filling.proofs.fill_text.Given as goal
 
-abbrev pub invariant-loop-count : goal.invariant-loop-count
-invariant-loop-count l =
+abbrev pub invariant-loop-step : goal.invariant-loop-step
+invariant-loop-step l =
     (l.at ≤ length l.text) × Long (tables l.genome l.transcript l.letters) × Bounded l.sums × UpTo l.from l.sums
     × (tallied l.sums (read_all (most_segments - l.sums.count) (drop l.at l.text)) ≡ Ok l.to)
     × (fill (tables l.initial.genome l.initial.transcript l.initial.letters) l.from (ordered l.forward (elements_in (read_all (most_segments - l.from.count) l.text)))
     ≡ fill (tables l.genome l.transcript l.letters) (left_from l.forward l.from l.sums) (ordered l.forward (elements_in (read_all (most_segments - l.sums.count) (drop l.at l.text)))))
 
-abbrev pub decreases-loop-count : goal.decreases-loop-count
-decreases-loop-count l = length l.text - l.at
+abbrev pub decreases-loop-step : goal.decreases-loop-step
+decreases-loop-step l = length l.text - l.at

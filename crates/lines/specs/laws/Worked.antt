@@ -1,5 +1,4 @@
 -- Document 01's listing of transcript A, byte for byte, and a refusal's line: they compute. Assumes nothing.
-use Rattle.refusals.specs.Outcome.{Err}
 use Rattle.std.specs.Prelude.{ℕ, true, List, [], ◌∷◌, ◌++◌, ◌≡◌, refl}
 use Prim.Native.String.{String}
 use Rattle.cigar.specs.Elements.{letter_m, letter_n, kind_of, genome, transcript, total}
@@ -16,6 +15,6 @@ a_listed : listing_text true (element 10 letter_m ∷ element 5 letter_n ∷ ele
 unfolding listing_text listing_header lines_text numbers_text decimal digits_by total genome transcript kind_of
 a_listed = refl
 
-refused_7 : refusal_text 7 ≡ line "Err 7"
+refused_7 : refusal_text 7 ≡ line "refused 7"
 unfolding refusal_text decimal digits_by
 refused_7 = refl

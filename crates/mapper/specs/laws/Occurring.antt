@@ -1,5 +1,5 @@
 -- Each refusal of each question's row occurs: a question that is refused with it, computed. With the rows of `Refusing` the sets are exact. Assumes nothing.
-use Rattle.std.specs.Prelude.{true, false, [], ◌∷◌, map, ◌≡◌, refl, ℤ, pos, negsuc}
+use Rattle.std.specs.Prelude.{true, false, Some, None, [], ◌∷◌, map, ◌≡◌, refl, ℤ, pos, negsuc}
 use Rattle.refusals.specs.Outcome.{Err}
 use Rattle.whole.specs.Fits.{fits, fit_of}
 use Rattle.numbering.specs.Numbers.{n_of_place, place_of_n, plain_c, c_of_n, n_of_c, skip_zero}
@@ -9,7 +9,7 @@ use Rattle.finding.specs.Finding.{first_below, index_of}
 use Rattle.segments.specs.Places.{nearer, spot_in, map_by_tables, map_place}
 use Rattle.segments.specs.Exons.{goes_on, numbers_hold, numbers_from, exon_found, exon_chosen}
 use Rattle.holding.specs.Holding.{Lent, lent, cds_holds, records_hold, length_holds, holds, source_of, checked}
-use Rattle.positions.specs.Positions.{Interval, GAsked, at, missing, NAsked, CAsked}
+use Rattle.positions.specs.Positions.{Interval, GAsked, NAsked, CAsked}
 use Rattle.coding.specs.Coding.{beyond, c_position, c_of_interval, map_n_to_c, n_position, map_c_to_n}
 use Rattle.spots.specs.Mapping.{inside, turned, n_of_spot, whole_n, map_g_to_n, g_of_spot, g_of_ends, map_n_to_g}
 use Rattle.mapper.specs.Asking.{ask_g_to_n, ask_n_to_g, ask_n_to_c, ask_c_to_n, ask_g_to_c, ask_c_to_g, ask_coding, ask_in_bounds}
@@ -45,10 +45,10 @@ broken = lent_a (pos 2) (pos 3)
 -- ---- what is asked: an interval of one number
 
 abbrev g : ℤ → Interval GAsked
-g a = record { from = at a; to = at a }
+g a = record { from = Some a; to = Some a }
 
 abbrev no_end : Interval GAsked
-no_end = record { from = at (pos 11); to = missing }
+no_end = record { from = Some (pos 11); to = None }
 
 abbrev n : ℤ → ℤ → Interval NAsked
 n a o = record { from = record { base = a; offset = o }; to = record { base = a; offset = o } }

@@ -1,11 +1,13 @@
 -- Which refusals a question to what a host lends can give: one row for each question, of either kind of transcript and in either mode. Assumes nothing.
-use Rattle.std.specs.Prelude.{ℕ, Bool, cond, List, [], ◌∷◌, ◌≡◌, eqb, ℤ, ◌-ℤ◌}
+use Rattle.std.specs.Prelude.{ℕ, Bool, Some, None, cond, List, [], ◌∷◌, ◌≡◌, eqb, ℤ, ◌-ℤ◌}
 use Rattle.std.proofs.Math.Bool.{true, false}
 use Rattle.std.proofs.lemmas.Bool.{false≢true}
 use Rattle.std.proofs.Math.Path.{refl}
 use Rattle.std.proofs.Math.IntN.{pos}
 use Rattle.std.specs.Int.Signed.{le_z, lt_z}
+use Rattle.refusals.specs.declared.Refusal.{Refusal}
 use Rattle.refusals.specs.declared.Refusal.TheVariants.{NotCoding, Outside, NOutside, COutside, TooWide, NoGenome, MissingEnd, NotTogether}
+use Rattle.refusals.specs.Numbers.{number}
 use Rattle.refusals.specs.Outcome.{Outcome, Ok, Err}
 use Rattle.refusals.specs.Refusing.{one_of, Only}
 use Rattle.refusals.specs.laws.Outcomes.{clash}
@@ -16,7 +18,7 @@ use Rattle.transcript.specs.Transcript.{Source, Cds, genome_length, transcript_l
 use Rattle.transcript.specs.Transcript.Source.{aligned, length_only}
 use Rattle.transcript.specs.Transcript.Cds.{no_cds, cds}
 use Rattle.holding.specs.Holding.{Lent, holds, source_of, checked}
-use Rattle.positions.specs.Positions.{Interval, each, GAsked, at, missing, NAsked, CAsked, NPosition, asks_n}
+use Rattle.positions.specs.Positions.{Interval, each, GAsked, NAsked, CAsked, NPosition, asks_n}
 use Rattle.positions.specs.Answers.{Marked}
 use Rattle.positions.specs.laws.Refusing.{only_if, only_chain}
 use Rattle.coding.specs.Coding.{beyond, map_c_to_n}
@@ -54,14 +56,14 @@ module _ (len : ℕ) where
 
 -- ---- the questions: 14, 15 and 16 in strict mode alone
 
-module _ (ks : List ℕ) where
+module _ (ks : List Refusal) where
   pub given_only : one_of MissingEnd ks ≡ true → (q : Interval GAsked) → Only ks (given q)
   given_only m q = go q.from q.to
     where
       go : (a b : GAsked) → Only ks (given_ends a b)
-      go (at a) (at b) = record { only = tt }
-      go (at a) missing = record { only = m }
-      go missing b = record { only = m }
+      go (Some a) (Some b) = record { only = tt }
+      go (Some a) None = record { only = m }
+      go None b = record { only = m }
 
   module _ (strict : Bool) (w : one_of TooWide ks ≡ true) where
     ask_g_to_n_lem : (strict ≡ true → one_of Outside ks ≡ true) → one_of NoGenome ks ≡ true → one_of MissingEnd ks ≡ true → (q : Interval GAsked) (x : Source) → Only ks (ask_g_to_n strict q x)
@@ -109,50 +111,50 @@ module _ (ks : List ℕ) where
 
 -- ---- the rows: of each question the refusals that it can give
 
-abbrev pub g_to_n_refusals : List ℕ
+abbrev pub g_to_n_refusals : List Refusal
 g_to_n_refusals = Outside ∷ TooWide ∷ NoGenome ∷ MissingEnd ∷ NotTogether ∷ []
 
-abbrev pub n_to_g_refusals : List ℕ
+abbrev pub n_to_g_refusals : List Refusal
 n_to_g_refusals = Outside ∷ TooWide ∷ NoGenome ∷ NotTogether ∷ []
 
-abbrev pub n_to_c_refusals : List ℕ
+abbrev pub n_to_c_refusals : List Refusal
 n_to_c_refusals = NotCoding ∷ NOutside ∷ TooWide ∷ NotTogether ∷ []
 
-abbrev pub c_to_n_refusals : List ℕ
+abbrev pub c_to_n_refusals : List Refusal
 c_to_n_refusals = NotCoding ∷ COutside ∷ TooWide ∷ NotTogether ∷ []
 
-abbrev pub g_to_c_refusals : List ℕ
+abbrev pub g_to_c_refusals : List Refusal
 g_to_c_refusals = NotCoding ∷ Outside ∷ NOutside ∷ TooWide ∷ NoGenome ∷ MissingEnd ∷ NotTogether ∷ []
 
 -- not 14: what strict c. to n. gives lies in the transcript
-abbrev pub c_to_g_refusals : List ℕ
+abbrev pub c_to_g_refusals : List Refusal
 c_to_g_refusals = NotCoding ∷ COutside ∷ TooWide ∷ NoGenome ∷ NotTogether ∷ []
 
-abbrev pub coding_refusals : List ℕ
+abbrev pub coding_refusals : List Refusal
 coding_refusals = NotTogether ∷ []
 
-abbrev pub in_bounds_refusals : List ℕ
+abbrev pub in_bounds_refusals : List Refusal
 in_bounds_refusals = NoGenome ∷ MissingEnd ∷ NotTogether ∷ []
 
 -- what is left of a row in lenient mode: 14, 15 and 16 belong to strict mode
-abbrev pub lenient : List ℕ → List ℕ
+abbrev pub lenient : List Refusal → List Refusal
 lenient [] = []
 lenient (k ∷ ks) = cond (one_of k (Outside ∷ NOutside ∷ COutside ∷ [])) (lenient ks) (k ∷ lenient ks)
 
 -- a row in strict mode, or in lenient mode
-abbrev pub in_mode : Bool → List ℕ → List ℕ
+abbrev pub in_mode : Bool → List Refusal → List Refusal
 in_mode strict ks = cond strict ks (lenient ks)
 
 -- in either mode the row has them
-lenient_in : (k : ℕ) (ks : List ℕ) → one_of k (lenient ks) ≡ true → one_of k ks ≡ true
+lenient_in : (k : Refusal) (ks : List Refusal) → one_of k (lenient ks) ≡ true → one_of k ks ≡ true
 lenient_in k [] h = h
-lenient_in k (x ∷ xs) h = by_test (eqb k x) (λ e. rw e) (λ e. rw e (lenient_in k xs (left e (one_of x (Outside ∷ NOutside ∷ COutside ∷ [])) h)))
+lenient_in k (x ∷ xs) h = by_test (eqb (number k) (number x)) (λ e. rw e) (λ e. rw e (lenient_in k xs (left e (one_of x (Outside ∷ NOutside ∷ COutside ∷ [])) h)))
   where
-    left : eqb k x ≡ false → (dropped : Bool) → one_of k (cond dropped (lenient xs) (x ∷ lenient xs)) ≡ true → one_of k (lenient xs) ≡ true
+    left : eqb (number k) (number x) ≡ false → (dropped : Bool) → one_of k (cond dropped (lenient xs) (x ∷ lenient xs)) ≡ true → one_of k (lenient xs) ≡ true
     left e true h = h
     left e false h = rw e at h
 
-pub in_row : {A : Type 0} (strict : Bool) (ks : List ℕ) (o : Outcome A) → Only (in_mode strict ks) o → Only ks o
+pub in_row : {A : Type 0} (strict : Bool) (ks : List Refusal) (o : Outcome A) → Only (in_mode strict ks) o → Only ks o
 in_row true ks o h = h
 in_row false ks (Ok a) h = record { only = tt }
 in_row false ks (Err k) h = record { only = lenient_in k ks h.only }
