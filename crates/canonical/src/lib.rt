@@ -3,7 +3,7 @@
 
 ghost use Rattle.std.specs.Prelude.{◌≡◌};
 ghost use Rattle.taking.specs.Questions.{from_g, from_c, to_g, to_c, is_plain};
-ghost use Rattle.canonical.specs.Canonical.{kind_number, is_zero, ◌only◌, end_holdable, holdable, refusals_of, is_number_of, tag_of_kind, exon_of_kind, end_sayable, is_nowhere, sayable, canonical};
+ghost use Rattle.canonical.specs.Canonical.{kind_number, ◌only◌, end_holdable, holdable, refusals_of, is_number_of, tag_of_kind, exon_of_kind, end_sayable, is_nowhere, sayable, canonical};
 
 use entries::Entry;
 use layout::lay::{Answer, Position};
@@ -54,12 +54,6 @@ fn is_plain(kind: Kind) -> bool
     matches!(kind, Kind::NToC | Kind::CToN)
 }
 
-fn is_zero(z: i32) -> bool
-    ensures { result ≡ is_zero z }
-{
-    z == 0
-}
-
 // Whether a holds only where b does.
 fn only(a: bool, b: bool) -> bool
     ensures { result ≡ a only b }
@@ -80,8 +74,8 @@ fn is_end_holdable(kind: Kind, marks: u32, base: i32, offset: i32) -> bool
     (marks <= BOTH_MARKS)
         & only(question::is_star(marks), from_c(kind))
         & only(missing, in_g)
-        & only(in_g, is_zero(offset))
-        & only(missing, is_zero(base))
+        & only(in_g, offset == 0)
+        & only(missing, base == 0)
 }
 
 // Whether an entry can hold a question.
@@ -164,7 +158,7 @@ fn is_end_sayable(kind: Kind, p: Position) -> bool
 {
     (p.star <= 1)
         & only(p.star == 1, to_c(kind))
-        & only(to_g(kind), is_zero(p.offset))
+        & only(to_g(kind), p.offset == 0)
         & is_exon_of_kind(kind, p.exon)
 }
 
@@ -173,7 +167,7 @@ fn is_end_sayable(kind: Kind, p: Position) -> bool
 fn is_nowhere(p: Position) -> bool
     ensures { result ≡ is_nowhere p }
 {
-    is_zero(p.base) & is_zero(p.offset) & (p.star == 0) & (p.exon == 0)
+    (p.base == 0) & (p.offset == 0) & (p.star == 0) & (p.exon == 0)
 }
 
 // Whether an answer or a refusal can stand beside a question of a kind.

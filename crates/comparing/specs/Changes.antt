@@ -1,4 +1,5 @@
 -- What a row that builds or damages the lent transcript leaves in lent memory, and the words that it would record. Assumes nothing.
+use Rattle.transcript.specs.declared.Head.{Head}
 use Rattle.std.specs.Prelude.{ℕ, ◌%◌, List, ltb, leb, eqb, ℤ, pos, get_or, set, if◌then◌else◌}
 use Rattle.refusals.specs.Numbers.{most_segments, most_starts}
 use Rattle.refusals.specs.Outcome.{Outcome}

@@ -1,4 +1,4 @@
-// Answers as the host has them: a `#[repr(C)]` struct of numbers for each kind, all 0 but its number where it is a refusal.
+// Answers as the host has them: a `#[repr(C)]` struct of numbers for each kind, all 0 but its number where it is a refusal. Marks, stars and refusals are numbers here, since the C interface has them so.
 ghost use Rattle.std.specs.Prelude.{◌≡◌, ℕ};
 ghost use Rattle.refusals.specs.Numbers.{number};
 ghost use Rattle.refusals.specs.Outcome.{through};

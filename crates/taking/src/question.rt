@@ -49,7 +49,7 @@ impl TryFrom<u32> for Kind {
     }
 }
 
-// `kind` is a number since the C interface has it so. `strict` is 0 or 1. Of an end's marks bit 0 says star and bit 1 says missing.
+// `kind` is the number of a kind and `strict` is 0 or 1: the C interface has them so. Of an end's marks bit 0 says star and bit 1 says missing.
 #[repr(C)]
 #[derive(Clone, Copy)]
 pub struct Question {
