@@ -3,6 +3,7 @@ use Rattle.std.specs.Prelude.{ℕ, zero, suc, ◌+◌, ◌-◌, Bool, true, List
 use Rattle.std.proofs.Math.Option.{Option, none, some}
 use Rattle.std.specs.Int.Signed.{lt_z, le_z}
 use Rattle.refusals.specs.declared.Refusal.TheVariants.{NoGenome, Falling}
+use Rattle.refusals.specs.Numbers.{number}
 use Rattle.refusals.specs.Outcome.{Outcome, Ok, Err}
 use Rattle.cigar.specs.Elements.{genome}
 use Rattle.segments.specs.Tables.{all_below, entries_of}
@@ -100,7 +101,7 @@ listed x slots = checked x (ask_steps (positions_of slots))
 -- the steps, as the boundary lays them out
 abbrev pub steps_laid : Outcome ℕ → Steps
 steps_laid (Ok n) = record { number = 0; steps = n }
-steps_laid (Err k) = record { number = k; steps = 0 }
+steps_laid (Err k) = record { number = number k; steps = 0 }
 
 -- the slots afterwards: each is answered, or, where the list is refused, all are as they were
 abbrev pub slots_filled : {A : Type 0} → Outcome A → Lent → List Slot → List Slot

@@ -9,9 +9,7 @@ use crate::Slot;
 fn goes_on(rose: bool, s: Slot, t: Slot) -> bool
     ensures { result ≡ (rose && le_z s.position t.position) }
 {
-    let a = s.position;
-    let b = t.position;
-    rose & (a <= b)
+    rose & (s.position <= t.position)
 }
 
 // Whether the positions fall nowhere.
@@ -19,12 +17,8 @@ pub fn never_falls(slots: &[Slot]) -> bool
     ensures { result ≡ never_falls (positions_of slots.now) }
 {
     let mut rose = true;
-    let mut i = 1;
-    while i < slots.len() {
-        let s = slots[i - 1];
-        let t = slots[i];
-        rose = goes_on(rose, s, t);
-        i += 1;
+    for i in 1..slots.len() {
+        rose = goes_on(rose, slots[i - 1], slots[i]);
     }
     rose
 }

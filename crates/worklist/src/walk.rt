@@ -16,10 +16,9 @@ fn step(at: Alignment, genome: &[u32; MOST_STARTS], index: usize, s: Slot) -> us
     requires { (at.count ≤ most_segments) × Ready (track_by at genome.now) index s.position }
     ensures { result ≡ next_index (track_by at genome.now) index s.position }
 {
-    let count = at.count;
     let p = spots::place_of_g(at.first, s.position);
-    if spots::is_inside(true, spots::last(genome, count), p) {
-        return finding::find_from(genome, count, index, p.0);
+    if spots::is_inside(true, spots::last(genome, at.count), p) {
+        return finding::find_from(genome, at.count, index, p.0);
     }
     index
 }
@@ -39,7 +38,7 @@ fn answer_slot<'a>(
 {
     let position = s.position;
     let n = lone::one_to_n_at(at, genome, transcript, letters, exons, index, position);
-    let answer = lay::lay_n(n);
+    let answer = lay::lay(n);
     Slot { position, answer }
 }
 
@@ -67,13 +66,9 @@ pub fn fill<'a>(
     ensures { (result ≡ steps_laid (Ok (steps_of (track_by at genome.now) (positions_of slots.old)))) × (slots.new ≡ map (answered_by (aligned_by at (tables genome.now transcript.now letters.now) exons.now)) slots.old) }
 {
     let mut index = 0;
-    let mut i = 0;
-    while i < slots.len() {
-        let s = slots[i];
-        index = step(at, genome, index, s);
-        let t = answer_slot(at, genome, transcript, letters, exons, index, s);
-        slots[i] = t;
-        i += 1;
+    for slot in slots.iter_mut() {
+        index = step(at, genome, index, *slot);
+        *slot = answer_slot(at, genome, transcript, letters, exons, index, *slot);
     }
     told(index)
 }

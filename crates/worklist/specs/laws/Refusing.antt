@@ -1,5 +1,6 @@
 -- Which refusals a worklist gives: 23, 18 and 33, and each of them occurs, computed. Assumes nothing.
-use Rattle.std.specs.Prelude.{ℕ, List, [], ◌∷◌, map, ◌≡◌, refl, ℤ, pos}
+use Rattle.std.specs.Prelude.{List, [], ◌∷◌, map, ◌≡◌, refl, ℤ, pos}
+use Rattle.refusals.specs.declared.Refusal.{Refusal}
 use Rattle.refusals.specs.declared.Refusal.TheVariants.{NoGenome, NotTogether, Falling}
 use Rattle.refusals.specs.Outcome.{Err}
 use Rattle.refusals.specs.Refusing.{Only}
@@ -15,7 +16,7 @@ use Rattle.worklist.specs.Worklist.{positions_of, never_falls, ask_steps, listed
 use Rattle.worklist.specs.declared.Slot.{Slot}
 
 -- txc_worklist
-abbrev pub worklist_refusals : List ℕ
+abbrev pub worklist_refusals : List Refusal
 worklist_refusals = NotTogether ∷ NoGenome ∷ Falling ∷ []
 
 ask_only : (gs : List ℤ) (x : Source) → Only worklist_refusals (ask_steps gs x)

@@ -1,5 +1,6 @@
 -- A worked list, computed: over transcript A of document 01 (10M 5N 8M at 10..33) the base before the first, one base twice, the middle of the intron, the last base, and the one behind it. Assumes nothing.
 use Rattle.std.specs.Prelude.{ℕ, List, [], ◌∷◌, map, ◌≡◌, refl, ℤ, pos}
+use Rattle.refusals.specs.Numbers.{number}
 use Rattle.refusals.specs.declared.Refusal.TheVariants.{Outside}
 use Rattle.refusals.specs.Outcome.{Ok}
 use Rattle.whole.specs.Fits.{fits, fit_of}
@@ -49,12 +50,12 @@ worked_steps = refl
 
 pub worked_slots :
     slots_after lent_a asked
-    ≡ without Outside (pos 10)
+    ≡ without (number Outside) (pos 10)
     ∷ named (pos 11) (pos 1) (pos 0) 1
     ∷ named (pos 11) (pos 1) (pos 0) 1
     ∷ named (pos 23) (pos 10) (pos 3) 1
     ∷ named (pos 33) (pos 18) (pos 0) 2
-    ∷ without Outside (pos 34)
+    ∷ without (number Outside) (pos 34)
     ∷ []
 unfolding computing
 worked_slots = refl
