@@ -48,8 +48,7 @@ fn lanes_on(
     ensures apart_after { lanes_within 0 apart.new ≡ (lanes_within 0 apart.old && all_below (from first (common_same_at (tables genome.now transcript.now letters.now))) (first + 8)) }
     ensures by_index { (k : ℕ) → lanes_within k bits.new ≡ (lanes_within k bits.old && all_below (from first (common_within_at k (tables genome.now transcript.now letters.now))) (first + 8)) }
 {
-    let mut k = 0;
-    while k < LANES {
+    for k in 0..LANES {
         let i = first + k;
         let before = Lane {
             apart: apart[k],
@@ -65,7 +64,6 @@ fn lanes_on(
         );
         apart[k] = after.apart;
         bits[k] = after.bits;
-        k += 1;
     }
 }
 
@@ -74,10 +72,8 @@ fn all_bits(lanes: &[u32; LANES]) -> u32
     ensures { (k : ℕ) → within k result ≡ lanes_within k lanes.now }
 {
     let mut bits = 0;
-    let mut lane = 0;
-    while lane < LANES {
+    for lane in 0..LANES {
         bits = stepping::with_bits(bits, lanes[lane]);
-        lane += 1;
     }
     bits
 }

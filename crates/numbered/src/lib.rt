@@ -55,10 +55,8 @@ fn steps_in(
     ensures { (result == 0) ≡ all_below (from first (stepped_at letters.now exons.now low high)) to }
 {
     let mut wrong = 0;
-    let mut i = first;
-    while i < to {
+    for i in first..to {
         wrong = step_on(wrong, letters[i], exons[i + low], exons[i + high]);
-        i += 1;
     }
     wrong
 }
@@ -86,10 +84,8 @@ fn stepped_in(
     ensures { result ≡ all_below (from first (stepped_at letters.now exons.now low high)) to }
 {
     let mut ok = true;
-    let mut i = first;
-    while i < to {
+    for i in first..to {
         ok = ok & is_stepped(letters[i], exons[i + low], exons[i + high]);
-        i += 1;
     }
     ok
 }

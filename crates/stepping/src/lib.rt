@@ -62,8 +62,7 @@ fn steps_in(
         same: true,
         bits: 0,
     };
-    let mut i = first;
-    while i < to {
+    for i in first..to {
         seen = one_on(
             seen,
             letters[i],
@@ -72,7 +71,6 @@ fn steps_in(
             transcript[i],
             transcript[i + 1],
         );
-        i += 1;
     }
     seen
 }
@@ -146,8 +144,7 @@ pub fn common_steps_in(
         same: true,
         bits: 0,
     };
-    let mut i = first;
-    while i < to {
+    for i in first..to {
         seen = common_on(
             seen,
             letters[i],
@@ -156,7 +153,6 @@ pub fn common_steps_in(
             transcript[i],
             transcript[i + 1],
         );
-        i += 1;
     }
     seen
 }

@@ -19,12 +19,10 @@ pub fn never_falls(slots: &[Slot]) -> bool
     ensures { result ≡ never_falls (positions_of slots.now) }
 {
     let mut rose = true;
-    let mut i = 1;
-    while i < slots.len() {
+    for i in 1..slots.len() {
         let s = slots[i - 1];
         let t = slots[i];
         rose = goes_on(rose, s, t);
-        i += 1;
     }
     rose
 }

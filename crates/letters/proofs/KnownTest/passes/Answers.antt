@@ -1,7 +1,7 @@
 -- The code's six tests are the definition's. Assumes nothing.
 use Rattle.std.proofs.Common.{refl}
 use Rattle.cigar.specs.Elements.{is_letter}
-use Rattle.letters.proofs.is_known.Goals as goal
+use Rattle.letters.proofs.KnownTest.passes.Goals as goal
 
 pub returns : goal.returns
 unfolding is_letter

@@ -1,7 +1,7 @@
 -- The four tests are the definition's, in its order. Assumes nothing.
 use Rattle.std.proofs.Common.{rules}
 use Rattle.letters.specs.Letters.{is_common}
-use Rattle.letters.proofs.is_common.Goals as goal
+use Rattle.letters.proofs.CommonTest.passes.Goals as goal
 
 pub returns : goal.returns
 unfolding is_common
