@@ -5,4 +5,4 @@ use Rattle.stepping.specs.Steps.{within}
 use Rattle.lanes.proofs.all_bits.Given as goal
 
 abbrev pub invariant-loop-lane : goal.invariant-loop-lane
-invariant-loop-lane l = (k : ℕ) → within k l.bits ≡ all_below (λ j. within k (get_or l.lanes j 0)) l.lane
+invariant-loop-lane l = (k : ℕ) → within k l.bits ≡ all_below (λ j. within k (get_or l.lanes j 0)) l.lane-index

@@ -6,14 +6,14 @@ use Rattle.stepping.specs.laws.OneStep.{within_none}
 use Rattle.stepping.proofs.steps_in.Goals as goal
 
 pub loop-i-init : goal.loop-i-init
-loop-i-init c = (from_none _ _, λ k. within_none k ∙ from_none _ _)
+loop-i-init g c = (from_none _ _, λ k. within_none k ∙ from_none _ _)
 
 pub loop-i-preserved : goal.loop-i-preserved
-loop-i-preserved c =
+loop-i-preserved g c =
     let kept = c.loop-i.invariant in
     (c.one_on-seen.ensures.same_value ∙ from_more _ _ _ c.loop-i.auto.i kept.0 refl, λ k. c.one_on-seen.ensures.by_index k ∙ from_more _ _ _ c.loop-i.auto.i (kept.1 k) refl)
 
 pub returns : goal.returns
-returns c =
+returns g c =
     let kept = c.loop-i.invariant in
     record { same_value = all_done _ _ _ kept.0 (omega arith) (omega arith); by_index = λ k. all_done _ _ _ (kept.1 k) (omega arith) (omega arith) }

@@ -1,5 +1,5 @@
 -- One segment's steps, computed with differences that wrap. Assumes nothing.
-use Rattle.std.specs.Prelude.{◌≡◌, ℕ, ◌+◌, ◌%◌, ◌^◌, ◌<◌, ◌≤◌, true, ◌&&◌, bit_or, nat_le, nat_lt}
+use Rattle.std.specs.Prelude.{◌≡◌, ℕ, ◌+◌, ◌-◌, ◌%◌, ◌^◌, ◌<◌, ◌≤◌, true, ◌&&◌, bit_or, nat_le, nat_lt}
 use Rattle.std.proofs.Common.{lt_of_le_of_lt, arith, pow_pos, leb-true, leb-false, ltb-true, lt-ltb}
 use Rattle.std.specs.Int.Bits.{or_add_and}
 use Rattle.std.proofs.lemmas.Nat.{and_le_l, and_le_r, or_lt}
@@ -8,9 +8,9 @@ use Rattle.numbered.specs.laws.All.{equal_where}
 use Rattle.stepping.specs.Steps.{wrapped, within}
 
 -- a difference that wraps, by name
-pub wrapped_is : (a b d : ℕ) → a < 2 ^ 32 → b < 2 ^ 32 → d < 2 ^ 32 → (d + b) % 2 ^ 32 ≡ a → d ≡ wrapped a b
+pub wrapped_is : (a b : ℕ) → a < 2 ^ 32 → b < 2 ^ 32 → (a + (2 ^ 32 - b)) % 2 ^ 32 ≡ wrapped a b
 unfolding wrapped
-wrapped_is a b d a< b< d< e =
+wrapped_is a b a< b< =
     by_test (nat_le b a)
     (λ t. let l = leb-true b a t in rw t (omega arith))
     (λ t. let l = leb-false b a t in rw t (omega arith))
