@@ -5,10 +5,10 @@ use Rattle.finding.proofs.Halving.{bracket_all, bracket_done, farthest_in, quart
 use Rattle.finding.proofs.quartered.Goals as goal
 
 pub loop-most-init : goal.loop-most-init
-loop-most-init c = (omega arith, omega arith, omega arith, λ up. bracket_all (omega arith))
+loop-most-init g c = (omega arith, omega arith, omega arith, λ up. bracket_all (omega arith))
 
 pub loop-most-preserved : goal.loop-most-preserved
-loop-most-preserved c =
+loop-most-preserved g c =
     let inv = c.loop-most.invariant in
     let a = c.args in (
       omega arith,
@@ -18,4 +18,4 @@ loop-most-preserved c =
     )
 
 pub returns : goal.returns
-returns c = record { within = omega arith; found = λ up. bracket_done (c.loop-most.invariant.3 up) (omega arith) (omega arith) }
+returns g c = record { within = omega arith; found = λ up. bracket_done (c.loop-most.invariant.3 up) (omega arith) (omega arith) }
