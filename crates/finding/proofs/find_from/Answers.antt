@@ -1,8 +1,7 @@
 -- `finding::find_from` meets its contract. The loop's invariant: the segment where it stands is not past the one sought. Assumes nothing.
-use Rattle.std.proofs.Common.{◌+◌, ◌-◌, ◌≤◌, sym, ◌∙◌, arith}
+use Rattle.std.proofs.Common.{sym, ◌∙◌, arith}
 use Rattle.whole.specs.laws.Whole.{read}
-use Rattle.finding.specs.Finding.{index_of}
-use Rattle.finding.specs.laws.Index.{index_says, walk_arrives, walk_goes_on, walk_ends}
+use Rattle.finding.specs.laws.Index.{index_says, walk_arrives, walk_goes_on}
 use Rattle.finding.proofs.find_from.Goals as goal
 
 pub loop-i-init : goal.loop-i-init
