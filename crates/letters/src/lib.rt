@@ -105,7 +105,7 @@ fn unless_byte(flag: bool, x: u8) -> u8
 fn common_letter_on(bits: u8, letter: u8) -> u8
     ensures { within 1 result ≡ (within 1 bits && is_common letter) }
 {
-    let above = std::num::wrapping_sub_u8(letter, b'M');
+    let above = letter.wrapping_sub(b'M');
     bits | unless_byte((letter == b'=') | (letter == b'X'), above)
 }
 

@@ -1,7 +1,7 @@
 -- `finding::find_from` meets its contract. The loop's invariant: the segment where it stands is not past the one sought. Assumes nothing.
-use Rattle.std.proofs.Common.{sym, ◌∙◌, arith}
+use Rattle.std.proofs.Common.{◌-◌, ◌≡◌, sym, ◌∙◌, arith}
 use Rattle.whole.specs.laws.Whole.{read}
-use Rattle.finding.specs.laws.Index.{index_says, walk_arrives, walk_goes_on}
+use Rattle.finding.specs.laws.Index.{index_says, walk_arrives, walk_goes_on, walk_ends}
 use Rattle.finding.proofs.find_from.Goals as goal
 
 pub loop-i-init : goal.loop-i-init
@@ -20,4 +20,5 @@ returns c =
     let a = c.args in
     let below = (index_says a.starts.now a.count a.p c.requires.le_count.0).below in
     let p = read c.ranges.p in
-    omega (arith, below, simp p at c.loop-i.invariant)
+    let last : a.count - 1 ≡ c.loop-i.i = omega (arith, below) in
+    last ∙ walk_ends _ _ _ c.requires.le_count.0 _ (simp p at c.loop-i.invariant) (omega arith)

@@ -8,12 +8,16 @@ use Rattle.numbered.specs.laws.All.{equal_where}
 use Rattle.stepping.specs.Steps.{wrapped, within}
 
 -- a difference that wraps, by name
-pub wrapped_is : (a b : ℕ) → a < 2 ^ 32 → b < 2 ^ 32 → (a + (2 ^ 32 - b)) % 2 ^ 32 ≡ wrapped a b
+pub wrapped_is : (a b d : ℕ) → a < 2 ^ 32 → b < 2 ^ 32 → d < 2 ^ 32 → (d + b) % 2 ^ 32 ≡ a → d ≡ wrapped a b
 unfolding wrapped
-wrapped_is a b a< b< =
+wrapped_is a b d a< b< d< e =
     by_test (nat_le b a)
     (λ t. let l = leb-true b a t in rw t (omega arith))
     (λ t. let l = leb-false b a t in rw t (omega arith))
+
+-- and as the machine takes it
+pub wraps : (a b : ℕ) → a < 2 ^ 32 → b < 2 ^ 32 → (a + (2 ^ 32 - b)) % 2 ^ 32 ≡ wrapped a b
+wraps a b a< b< = wrapped_is a b ((a + (2 ^ 32 - b)) % 2 ^ 32) a< b< (omega arith) (omega arith)
 
 -- the bits of two numbers together
 pub within_or : (k a b : ℕ) → within k (bit_or a b) ≡ (within k a && within k b)
