@@ -4,9 +4,6 @@ use Rattle.whole.specs.laws.Whole.{read}
 use Rattle.finding.specs.laws.Index.{index_says, walk_arrives, walk_goes_on, walk_ends}
 use Rattle.finding.proofs.find_from.Goals as goal
 
-pub loop-i-init : goal.loop-i-init
-loop-i-init c = rw (read c.ranges.p) c.requires.from_bound
-
 pub returns-then-is_above : goal.returns-then-is_above
 returns-then-is_above c =
     let p = read c.ranges.p in

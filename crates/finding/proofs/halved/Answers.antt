@@ -1,11 +1,8 @@
 -- The loop keeps `low` at `high` or before it, both numbers of segments; where the table rises it keeps the segment sought between them (`Bracket`), and one is left in the end. Assumes nothing.
 use native.Mathlib.Omega.{arith}
 use borrow.Author.Tests.{lt-ltb, le-ltb}
-use Rattle.finding.proofs.Halving.{bracket_all, bracket_down, bracket_up, bracket_done}
+use Rattle.finding.proofs.Halving.{bracket_down, bracket_up, bracket_done}
 use Rattle.finding.proofs.halved.Goals as goal
-
-pub loop-low-init : goal.loop-low-init
-loop-low-init c = (omega arith, omega arith, λ up. bracket_all (omega arith))
 
 pub loop-low-preserved-then-p-starts : goal.loop-low-preserved-then-p-starts
 loop-low-preserved-then-p-starts c =

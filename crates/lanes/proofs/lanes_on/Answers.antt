@@ -1,6 +1,6 @@
 -- After each turn the lanes tell of one segment more (`taken_more`), of the steps and of the bits alike. Assumes nothing.
-use Rattle.std.proofs.Common.{arith, rules}
-use Rattle.lanes.proofs.Lanes.{taken_none, taken_more, taken_all}
+use Rattle.std.proofs.Common.{rules}
+use Rattle.lanes.proofs.Lanes.{taken_none, taken_more}
 use Rattle.lanes.proofs.lanes_on.Goals as goal
 
 pub loop-k-init : goal.loop-k-init
@@ -10,8 +10,3 @@ pub loop-k-preserved : goal.loop-k-preserved
 loop-k-preserved c =
     let kept = c.loop-k.invariant in
     (taken_more _ _ _ _ _ _ _ (search rules) (search rules) c.lane_on-after.ensures.apart_value kept.0, λ n. taken_more _ _ _ _ _ _ _ (search rules) (search rules) (c.lane_on-after.ensures.by_index n) (kept.1 n))
-
-pub returns : goal.returns
-returns c =
-    let kept = c.loop-k.invariant in
-    record { apart_after = taken_all _ _ _ _ _ _ (omega arith) (omega arith) kept.0; by_index = λ n. taken_all _ _ _ _ _ _ (omega arith) (omega arith) (kept.1 n) }

@@ -1,6 +1,4 @@
 -- After each turn the flag is what `all_below` says of the steps from the first on. Assumes nothing.
-use Rattle.std.proofs.Common.{arith}
-use Rattle.segments.specs.laws.Gathering.{all_done}
 use Rattle.numbered.specs.laws.All.{from_none, from_more}
 use Rattle.numbered.proofs.stepped_in.Goals as goal
 
@@ -10,6 +8,3 @@ loop-i-init c = from_none _ _
 pub loop-i-preserved : goal.loop-i-preserved
 loop-i-preserved c =
     from_more _ _ _ c.loop-i.auto.i c.loop-i.invariant c.is_stepped-ok.ensures
-
-pub returns : goal.returns
-returns c = all_done _ _ _ c.loop-i.invariant (omega arith) (omega arith)

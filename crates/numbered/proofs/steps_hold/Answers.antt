@@ -1,10 +1,7 @@
 -- Two stretches that overlap make one (`stretched`). Assumes nothing.
 use Rattle.std.proofs.Common.{◌&&◌, ◌∙◌, ap₂, arith}
-use Rattle.numbered.specs.laws.All.{from_start, stretched}
+use Rattle.numbered.specs.laws.All.{stretched}
 use Rattle.numbered.proofs.steps_hold.Goals as goal
-
-pub returns-then-to-lt4 : goal.returns-then-to-lt4
-returns-then-to-lt4 c = c.steps_in.ensures ∙ from_start _ _
 
 pub returns-then-to-lt16 : goal.returns-then-to-lt16
 returns-then-to-lt16 c = ap₂ ◌&&◌ c.stepped_in-front.ensures c.stepped_in-back.ensures ∙ stretched _ _ _ _ (omega arith) (omega arith)

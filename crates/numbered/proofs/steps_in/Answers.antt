@@ -1,6 +1,5 @@
 -- After each turn the bits are 0 exactly where `all_below` says that the steps passed are no more than they may be. Assumes nothing.
-use Rattle.std.proofs.Common.{refl, ◌∙◌, arith}
-use Rattle.segments.specs.laws.Gathering.{all_done}
+use Rattle.std.proofs.Common.{refl, ◌∙◌}
 use Rattle.numbered.specs.laws.All.{from_none, from_more}
 use Rattle.numbered.proofs.steps_in.Goals as goal
 
@@ -10,6 +9,3 @@ loop-i-init c = from_none _ _
 pub loop-i-preserved : goal.loop-i-preserved
 loop-i-preserved c =
     c.step_on-wrong.ensures ∙ from_more _ _ _ c.loop-i.auto.i c.loop-i.invariant refl
-
-pub returns : goal.returns
-returns c = all_done _ _ _ c.loop-i.invariant (omega arith) (omega arith)

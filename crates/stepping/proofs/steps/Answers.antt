@@ -1,10 +1,7 @@
 -- Two stretches that overlap make one (`stretched`), of the flag and of the bits alike. Assumes nothing.
 use Rattle.std.proofs.Common.{◌&&◌, ◌∙◌, ap₂, arith}
-use Rattle.numbered.specs.laws.All.{from_start, stretched}
+use Rattle.numbered.specs.laws.All.{stretched}
 use Rattle.stepping.proofs.steps.Goals as goal
-
-pub returns-then-count-lt4 : goal.returns-then-count-lt4
-returns-then-count-lt4 c = let all = c.steps_in.ensures in record { same_value = all.same_value ∙ from_start _ _; by_index = λ k. all.by_index k ∙ from_start _ _ }
 
 pub returns : goal.returns
 returns c =

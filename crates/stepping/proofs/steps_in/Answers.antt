@@ -1,6 +1,5 @@
 -- After each turn the flag and the bits are what `all_below` says of the segments passed. Assumes nothing.
-use Rattle.std.proofs.Common.{refl, ◌∙◌, arith}
-use Rattle.segments.specs.laws.Gathering.{all_done}
+use Rattle.std.proofs.Common.{refl, ◌∙◌}
 use Rattle.numbered.specs.laws.All.{from_none, from_more}
 use Rattle.stepping.specs.laws.OneStep.{within_none}
 use Rattle.stepping.proofs.steps_in.Goals as goal
@@ -12,8 +11,3 @@ pub loop-i-preserved : goal.loop-i-preserved
 loop-i-preserved g c =
     let kept = c.loop-i.invariant in
     (c.one_on-seen.ensures.same_value ∙ from_more _ _ _ c.loop-i.auto.i kept.0 refl, λ k. c.one_on-seen.ensures.by_index k ∙ from_more _ _ _ c.loop-i.auto.i (kept.1 k) refl)
-
-pub returns : goal.returns
-returns g c =
-    let kept = c.loop-i.invariant in
-    record { same_value = all_done _ _ _ kept.0 (omega arith) (omega arith); by_index = λ k. all_done _ _ _ (kept.1 k) (omega arith) (omega arith) }
