@@ -119,6 +119,7 @@ fn fill_elements(text: &[u8], counts: &mut [i32], letters: &mut [u8])
 {
     let mut at = 0;
     let mut n = 0;
+    // `while let` was tried: after it no proof knows which of the two other arms was met.
     loop {
         match step_at(text, at) {
             Ok(Some(step)) => {

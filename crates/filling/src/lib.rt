@@ -61,6 +61,7 @@ fn fill_text(
 {
     let mut at = 0;
     let mut sums = from;
+    // `while let` was tried: after it no proof knows which of the two other arms was met.
     loop {
         match cigar::step_at(text, at) {
             Ok(Some(step)) => {

@@ -12,7 +12,7 @@ use refusals::Refusal;
 
 // `exon` is 0 where the mapping carries no exon's number.
 #[repr(C)]
-#[derive(Clone, Copy)]
+#[derive(Clone, Copy, PartialEq, Eq)]
 pub struct Position {
     pub base: i32,
     pub offset: i32,
@@ -22,7 +22,7 @@ pub struct Position {
 
 // `mark` is 1 for a certain answer, 2 for an uncertain one, 3 where it bears none.
 #[repr(C)]
-#[derive(Clone, Copy)]
+#[derive(Clone, Copy, PartialEq, Eq)]
 pub struct Answer {
     pub number: u32,
     pub mark: u32,

@@ -26,14 +26,9 @@ pub fn replay<'a>(
     ensures value { result ≡ written_answer (replaying (lent head genome.now transcript.now letters.now exons.now) log.now (length buffer.old)) }
     ensures buffer_after { buffer.new ≡ buffer_after buffer.old (replaying (lent head genome.now transcript.now letters.now exons.now) log.now (length buffer.old)) }
 {
-    if knowing::is_held(head, genome, transcript, letters, exons) {
-        match journal::read_log(log) {
-            Ok(count) => {
-                differing::list(head, genome, transcript, letters, exons, log, count, buffer)
-            }
-            Err(k) => Err(k),
-        }
-    } else {
-        Err(Refusal::NotTogether)
+    if !knowing::is_held(head, genome, transcript, letters, exons) {
+        return Err(Refusal::NotTogether);
     }
+    let count = journal::read_log(log)?;
+    differing::list(head, genome, transcript, letters, exons, log, count, buffer)
 }
