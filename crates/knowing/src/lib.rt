@@ -58,6 +58,7 @@ pub fn coding_of(head: Head) -> Option<Cds>
 }
 
 // What the head tells of what is lent, before the tables are looked at: how a transcript lies if they hold, its length alone, or that it does not hold together whatever they are (23).
+#[tactic(auto, unfolding(crate::specs::Knowing::told_of))]
 pub fn told_of(head: Head, transcript: &[u32; MOST_STARTS]) -> Result<Known, Refusal>
     ensures { result ≡ told_of head transcript.now }
 {

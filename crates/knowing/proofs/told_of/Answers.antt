@@ -41,24 +41,7 @@ coding_of-cds-requires c = natural_where _ _ (sym c.cds_holds.ensures ∙ c.if-c
 pub alignment-requires : goal.alignment-requires
 alignment-requires c = (right_head _ _ (bases_are (goal.at.alignment-requires c).In_ok-bases) (is_records (goal.at.alignment-requires c).Then-kind-eq-OF_RECORDS)).0
 
-pub returns-then-kind-eq-OF_RECORDS : goal.returns-then-kind-eq-OF_RECORDS
-unfolding told_of
-returns-then-kind-eq-OF_RECORDS c =
-    let at = goal.at.returns-then-kind-eq-OF_RECORDS c in
-    rw (bases_are at.In_ok-bases, sym c.cds_holds.ensures ∙ c.if-cds_holds.true, is_records at.Then-kind-eq-OF_RECORDS, c.alignment.ensures, c.coding_of-cds.ensures)
-
 pub natural-requires : goal.natural-requires
 natural-requires c =
     let at = goal.at.natural-requires c in
     simp (told w32 c.args.head.length c.struct_told-then-cds_holds-1.given.1.1.1.1.1.1.1.0.1) (right_length _ _ (bases_are at.In_ok-bases) (is_length at.Else-kind-eq-OF_RECORDS))
-
-pub returns-then-cds_holds : goal.returns-then-cds_holds
-unfolding told_of
-returns-then-cds_holds c =
-    let at = goal.at.returns-then-cds_holds c in
-    let long = simp (told w32 c.args.head.length c.struct_told-then-cds_holds-1.given.1.1.1.1.1.1.1.0.1) at c.natural.ensures in
-    rw (bases_are at.In_ok-bases, sym c.cds_holds.ensures ∙ c.if-cds_holds.true, is_length at.Else-kind-eq-OF_RECORDS, long, c.coding_of-cds.ensures)
-
-pub returns : goal.returns
-unfolding told_of
-returns c = rw (bases_are (goal.at.returns c).In_ok-bases, sym c.cds_holds.ensures ∙ c.if-cds_holds.false)
