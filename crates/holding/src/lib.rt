@@ -20,6 +20,7 @@ pub fn natural(x: i32) -> u32
 }
 
 // Whether neither CDS bound is given, or both are and 0 <= start <= end <= length.
+#[tactic(auto, unfolding(crate::specs::Holding::cds_holds))]
 pub fn cds_holds(head: Head, length: u32) -> bool
     ensures { result ≡ cds_holds head length }
 {
@@ -91,6 +92,7 @@ fn totals_hold(first: u32, genome: u32, transcript: u32) -> bool
 }
 
 // How many bases a transcript has, which is known only where the head's own tests pass: of records as many as the transcript's table says, of a length as many as that.
+#[tactic(auto, unfolding(crate::specs::Parts::bases_of))]
 pub fn bases_of(head: Head, transcript: &[u32; MOST_STARTS]) -> Option<u32>
     ensures { result ≡ bases_of head transcript.now }
 {
@@ -117,6 +119,7 @@ pub fn bases_of(head: Head, transcript: &[u32; MOST_STARTS]) -> Option<u32>
 
 // Whether the tables of a right head hold. The segments are looked at before the totals: an entry that is at hand before that is woven into it at a cost. Counts stand
 // before the tables, as the compiler then hands the host's own pointers on without moving them.
+#[tactic(auto, unfolding(crate::specs::Parts::tables_hold))]
 pub fn tables_hold(
     count: usize,
     records: u16,
