@@ -149,10 +149,12 @@ fn number_of(forward: bool, before: usize, after: usize) -> u16
 
 // One number is put in at the places from `from` to `to`.
 fn put_number(number: u16, from: usize, to: usize, exons: &mut [u16])
-    requires { (from ≤ to) × (to ≤ length exons.old) × (length exons.old ≤ most_segments) }
+    requires { (to ≤ length exons.old) × (length exons.old ≤ most_segments) }
     ensures { exons.new ≡ sets exons.old from (replicate (to - from) number) }
 {
-    exons[from..to].fill(number);
+    for i in from..to {
+        exons[i] = number;
+    }
 }
 
 // The numbers of a gap and of the record after it are put in, whose elements go from `from` to `to`. The record before the gap has `before` before it and `after` after it.

@@ -56,7 +56,7 @@ number_of-own-requires c = (omega arith, omega (arith, (ready (goal.at.number_of
 pub put_number-requires : goal.put_number-requires
 put_number-requires c =
     let small = (small_first (goal.at.put_number-requires c).In-Ok).few in
-    (omega arith, omega (arith, c.requires.exons_len.0, small), omega (arith, c.requires.exons_len.0))
+    (omega (arith, c.requires.exons_len.0, small), omega (arith, c.requires.exons_len.0))
 
 pub next_at-at-requires : goal.next_at-at-requires
 next_at-at-requires c = (ready (goal.at.next_at-at-requires c).In-Ok).stands.numbers

@@ -9,7 +9,7 @@ use Rattle.filling.proofs.Runs.{run_after}
 use Rattle.filling.proofs.put_next.Goals as goal
 
 pub put_number-requires : goal.put_number-requires
-put_number-requires c = (omega arith, simp length-set (omega arith), simp length-set (omega arith))
+put_number-requires c = (simp length-set (omega arith), simp length-set (omega arith))
 
 pub shape_of-exons : goal.shape_of-exons
 shape_of-exons c = ap length c.put_number.ensures ∙ simp (length-sets, length-set)

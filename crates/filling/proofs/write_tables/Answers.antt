@@ -33,7 +33,7 @@ finish-requires c =
 pub put_number-requires : goal.put_number-requires
 put_number-requires c =
     let long = ap length c.fill_all.ensures.exons_after ∙ length-sets c.args.exons.now 0 (numbers_all c.args.forward (exons_of (records_from c.args.count c.args.s.now 0))) ∙ c.requires.exons_len in
-    (omega (arith, c.requires.ready.2.few), omega (arith, long), omega (arith, long))
+    (omega (arith, long), omega (arith, long))
 
 pub returns : goal.returns
 returns c =
