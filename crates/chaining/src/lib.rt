@@ -56,10 +56,8 @@ pub fn g_to_n(
 pub fn n_to_c(length: u32, cds: Option<Cds>, q: NQuestion, strict: bool) -> Plain<CPosition>
     ensures { paper_c_plain result ≡ map_n_to_c strict length (paper_coding cds) (paper_n_question q) }
 {
-    match cds {
-        Some(c) => coding::to_c(strict, length, c.start, c.end, q),
-        None => Err(Refusal::NotCoding),
-    }
+    let c = cds.ok_or(Refusal::NotCoding)?;
+    coding::to_c(strict, length, c.start, c.end, q)
 }
 
 // c. to n. of a transcript of that length: 13, 16, 17.
@@ -67,10 +65,8 @@ pub fn n_to_c(length: u32, cds: Option<Cds>, q: NQuestion, strict: bool) -> Plai
 pub fn c_to_n(length: u32, cds: Option<Cds>, q: CQuestion, strict: bool) -> Plain<NPosition>
     ensures { paper_n_plain result ≡ map_c_to_n strict length (paper_coding cds) (paper_c_question q) }
 {
-    match cds {
-        Some(c) => coding::to_n(strict, length, c.start, c.end, q),
-        None => Err(Refusal::NotCoding),
-    }
+    let c = cds.ok_or(Refusal::NotCoding)?;
+    coding::to_n(strict, length, c.start, c.end, q)
 }
 
 // The second step of g. to c.

@@ -67,10 +67,8 @@ fn coded(
     ensures { paper_c_end result ≡ and_then (paper_n_end n) (one_coded strict length (paper_coding cds)) }
 {
     let base = n?;
-    match cds {
-        Some(c) => coding::one_to_c(strict, length, c.start, c.end, base),
-        None => Err(Refusal::NotCoding),
-    }
+    let c = cds.ok_or(Refusal::NotCoding)?;
+    coding::one_to_c(strict, length, c.start, c.end, base)
 }
 
 // The c. answer of a sure base, by its spot.
