@@ -10,7 +10,6 @@ use lib.Dec.{ltb}
 use lib.ListN.{length, get_or, take}
 use borrow.Author.Tests.{le-ltb}
 use Rattle.refusals.specs.Outcome.{Outcome, Ok, Err}
-use Rattle.refusals.specs.Refusing.{one_of}
 use Rattle.refusals.specs.laws.Outcomes.{clash, same}
 use Rattle.whole.specs.laws.Whole.{by_test}
 use Rattle.holding.specs.Holding.{Lent, holds}
@@ -19,7 +18,7 @@ use Rattle.journal.specs.Logs.{read_log}
 use Rattle.entries.specs.declared.Entry.{Entry}
 use Rattle.asking.specs.Asking.{recorded}
 use Rattle.asking.proofs.laws.Making.{made_is}
-use Rattle.playback.specs.Replay.{differs, differing, replay_text, roomed}
+use Rattle.playback.specs.Replay.{is_listed, differs, differing, replay_text, roomed}
 use Rattle.playback.proofs.laws.Replay.{AllRecorded, no_entry, one_more, differs_not, differs_says, listed_where, indices_rise, nothing_written, replay_broken, replay_answered, replay_refused}
 use Rattle.hosts.specs.Playing.{zero_line, OwnLog0, Lists, ListsDiffering}
 
@@ -43,7 +42,7 @@ lists x es = record {
   rising = rw (zero-add (length es)) at (indices_rise x 0 es);
 }
   where
-    at : (k : ℕ) (d : Entry) → k < length es → one_of k (differing x es) ≡ differs x (get_or es k d)
+    at : (k : ℕ) (d : Entry) → k < length es → is_listed k (differing x es) ≡ differs x (get_or es k d)
     at k d h = rw (zero-add k) at (listed_where x 0 k es d h)
 
 pub lists_differing : ListsDiffering

@@ -1,5 +1,5 @@
 -- A log replayed on a transcript that is lent: which answers differ, and what is written of them. Assumes nothing.
-use Rattle.std.specs.Prelude.{ℕ, ◌+◌, Bool, not, ◌&&◌, List, [], ◌∷◌, ◌++◌, eqb, ltb, length, if◌then◌else◌}
+use Rattle.std.specs.Prelude.{ℕ, ◌+◌, Bool, false, not, ◌&&◌, ◌||◌, List, [], ◌∷◌, ◌++◌, eqb, ltb, length, if◌then◌else◌}
 use Rattle.refusals.specs.declared.Refusal.TheVariants.{NoRoom}
 use Rattle.refusals.specs.Outcome.{Outcome, Ok, Err, and_then, through}
 use Rattle.whole.specs.Whole.{eq_z}
@@ -33,6 +33,11 @@ indices_from x i (e ∷ es) = index_if (differs x e) i ++ indices_from x (i + 1)
 -- counted from 0
 abbrev pub differing : Lent → List Entry → List ℕ
 differing x es = indices_from x 0 es
+
+-- k is one of the indices
+abbrev pub is_listed : ℕ → List ℕ → Bool
+is_listed k [] = false
+is_listed k (i ∷ is) = eqb k i || is_listed k is
 
 -- ---- what is written
 

@@ -26,7 +26,6 @@ pub struct Measured {
 }
 
 // Whether two answers are the same, refusals and the exons' numbers too.
-#[tactic(auto, unfolding(crate::specs::Replay::same_answer, crate::specs::Replay::same_position))]
 fn is_same(a: Answer, b: Answer) -> bool
     ensures { result ≡ same_answer a b }
 {

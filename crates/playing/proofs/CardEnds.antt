@@ -1,6 +1,6 @@
 -- Where an input's card ends, by what the code says of it.
 -- Assumes nothing.
-use mathlib.Core.Path.{◌≡◌, ap}
+use mathlib.Core.Path.{◌≡◌}
 use mathlib.Core.List.{List}
 use Prim.Native.Nat.{ℕ, ◌+◌, ◌-◌, ◌≤◌}
 use native.Mathlib.Omega.{arith}
@@ -8,12 +8,11 @@ use borrow.Author.Tests.{ltb-false}
 use lib.Dec.{ltb}
 use lib.ListN.{length}
 use Rattle.refusals.specs.Numbers.{most_card}
-use Rattle.refusals.specs.declared.Refusal.{Refusal}
-use Rattle.refusals.specs.Outcome.{Outcome, Ok, Err}
+use Rattle.refusals.specs.Outcome.{Ok}
 use Rattle.refusals.specs.laws.Outcomes.{clash, same}
 use Rattle.whole.specs.laws.Whole.{by_test}
 use Rattle.fields.specs.Fields.{le32}
-use Rattle.playing.specs.Played.{size_bytes, card_end, card_end_answer}
+use Rattle.playing.specs.Played.{size_bytes, card_end}
 
 pub record Ends (s : List ℕ) (to : ℕ) : Type 0 where
   pub outcome : card_end s ≡ Ok to
@@ -33,16 +32,5 @@ inside s to e =
     let at : size_bytes + le32 s 0 ≡ to = same (simp (a, b, d) at e) in
     (omega arith, omega (arith, ltb-false (length s) size_bytes a, ltb-false (length s - size_bytes) (le32 s 0) d)))))
 
-pub ends : (s : List ℕ) (to : ℕ) → card_end_answer (card_end s) ≡ Ok to → Ends s to
-ends s to e = let o = go (card_end s) e in record { outcome = o; after = (inside s to o).0; within = (inside s to o).1 }
-  where
-    go : (o : Outcome ℕ) → card_end_answer o ≡ Ok to → o ≡ Ok to
-    go (Ok n) q = let is : n ≡ to = cc in ap Ok is
-    go (Err k) q = let z : ◌≡◌ {A = ℕ} 0 1 = cc in absurd (omega arith)
-
-pub cut : (s : List ℕ) (k : Refusal) → card_end_answer (card_end s) ≡ Err k → card_end s ≡ Err k
-cut s k e = go (card_end s) e
-  where
-    go : (o : Outcome ℕ) → card_end_answer o ≡ Err k → o ≡ Err k
-    go (Ok n) q = let z : ◌≡◌ {A = ℕ} 0 1 = cc in absurd (omega arith)
-    go (Err l) q = let is : l ≡ k = cc in ap Err is
+pub ends : (s : List ℕ) (to : ℕ) → card_end s ≡ Ok to → Ends s to
+ends s to e = record { outcome = e; after = (inside s to e).0; within = (inside s to e).1 }

@@ -39,10 +39,6 @@ card_end s =
     else if ltb (length s - size_bytes) (le32 s 0) then Err NoCard
     else Ok (size_bytes + le32 s 0)
 
-abbrev pub card_end_answer : Outcome ℕ → Outcome ℕ
-card_end_answer (Ok to) = Ok to
-card_end_answer (Err k) = Err k
-
 -- the card of an input whose card ends there
 abbrev pub card_to : List ℕ → ℕ → List ℕ
 card_to s to = take (to - size_bytes) (drop size_bytes s)

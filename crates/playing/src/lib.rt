@@ -7,19 +7,12 @@ ghost use Rattle.segments.specs.Tables.{tables};
 ghost use Rattle.building.specs.Afterwards.{tables_after, exons_after};
 ghost use Rattle.card.specs.Writing.{judge_card};
 ghost use Rattle.playback.specs.Lines.{most_replay};
-ghost use Rattle.playing.specs.Played.{played, played_text, card_end, card_end_answer, input_made, input_played};
+ghost use Rattle.playing.specs.Played.{played, played_text, card_end, input_made, input_played};
 
 use refusals::{MOST_CARD, MOST_SEGMENTS, MOST_STARTS, Refusal};
 
 // A card's size is a number of 32 bits.
 pub const SIZE: usize = 4;
-
-// Where the card of an input ends, or 3 or 21.
-#[derive(Clone, Copy)]
-pub enum CardEnd {
-    At(usize),
-    Refused(u8),
-}
 
 // What a log is replayed as on the transcript that a card makes, at the front of a buffer that has room for any: the lines, or the line of a refusal,
 // the card's own before the log's. The tables are left as building leaves them. Returns the text's length.
@@ -52,7 +45,7 @@ pub fn play(
 
 // Where the card of an input ends: 3 where its size is above the largest, 21 where it is cut off.
 fn card_end(input: &[u8]) -> Result<usize, Refusal>
-    ensures { result ≡ card_end_answer (card_end input.now) }
+    ensures { result ≡ card_end input.now }
 {
     if input.len() < SIZE {
         return Err(Refusal::NoCard);

@@ -20,7 +20,6 @@ use borrow.Author.Tests.{eqb-true, eq-eqb, ne_eqb, le-ltb}
 use Rattle.refusals.specs.declared.Refusal.{Refusal}
 use Rattle.refusals.specs.declared.Refusal.TheVariants.{NotTogether}
 use Rattle.refusals.specs.Outcome.{Outcome, Ok, Err, and_then, through}
-use Rattle.refusals.specs.Refusing.{one_of}
 use Rattle.refusals.specs.laws.Outcomes.{clash, same}
 use Rattle.whole.specs.Whole.{eq_z}
 use Rattle.whole.specs.laws.Whole.{by_test, both}
@@ -34,7 +33,7 @@ use Rattle.journal.specs.laws.LogTrips.{from_length, read_means}
 use Rattle.entries.specs.declared.Entry.{Entry}
 use Rattle.asking.specs.Asking.{asked, recorded}
 use Rattle.playback.specs.Lines.{line_of, lines_of, most_entries, all_lines, most_replay}
-use Rattle.playback.specs.Replay.{same_position, same_answer, differs, indices_from, differing, replay_text, replayed, roomed, replaying}
+use Rattle.playback.specs.Replay.{is_listed, same_position, same_answer, differs, indices_from, differing, replay_text, replayed, roomed, replaying}
 use Rattle.playback.specs.laws.Lines.{all_lines_next, all_lines_rise, all_lines_none, all_lines_few, line_short}
 
 -- ---- two answers
@@ -128,7 +127,7 @@ module _ (x : Lent) where
       (λ t. rw t (lower rest))
 
   -- no index below the first
-  none_below : (i j : ℕ) (es : List Entry) → j < i → one_of j (indices_from x i es) ≡ false
+  none_below : (i j : ℕ) (es : List Entry) → j < i → is_listed j (indices_from x i es) ≡ false
   unfolding indices_from
   none_below i j [] h = refl
   none_below i j (e ∷ es) h =
@@ -136,7 +135,7 @@ module _ (x : Lent) where
       (λ t. rw (t, ne_eqb j i (λ q. omega arith)) (none_below (i + 1) j es (omega arith)))
       (λ t. rw t (none_below (i + 1) j es (omega arith)))
 
-  pub listed_where : (i k : ℕ) (es : List Entry) (d : Entry) → k < length es → one_of (i + k) (indices_from x i es) ≡ differs x (get_or es k d)
+  pub listed_where : (i k : ℕ) (es : List Entry) (d : Entry) → k < length es → is_listed (i + k) (indices_from x i es) ≡ differs x (get_or es k d)
   unfolding indices_from
   listed_where i k [] d h = absurd (omega arith)
   listed_where i zero (e ∷ es) d h =
@@ -148,8 +147,8 @@ module _ (x : Lent) where
       by_test (differs x e)
       (λ t.
       rw (t, ne_eqb (i + suc k) i (λ q. omega arith))
-      (subst (λ (m : ℕ). one_of m (indices_from x (i + 1) es) ≡ differs x (get_or es k d)) (sym n) (listed_where (i + 1) k es d (omega arith))))
-      (λ t. rw t (subst (λ (m : ℕ). one_of m (indices_from x (i + 1) es) ≡ differs x (get_or es k d)) (sym n) (listed_where (i + 1) k es d (omega arith))))
+      (subst (λ (m : ℕ). is_listed m (indices_from x (i + 1) es) ≡ differs x (get_or es k d)) (sym n) (listed_where (i + 1) k es d (omega arith))))
+      (λ t. rw t (subst (λ (m : ℕ). is_listed m (indices_from x (i + 1) es) ≡ differs x (get_or es k d)) (sym n) (listed_where (i + 1) k es d (omega arith))))
 
   few_indices : (i : ℕ) (es : List Entry) → length (indices_from x i es) ≤ length es
   unfolding indices_from
