@@ -3,6 +3,7 @@
 --     HostSeesLength      and its answer about a length
 --     Host2, Host3        demands 2 and 3 in the numbers that the host is told
 use Rattle.std.specs.Prelude.{ℕ, ◌+◌, Bool, List, map, ◌≡◌, ℤ, if◌then◌else◌}
+use Rattle.refusals.specs.Numbers.{number}
 use Rattle.refusals.specs.declared.Refusal.TheVariants.{NoGenome, Falling}
 use Rattle.refusals.specs.Outcome.{Outcome, Ok, Err, and_then, through}
 use Rattle.segments.specs.Tables.{Tables}
@@ -86,9 +87,9 @@ written_by_length j head was exons = record { head = head_at (built_head (length
 
 -- over x: 18 for g., and between n. and c. the rules of a length and a CDS
 pub record SeesLength (x : Lent) (len : ℕ) (c : Cds) : Type 0 where
-  pub g_to_n : (a b : ℤ) (missing : ℕ) (s : Bool) → told_g_to_n x a b missing s ≡ refusal NoGenome
-  pub g_to_c : (a b : ℤ) (missing : ℕ) (s : Bool) → told_g_to_c x a b missing s ≡ refusal NoGenome
-  pub n_to_g : (a o b u : ℤ) (s : Bool) → told_n_to_g x a o b u s ≡ refusal NoGenome
+  pub g_to_n : (a b : ℤ) (missing : ℕ) (s : Bool) → told_g_to_n x a b missing s ≡ refusal (number NoGenome)
+  pub g_to_c : (a b : ℤ) (missing : ℕ) (s : Bool) → told_g_to_c x a b missing s ≡ refusal (number NoGenome)
+  pub n_to_g : (a o b u : ℤ) (s : Bool) → told_n_to_g x a o b u s ≡ refusal (number NoGenome)
   pub n_to_c : (a o b u : ℤ) (s : Bool) → told_n_to_c x a o b u s ≡ laid c_laid (map_n_to_c s len c (n_asked a o b u))
   pub c_to_n : (a o : ℤ) (star : Bool) (b u : ℤ) (starred s : Bool) → told_c_to_n x a o star b u starred s ≡ laid n_laid (map_c_to_n s len c (c_asked a o star b u starred))
   -- the first step's refusal comes first

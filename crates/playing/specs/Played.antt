@@ -1,6 +1,6 @@
 -- A log replayed on the transcript that a card makes, and the two as one input of bytes. Assumes nothing.
 use Rattle.std.specs.Prelude.{ℕ, ◌+◌, ◌-◌, List, ltb, length, take, drop, if◌then◌else◌}
-use Rattle.refusals.specs.Numbers.{most_segments, most_card}
+use Rattle.refusals.specs.Numbers.{number, most_segments, most_card}
 use Rattle.refusals.specs.declared.Refusal.TheVariants.{TooMuch, NoCard}
 use Rattle.refusals.specs.Outcome.{Outcome, Ok, Err, and_then}
 use Rattle.fields.specs.Fields.{le32}
@@ -24,7 +24,7 @@ played card log = and_then (judge_card card) (λ (m : Made). replayed (lent_by m
 -- the lines, or the line of a refusal
 abbrev pub played_text : Outcome (List ℕ) → List ℕ
 played_text (Ok text) = text
-played_text (Err k) = refusal_text k
+played_text (Err k) = refusal_text (number k)
 
 -- ---- the two as one input: the card's size, a number of 32 bits, the card, the log
 

@@ -2,19 +2,20 @@
 use Rattle.std.specs.Prelude.{if◌then◌else◌, Some, None, Option}
 use Prim.Native.Nat.{ℕ, zero, suc, ◌+◌, ◌-◌, ◌*◌, min}
 use native.Mathlib.Omega.{arith}
-use mathlib.Core.Bool.{Bool, true, false, cond, not, ◌&&◌, false≢true}
+use mathlib.Core.Bool.{Bool, true, false, cond, not, ◌&&◌, ◌||◌, false≢true}
 use mathlib.Core.List.{List, [], ◌∷◌, ◌++◌}
-use mathlib.Core.Path.{◌≡◌, refl}
+use mathlib.Core.Path.{◌≡◌, refl, sym, ap₂, ◌∙◌}
 use lib.Dec.{eqb, ltb}
 use lib.IntN.{ℤ, pos, negsuc, nat_abs}
 use lib.ListN.{length, drop, get_or}
 use lib.Signed.{lt_z}
 use borrow.Author.Tests.{eqb-true, ltb-true}
-use Rattle.refusals.specs.Numbers.{most_word_count, most_count, most_segments, most_text, most_records, most_bases, most_card, most_log}
+use Rattle.refusals.specs.Numbers.{number, most_word_count, most_count, most_segments, most_text, most_records, most_bases, most_card, most_log}
 use Rattle.refusals.specs.declared.Refusal.{Refusal}
 use Rattle.refusals.specs.declared.Refusal.TheVariants.{NoRecords, NoStrand, TooMuch, BadBound, BadOrd, NotAdjacent, NoElement, BadCount, TooLong, NoSegment, HalfCds, BadCds, NoRoom, NoCard, NotTogether, NoOperation, NotSpanning, NoBase, NoLog}
-use Rattle.refusals.specs.Outcome.{Outcome, Ok, Err, and_then, unless}
+use Rattle.refusals.specs.Outcome.{Outcome, Ok, Err, Test, no_fault, and_then, unless}
 use Rattle.refusals.specs.Refusing.{one_of, Only}
+use Rattle.refusals.specs.laws.Outcomes.{clash}
 use Rattle.refusals.specs.laws.Refusing.{only_through, only_both, only_then}
 use Rattle.whole.specs.Whole.{eq_z}
 use Rattle.whole.specs.laws.Whole.{by_test, both}
@@ -38,6 +39,7 @@ use Rattle.card.specs.Card.{read_card, numbers_in, input_in, card_text, is_marke
 use Rattle.card.specs.Writing.{judge_read, judge_card, if_taken, card_writing}
 use Rattle.card.specs.laws.RoundTrips.{IsCard, read_means}
 use Rattle.worklist.specs.laws.Refusing.{worklist_refuses}
+use Rattle.knowing.specs.laws.Known.{same_refusal}
 use Rattle.holding.specs.Holding.{Lent}
 use Rattle.positions.specs.Positions.{Interval, GAsked, CPosition}
 use Rattle.positions.specs.Answers.{Answer}
@@ -57,32 +59,42 @@ use Rattle.refusing.specs.Refusals.{Refusals, reading_refusals, writing_refusals
 
 -- ---- rows
 
--- each number of a row stands in another
-abbrev all_of : List ℕ → List ℕ → Bool
+-- each refusal of a row stands in another
+abbrev all_of : List Refusal → List Refusal → Bool
 all_of [] ls = true
 all_of (k ∷ ks) ls = one_of k ls && all_of ks ls
 
-in_wider : (ks ls : List ℕ) → all_of ks ls ≡ true → (k : ℕ) → one_of k ks ≡ true → one_of k ls ≡ true
+by_number : (ls : List Refusal) (k l : Refusal) → number k ≡ number l → one_of k ls ≡ one_of l ls
+by_number [] k l e = refl
+by_number (x ∷ xs) k l e = ap₂ (λ (n : ℕ) (t : Bool). eqb n (number x) || t) e (by_number xs k l e)
+
+in_wider : (ks ls : List Refusal) → all_of ks ls ≡ true → (k : Refusal) → one_of k ks ≡ true → one_of k ls ≡ true
 in_wider [] ls all k h = absurd (false≢true h)
 in_wider (x ∷ xs) ls all k h =
     let (first, others) = both (one_of x ls) (all_of xs ls) all in
-    by_test (eqb k x)
-    (λ t. rw (eqb-true k x t) first)
+    by_test (eqb (number k) (number x))
+    (λ t. by_number ls k x (eqb-true (number k) (number x) t) ∙ first)
     (λ t. in_wider xs ls others k (rw t at h))
 
-wider : {A : Type 0} (ks ls : List ℕ) (o : Outcome A) → all_of ks ls ≡ true → Only ks o → Only ls o
-wider ks ls (Ok a) all h = record { only = tt }
-wider ks ls (Err k) all h = record { only = in_wider ks ls all k h.only }
-
-done : {A : Type 0} {ks : List ℕ} (a : A) → Only ks (Ok a)
+done : {A : Type 0} {ks : List Refusal} (a : A) → Only ks (Ok a)
 done a = record { only = tt }
+
+fine : {ks : List Refusal} → Only ks no_fault
+fine = done tt
+
+refused : {A : Type 0} {ks : List Refusal} {k : Refusal} → one_of k ks ≡ true → Only {A = A} ks (Err k)
+refused h = record { only = h }
+
+wider : {A : Type 0} (ks ls : List Refusal) (o : Outcome A) → all_of ks ls ≡ true → Only ks o → Only ls o
+wider ks ls (Ok a) all h = done _
+wider ks ls (Err k) all h = record { only = in_wider ks ls all k h.only }
 
 -- ---- CIGAR text
 
 read_only : (room : ℕ) (given : Bool) (n : ℕ) (text : List ℕ) → Only reading_refusals (read_from room given n text)
 unfolding read_from
 read_only room true n [] = record { only = refl }
-read_only room false n [] = record { only = tt }
+read_only room false n [] = done _
 read_only room given n (b ∷ s) =
     by_test (is_digit b)
     (λ t. rw t (read_only room true (n * 10 + (b - 48)) s))
@@ -107,26 +119,24 @@ writing_only number counts letters room =
     only_unless writing_refusals (ltb most_segments number) TooMuch _ (go (elements_given counts letters number) (wider reading_refusals writing_refusals _ refl (given_only counts letters 0 number))) (λ e. refl)
   where
     go : (r : Reading) → Only writing_refusals r → Only writing_refusals (text_of room r)
-    go (Err k) h = record { only = h.only }
+    go (Err k) h = refused h.only
     go (Ok es) h =
         let text = elements_text es in
         only_unless writing_refusals (ltb most_text (length text)) TooMuch _ (only_unless writing_refusals (ltb room (length text)) NoRoom _ (done text) (λ e. refl)) (λ e. refl)
 
 -- ---- tests whose refusal, where there is one, is in a row
 
-record FaultIn (ks : List ℕ) (k : ℕ) : Type 0 where
-  fault : one_of k (0 ∷ ks) ≡ true
+module _ (ks : List Refusal) where
+  fault_first : {A : Type 0} (k : Test) (o : Outcome A) → Only ks k → Only ks o → Only ks (unless k o)
+  fault_first (Ok t) o h n = n
+  fault_first (Err k) o h n = refused h.only
 
-module _ (ks : List ℕ) where
-  or_else_lem : {k l : ℕ} → FaultIn ks k → FaultIn ks l → FaultIn ks (k or_else l)
-  or_else_lem {k} {l} h n = by_test (eqb k 0) (λ t. rw t n) (λ t. rw t h)
+  or_else_lem : {k l : Test} → Only ks k → Only ks l → Only ks (k or_else l)
+  or_else_lem {k} {l} h n = fault_first k l h n
 
-  if_fault : (t : Bool) {k l : ℕ} → FaultIn ks k → FaultIn ks l → FaultIn ks (if t then k else l)
+  if_fault : {A : Type 0} (t : Bool) {k l : Outcome A} → Only ks k → Only ks l → Only ks (if t then k else l)
   if_fault true h n = h
   if_fault false h n = n
-
-  fault_first : {A : Type 0} (k : ℕ) (o : Outcome A) → FaultIn ks k → Only ks o → Only ks (unless k o)
-  fault_first k o h n = by_test (eqb k 0) (λ t. rw t n) (λ t. rw t (record { only = rw t at h.fault }))
 
 -- ---- BAM's words
 
@@ -138,18 +148,18 @@ read_words_only words counts_room letters_room =
     (only_unless reading_words_refusals (ltb counts_room (length words)) NoRoom _
     (only_unless reading_words_refusals (ltb letters_room (length words)) NoRoom _ (done _) (λ e. refl)) (λ e. refl)) (λ e. refl)) (λ e. refl)
 
-fault_in : (count : ℤ) (letter : ℕ) → FaultIn writing_words_refusals (fault_of count letter)
+fault_in : (count : ℤ) (letter : ℕ) → Only writing_words_refusals (fault_of count letter)
 unfolding fault_of
 fault_in count letter =
-    if_fault writing_words_refusals (not (is_letter letter)) (record { fault = refl })
-    (if_fault writing_words_refusals (lt_z count (pos 0)) (record { fault = refl })
-    (if_fault writing_words_refusals (lt_z (pos most_word_count) count) (record { fault = refl }) (record { fault = refl })))
+    if_fault writing_words_refusals (not (is_letter letter)) (refused refl)
+    (if_fault writing_words_refusals (lt_z count (pos 0)) (refused refl)
+    (if_fault writing_words_refusals (lt_z (pos most_word_count) count) (refused refl) fine))
 
-faults_from : (counts : List ℤ) (letters : List ℕ) (i m : ℕ) → FaultIn writing_words_refusals (fault_from counts letters i m)
+faults_from : (counts : List ℤ) (letters : List ℕ) (i m : ℕ) → Only writing_words_refusals (fault_from counts letters i m)
 unfolding fault_from
-faults_from counts letters i zero = record { fault = refl }
+faults_from counts letters i zero = fine
 faults_from counts letters i (suc m) =
-    if_fault writing_words_refusals (eqb (fault_of (get_or counts i (pos 0)) (get_or letters i 0)) 0) (faults_from counts letters (i + 1) m) (fault_in (get_or counts i (pos 0)) (get_or letters i 0))
+    fault_first writing_words_refusals _ _ (fault_in (get_or counts i (pos 0)) (get_or letters i 0)) (faults_from counts letters (i + 1) m)
 
 write_words_only : (number : ℕ) (counts : List ℤ) (letters : List ℕ) (room : ℕ) → Only writing_words_refusals (write_words number counts letters room)
 unfolding write_words
@@ -160,57 +170,54 @@ write_words_only number counts letters room =
 
 -- ---- building
 
-here : (k : ℕ) → one_of k (0 ∷ records_refusals) ≡ true → FaultIn records_refusals k
-here k h = record { fault = h }
-
-abbrev R : List ℕ
+abbrev R : List Refusal
 R = records_refusals
 
-span_in : (a b : ℤ) → FaultIn R (span_fault a b)
+span_in : (a b : ℤ) → Only R (span_fault a b)
 unfolding span_fault
-span_in a b = if_fault R (lt_z a (pos 0)) (here BadBound refl) (if_fault R (lt_z b (pos 0)) (here BadBound refl) (if_fault R (lt_z b a) (here BadBound refl) (here 0 refl)))
+span_in a b = if_fault R (lt_z a (pos 0)) (refused refl) (if_fault R (lt_z b (pos 0)) (refused refl) (if_fault R (lt_z b a) (refused refl) fine))
 
-own_in : (r : Record) → FaultIn R (own_fault r)
+own_in : (r : Record) → Only R (own_fault r)
 unfolding own_fault
 own_in r = or_else_lem R (span_in r.alt_start r.alt_end) (span_in r.tx_start r.tx_end)
 
-follow_in : (a b : Record) → FaultIn R (follow_fault a b)
+follow_in : (a b : Record) → Only R (follow_fault a b)
 unfolding follow_fault rise_fault join_fault
-follow_in a b = or_else_lem R (if_fault R (lt_z a.ord b.ord) (here 0 refl) (here BadOrd refl)) (if_fault R (eq_z a.tx_end b.tx_start) (here 0 refl) (here NotAdjacent refl))
+follow_in a b = or_else_lem R (if_fault R (lt_z a.ord b.ord) fine (refused refl)) (if_fault R (eq_z a.tx_end b.tx_start) fine (refused refl))
 
-pair_in : (forward : Bool) (p r : Record) → FaultIn R (pair_fault forward p r)
+pair_in : (forward : Bool) (p r : Record) → Only R (pair_fault forward p r)
 unfolding pair_fault start_fault
-pair_in true p r = or_else_lem R (if_fault R (lt_z r.alt_start p.alt_end) (here BadBound refl) (here 0 refl)) (follow_in p r)
-pair_in false p r = or_else_lem R (if_fault R (lt_z r.alt_start p.alt_end) (here BadBound refl) (here 0 refl)) (follow_in r p)
+pair_in true p r = or_else_lem R (if_fault R (lt_z r.alt_start p.alt_end) (refused refl) fine) (follow_in p r)
+pair_in false p r = or_else_lem R (if_fault R (lt_z r.alt_start p.alt_end) (refused refl) fine) (follow_in r p)
 
-after_in : (forward : Bool) (p : Record) (rs : List Record) → FaultIn R (faults_after forward p rs)
+after_in : (forward : Bool) (p : Record) (rs : List Record) → Only R (faults_after forward p rs)
 unfolding faults_after
-after_in forward p [] = here 0 refl
+after_in forward p [] = fine
 after_in forward p (r ∷ rs) = or_else_lem R (own_in r) (or_else_lem R (pair_in forward p r) (after_in forward r rs))
 
-faults_in : (forward : Bool) (rs : List Record) → FaultIn R (faults forward rs)
+faults_in : (forward : Bool) (rs : List Record) → Only R (faults forward rs)
 unfolding faults
-faults_in forward [] = here 0 refl
+faults_in forward [] = fine
 faults_in forward (r ∷ rs) = or_else_lem R (own_in r) (after_in forward r rs)
 
-half_in : (ks : List ℕ) → one_of HalfCds ks ≡ true → (start end : Option ℤ) → FaultIn ks (half_fault start end)
-half_in ks h (Some s) (Some e) = record { fault = refl }
-half_in ks h (Some s) None = record { fault = h }
-half_in ks h None (Some e) = record { fault = h }
-half_in ks h None None = record { fault = refl }
+half_in : (ks : List Refusal) → one_of HalfCds ks ≡ true → (start end : Option ℤ) → Only ks (half_fault start end)
+half_in ks h (Some s) (Some e) = fine
+half_in ks h (Some s) None = refused h
+half_in ks h None (Some e) = refused h
+half_in ks h None None = fine
 
-cds_in : (ks : List ℕ) → one_of BadCds ks ≡ true → (start end : Option ℤ) (last : ℕ) → FaultIn ks (cds_fault start end last)
+cds_in : (ks : List Refusal) → one_of BadCds ks ≡ true → (start end : Option ℤ) (last : ℕ) → Only ks (cds_fault start end last)
 unfolding range_fault
-cds_in ks h (Some s) (Some e) last = if_fault ks (lt_z s (pos 0)) bad (if_fault ks (lt_z e s) bad (if_fault ks (lt_z (pos last) e) bad (record { fault = refl })))
+cds_in ks h (Some s) (Some e) last = if_fault ks (lt_z s (pos 0)) bad (if_fault ks (lt_z e s) bad (if_fault ks (lt_z (pos last) e) bad fine))
   where
-    bad : FaultIn ks BadCds
-    bad = record { fault = h }
-cds_in ks h (Some s) None last = record { fault = refl }
-cds_in ks h None end last = record { fault = refl }
+    bad : Only {A = Unit {0}} ks (Err BadCds)
+    bad = record { only = h }
+cds_in ks h (Some s) None last = fine
+cds_in ks h None end last = fine
 
-last_in : (start end : Option ℤ) (n first g t : ℕ) → FaultIn R (last_fault start end n first g t)
+last_in : (start end : Option ℤ) (n first g t : ℕ) → Only R (last_fault start end n first g t)
 unfolding last_fault
-last_in start end n first g t = if_fault R (eqb n 0) (here NoSegment refl) (if_fault R (ltb most_bases t) (here TooLong refl) (if_fault R (ltb most_bases (first + g)) (here TooLong refl) (cds_in R refl start end t)))
+last_in start end n first g t = if_fault R (eqb n 0) (refused refl) (if_fault R (ltb most_bases t) (refused refl) (if_fault R (ltb most_bases (first + g)) (refused refl) (cds_in R refl start end t)))
 
 reading_wider : (r : Reading) → Only reading_refusals r → Only R r
 reading_wider r h = wider reading_refusals R r refl h
@@ -247,13 +254,13 @@ on_only forward i =
     (fault_first R (half_fault i.start i.end) _ (half_in R refl i.start i.end) (go (exons_of i.records) (exons_only i.records)))) (λ e. refl)
   where
     go : (o : Exons) → Only R o → Only R (judge_exons forward i o)
-    go (Err k) h = record { only = h.only }
+    go (Err k) h = refused h.only
     go (Ok xs) h = fault_first R _ _ (last_in i.start i.end _ _ _ _) (done _)
 
-on_wider : (ks : List ℕ) → all_of R ks ≡ true → (forward : Bool) (i : Input) → Only ks (judge_on forward i)
+on_wider : (ks : List Refusal) → all_of R ks ≡ true → (forward : Bool) (i : Input) → Only ks (judge_on forward i)
 on_wider ks all forward i = wider R ks (judge_on forward i) all (on_only forward i)
 
-abbrev B : List ℕ
+abbrev B : List Refusal
 B = building_refusals
 
 judge_only : (n : Numbers) (bytes : List ℕ) → Only building_refusals (judge n bytes)
@@ -262,11 +269,7 @@ judge_only n bytes =
     only_unless B (ltb both_bits n.cds) NotTogether _
     (only_unless B (not (exactly n.count bytes 0)) NoCard _
     (only_unless B (eqb (length (input_of n bytes).records) 0) NoRecords _
-    (either (eq_z n.strand (pos 1)) (on_wider B refl true (input_of n bytes)) (only_if B (eq_z n.strand (negsuc 0)) NoStrand _ (on_wider B refl false (input_of n bytes)) (λ e. refl))) (λ e. refl)) (λ e. refl)) (λ e. refl)
-  where
-    either : (t : Bool) {o q : Outcome Made} → Only B o → Only B q → Only B (if t then o else q)
-    either true h k = h
-    either false h k = k
+    (if_fault B (eq_z n.strand (pos 1)) (on_wider B refl true (input_of n bytes)) (only_if B (eq_z n.strand (negsuc 0)) NoStrand _ (on_wider B refl false (input_of n bytes)) (λ e. refl))) (λ e. refl)) (λ e. refl)) (λ e. refl)
 
 -- ---- a card
 
@@ -285,23 +288,17 @@ no_card_lem : (s : List ℕ) (k : Refusal) → read_card s ≡ Err k → one_of 
 unfolding read_card
 no_card_lem s k =
     by_test (ltb most_card (length s))
-    (λ t. rw t (λ h. rw (← number h) refl))
+    (λ t. rw t (λ h. rw (← same_refusal h) refl))
     (λ t.
     by_test (is_marked s)
     (λ u.
     by_test (eqb (le16 s version_at) version)
     (λ v.
     by_test (is_card s)
-    (λ x. rw (t, u, v, x) (λ h. absurd (clash h)))
-    (λ x. rw (t, u, v, x) (λ h. rw (← number h) refl)))
-    (λ v. rw (t, u, v) (λ h. rw (← number h) refl)))
-    (λ u. rw (t, u) (λ h. rw (← number h) refl)))
-  where
-    number : {a : Refusal} {b : Refusal} → Err a ≡ Err b → a ≡ b
-    number e = cc
-
-    clash : {n : Numbers} → Ok n ≡ Err k → ⊥
-    clash e = let z : ◌≡◌ {A = ℕ} 0 1 = cc in omega arith
+    (λ x. rw (t, u, v, x) (λ h. absurd (clash (sym h))))
+    (λ x. rw (t, u, v, x) (λ h. rw (← same_refusal h) refl)))
+    (λ v. rw (t, u, v) (λ h. rw (← same_refusal h) refl)))
+    (λ u. rw (t, u) (λ h. rw (← same_refusal h) refl)))
 
 card_only : (s : List ℕ) → Only card_refusals (judge_card s)
 unfolding judge numbers_in
@@ -320,14 +317,14 @@ card_only s = go (read_card s) refl
 
 -- ---- a length
 
-abbrev L : List ℕ
+abbrev L : List Refusal
 L = length_refusals
 
 length_only : (len : ℤ) (bits : ℕ) (start end : ℤ) → Only length_refusals (judge_length len bits start end)
 unfolding judge_length length_fault
 length_only len bits start end =
     only_unless L (ltb both_bits bits) NotTogether _
-    (fault_first L (length_fault len) _ (if_fault L (lt_z len (pos 0)) (record { fault = refl }) (if_fault L (lt_z (pos most_bases) len) (record { fault = refl }) (record { fault = refl })))
+    (fault_first L (length_fault len) _ (if_fault L (lt_z len (pos 0)) (refused refl) (if_fault L (lt_z (pos most_bases) len) (refused refl) fine))
     (fault_first L (half_fault (start_of bits start) (end_of bits end)) _ (half_in L refl (start_of bits start) (end_of bits end))
     (fault_first L (cds_fault (start_of bits start) (end_of bits end) (nat_abs len)) _ (cds_in L refl (start_of bits start) (end_of bits end) (nat_abs len)) (done _)))) (λ e. refl)
 
@@ -345,25 +342,25 @@ card_writing_only n bytes room = go (judge n bytes) (judge_only n bytes)
 
 -- ---- alleles
 
-letters_only : (ks : List ℕ) → one_of NoBase ks ≡ true → (back : Bool) (s : List ℕ) → Only ks (read_on back s)
+letters_only : (ks : List Refusal) → one_of NoBase ks ≡ true → (back : Bool) (s : List ℕ) → Only ks (read_on back s)
 letters_only ks h back s = go (are_bases s)
   where
     go : (t : Bool) → Only ks (cond t (Ok (on_strand back s)) (Err NoBase))
     go true = done _
-    go false = record { only = h }
+    go false = refused h
 
-room_only : (ks : List ℕ) → one_of NoRoom ks ≡ true → (room : ℕ) (s : List ℕ) → Only ks (fitting room s)
+room_only : (ks : List Refusal) → one_of NoRoom ks ≡ true → (room : ℕ) (s : List ℕ) → Only ks (fitting room s)
 room_only ks h room s = go (ltb room (length s))
   where
     go : (t : Bool) → Only ks (cond t (Err NoRoom) (Ok s))
-    go true = record { only = h }
+    go true = refused h
     go false = done _
 
 turning_only : (allele : List ℕ) (room : ℕ) → Only turning_refusals (turning allele room)
 unfolding turning
 turning_only allele room = only_then turning_refusals (read_on true allele) (fitting room) (letters_only turning_refusals refl true allele) (λ s e. room_only turning_refusals refl room s)
 
-abbrev J : List ℕ
+abbrev J : List Refusal
 J = joining_refusals
 
 joined_only : (back : Bool) (s : Alleles) (room : Rooms) (plain : Answer CPosition) → Only J plain → Only J (joined_with back s room plain)
@@ -385,7 +382,7 @@ join_only x strict q s room =
 behind_only : (room used : ℕ) (text : List ℕ) → Only recording_refusals (behind room used text)
 behind_only room used text =
     only_unless recording_refusals (ltb most_log (used + length text)) TooMuch _
-    (only_unless recording_refusals (ltb room (used + length text)) NoRoom _ (record { only = tt }) (λ e. refl)) (λ e. refl)
+    (only_unless recording_refusals (ltb room (used + length text)) NoRoom _ (done _) (λ e. refl)) (λ e. refl)
 
 appending_only : (log : List ℕ) (used : ℕ) (e : Entry) → Only recording_refusals (appending log used e)
 unfolding appending
@@ -405,14 +402,14 @@ unfolding read_log
 log_only log =
     only_unless replay_refusals (ltb most_log (length log)) TooMuch _
     (only_unless replay_refusals (not (is_headed log (length log))) NoLog _
-    (only_unless replay_refusals (not (all_canonical (entries_in log))) NoLog _ (record { only = tt }) (λ e. refl)) (λ e. refl)) (λ e. refl)
+    (only_unless replay_refusals (not (all_canonical (entries_in log))) NoLog _ (done _) (λ e. refl)) (λ e. refl)) (λ e. refl)
 
 replay_only : (x : Lent) (log : List ℕ) (room : ℕ) → Only replay_refusals (replaying x log room)
 unfolding replaying replayed
 replay_only x log room =
     only_then replay_refusals (replayed x log) (roomed room)
     (checked_only replay_refusals x _ refl (λ y. only_through replay_refusals _ (read_log log) (log_only log)))
-    (λ text e. only_unless replay_refusals (ltb room (length text)) NoRoom _ (record { only = tt }) (λ t. refl))
+    (λ text e. only_unless replay_refusals (ltb room (length text)) NoRoom _ (done _) (λ t. refl))
 
 pub refusals : Refusals
 refusals = record {

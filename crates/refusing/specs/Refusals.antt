@@ -1,5 +1,6 @@
 -- The table of refusals, of what is not a question: which numbers building, CIGAR text, BAM's words, a card, a worklist, alleles and a log can give. That of the questions stands in `mapper`. Assumes nothing.
 use Rattle.std.specs.Prelude.{ℕ, Bool, List, [], ◌∷◌, ℤ}
+use Rattle.refusals.specs.declared.Refusal.{Refusal}
 use Rattle.refusals.specs.declared.Refusal.TheVariants.{NoRecords, NoStrand, TooMuch, BadBound, BadOrd, NotAdjacent, NoElement, BadCount, TooLong, NoSegment, HalfCds, BadCds, NoRoom, NoCard, BadVersion, NotTogether, NoOperation, NoWord, NotSpanning, NoBase, NoLog}
 use Rattle.refusals.specs.Refusing.{Only}
 use Rattle.cigar.specs.Read.{read_text}
@@ -21,55 +22,55 @@ use Rattle.alleles.specs.Joining.{Alleles, Rooms, joined}
 use Rattle.alleles.specs.laws.Refusing.{plain_refusals}
 
 -- txc_read_cigar
-abbrev pub reading_refusals : List ℕ
+abbrev pub reading_refusals : List Refusal
 reading_refusals = TooMuch ∷ NoElement ∷ BadCount ∷ []
 
 -- txc_write_cigar
-abbrev pub writing_refusals : List ℕ
+abbrev pub writing_refusals : List Refusal
 writing_refusals = TooMuch ∷ NoElement ∷ BadCount ∷ NoRoom ∷ []
 
 -- txc_read_bam
-abbrev pub reading_words_refusals : List ℕ
+abbrev pub reading_words_refusals : List Refusal
 reading_words_refusals = NoOperation ∷ TooMuch ∷ NoRoom ∷ []
 
 -- txc_write_bam
-abbrev pub writing_words_refusals : List ℕ
+abbrev pub writing_words_refusals : List Refusal
 writing_words_refusals = NoElement ∷ NoWord ∷ TooMuch ∷ NoRoom ∷ []
 
 -- txc_turn
-abbrev pub turning_refusals : List ℕ
+abbrev pub turning_refusals : List Refusal
 turning_refusals = NoBase ∷ NoRoom ∷ []
 
 -- txc_g_to_c_alleles: the plain mapping's own, and three before them
-abbrev pub joining_refusals : List ℕ
+abbrev pub joining_refusals : List Refusal
 joining_refusals = NotTogether ∷ NoBase ∷ NoRoom ∷ plain_refusals
 
 -- txc_record: its question's own refusals stand in the entry
-abbrev pub recording_refusals : List ℕ
+abbrev pub recording_refusals : List Refusal
 recording_refusals = NoLog ∷ TooMuch ∷ NoRoom ∷ []
 
 -- txc_replay
-abbrev pub replay_refusals : List ℕ
+abbrev pub replay_refusals : List Refusal
 replay_refusals = NotTogether ∷ TooMuch ∷ NoLog ∷ NoRoom ∷ []
 
 -- what building finds in the records once the strand is known
-abbrev pub records_refusals : List ℕ
+abbrev pub records_refusals : List Refusal
 records_refusals = TooMuch ∷ BadBound ∷ BadOrd ∷ NotAdjacent ∷ NoElement ∷ BadCount ∷ TooLong ∷ NoSegment ∷ HalfCds ∷ BadCds ∷ NotSpanning ∷ []
 
 -- txc_build
-abbrev pub building_refusals : List ℕ
+abbrev pub building_refusals : List Refusal
 building_refusals = NoRecords ∷ NoStrand ∷ NoCard ∷ NotTogether ∷ records_refusals
 
 -- txc_build_card: not 2 and not 23, as a card's strand and CDS bits are right where it is a card
-abbrev pub card_refusals : List ℕ
+abbrev pub card_refusals : List Refusal
 card_refusals = NoRecords ∷ NoCard ∷ BadVersion ∷ records_refusals
 
 -- txc_build_length
-abbrev pub length_refusals : List ℕ
+abbrev pub length_refusals : List Refusal
 length_refusals = BadBound ∷ TooLong ∷ HalfCds ∷ BadCds ∷ NotTogether ∷ []
 
 -- txc_write_card
-abbrev pub card_writing_refusals : List ℕ
+abbrev pub card_writing_refusals : List Refusal
 card_writing_refusals = NoRoom ∷ building_refusals
 
 pub record Refusals : Type 0 where

@@ -5,6 +5,7 @@ use mathlib.Core.List.{List}
 use Prim.Native.Nat.{ℕ}
 use native.Mathlib.Omega.{arith}
 use lib.ListN.{length}
+use Rattle.refusals.specs.Numbers.{number}
 use Rattle.refusals.specs.Outcome.{Outcome}
 use Rattle.cigar.specs.Lent.{at_front}
 use Rattle.spelling.specs.Write.{written_answer, buffer_after}
@@ -86,7 +87,7 @@ returns-in-Err-replay c =
     let p = c.put_refusal.ensures in
     let o = refused_is (played (card h) (log h)) k.k (sym (ap written_answer (played_is h)) ∙ sym r.value ∙ k.is) in
     let kept = r.buffer_after ∙ ap (buffer_after (text h)) (played_is h ∙ o) in
-    let put : Put (text h) c.put_refusal.new.buffer 0 c.put_refusal.result (refusal_text k.k) = rw kept at p.put in
+    let put : Put (text h) c.put_refusal.new.buffer 0 c.put_refusal.result (refusal_text (number k.k)) = rw kept at p.put in
     let w = put_front (put_as (sym (ap played_text o)) put) (omega (arith, p.within, (entry (call h)).requires)) in
     record { value = w.0; within = omega (arith, p.within); text_after = w.1; letters_after = (call h).build_card.ensures.letters_after; exons_after = (call h).build_card.ensures.exons_after }
 

@@ -24,7 +24,7 @@ module _ (c : In-Ok) where
   input = c.args.input.now
 
   abbrev to : ℕ
-  to = c.in-Ok.x
+  to = c.in-Ok.to
 
   there : Ends input to
   there = ends input to (sym c.card_end.ensures ∙ c.in-Ok.is)
