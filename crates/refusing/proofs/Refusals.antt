@@ -12,7 +12,7 @@ use lib.Signed.{lt_z}
 use borrow.Author.Tests.{eqb-true, ltb-true}
 use Rattle.refusals.specs.Numbers.{number, most_word_count, most_count, most_segments, most_text, most_records, most_bases, most_card, most_log}
 use Rattle.refusals.specs.declared.Refusal.{Refusal}
-use Rattle.refusals.specs.declared.Refusal.TheVariants.{NoRecords, NoStrand, TooMuch, BadBound, BadOrd, NotAdjacent, NoElement, BadCount, TooLong, NoSegment, HalfCds, BadCds, NoRoom, NoCard, NotTogether, NoOperation, NotSpanning, NoBase, NoLog}
+use Rattle.refusals.specs.declared.Refusal.TheVariants.{NoRecords, NoStrand, TooMuch, NoElement, BadCount, HalfCds, BadCds, NoRoom, NoCard, NotTogether, NoOperation, NotSpanning, NoBase, NoLog}
 use Rattle.refusals.specs.Outcome.{Outcome, Ok, Err, Test, no_fault, and_then, unless}
 use Rattle.refusals.specs.Refusing.{one_of, Only}
 use Rattle.refusals.specs.laws.Outcomes.{clash}

@@ -9,7 +9,7 @@ use Rattle.holding.specs.Holding.{Lent, lent, holds}
 use Rattle.journal.specs.Layout.{entries_at}
 use Rattle.journal.specs.Logs.{entries_from}
 use Rattle.playback.proofs.laws.Replay.{replay_broken, replay_answered, replay_refused}
-use Rattle.playback.proofs.Reading.{Reads, reads, refuses}
+use Rattle.playback.proofs.Reading.{reads, refuses}
 use Rattle.playback.proofs.replay.Goals as goal
 use Rattle.playback.proofs.replay.Goals.{Start, Else-not-is_held}
 
