@@ -3,8 +3,8 @@
 ghost use Rattle.std.specs.Prelude.{◌≡◌, ◌+◌, ◌%◌, ◌^◌, ◌≤◌, slice_index};
 ghost use Rattle.vectors.specs.Tally.{counts, bumped, counted};
 
-use refusals::Refusal;
 use crate::{calls, say};
+use refusals::Refusal;
 use std::io;
 
 // The refusals' numbers, and 0 for none.
