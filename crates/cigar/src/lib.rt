@@ -93,6 +93,7 @@ pub fn count_elements(text: &[u8]) -> Result<usize, Refusal>
 {
     let mut at = 0;
     let mut n: usize = 0;
+    // An element's step says where the next one begins, so no range or chain goes over them.
     while let Some(step) = step_at(text, at)? {
         if n == MOST_SEGMENTS {
             return Err(Refusal::TooMuch);

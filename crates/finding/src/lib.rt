@@ -73,6 +73,7 @@ fn quartered<const SIZE: usize>(starts: &[u32; MOST_STARTS], count: usize, p: u3
     let mut low = 0;
     let mut left = count;
     let mut most = SIZE;
+    // Each round leaves half, so no range counts the rounds more plainly.
     while 1 < most {
         let half = left / 2;
         let rest = left - half;

@@ -145,6 +145,7 @@ pub fn is_coding_transcript(
 ) -> Result<bool, Refusal>
     ensures { result ≡ checked (lent head genome.now transcript.now letters.now exons.now) ask_coding }
 {
+    // One or-pattern for both arms was tried, and its proof did not close.
     match knowing::known_of(head, genome, transcript, letters, exons)? {
         Known::Aligned(_, cds) => Ok(chaining::is_coding(cds)),
         Known::OfLength(_, cds) => Ok(chaining::is_coding(cds)),

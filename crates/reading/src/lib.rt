@@ -45,6 +45,7 @@ fn tally_text(text: &[u8], from: Sums) -> Result<Sums, Refusal>
 {
     let mut at = 0;
     let mut sums = from;
+    // An element's step says where the next one begins, so no range or chain goes over them.
     while let Some(step) = cigar::step_at(text, at)? {
         if sums.count == MOST_SEGMENTS {
             return Err(Refusal::TooMuch);
