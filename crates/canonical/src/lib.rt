@@ -11,7 +11,7 @@ use refusals::Refusal;
 use taking::question;
 use taking::question::{Kind, Question};
 
-// Star and missing together.
+// Star and missing together, two bits of a number, since the C interface and a log have them so.
 const BOTH_MARKS: u32 = 3;
 
 // The tags, which are an answer's marks: numbers, since the C interface and a log have them so.

@@ -4,6 +4,7 @@
 ghost use Rattle.std.specs.Prelude.{◌≡◌, ◌≤◌};
 ghost use Rattle.transcript.specs.Heads.{both_bits, start_of, end_of, number_of, with_cds};
 
+// The kinds of a head and its CDS bits are numbers, since the C interface has them so.
 // The kind of a head built from records.
 pub const OF_RECORDS: i32 = 0;
 // The kind of a head built from a length.

@@ -1,5 +1,4 @@
 -- BAM's words are judged, read and written one by one.
---     known_more, known_not, known_none            whether the words that are left are known
 --     elements_more, elements_none                 the elements of the words that are left
 --     fault_more, fault_end                        the first refusal of the elements that are left
 --     fault_left, words_more, words_none           the words of the elements that are left, where none is refused
@@ -24,22 +23,10 @@ use Rattle.refusals.specs.declared.Refusal.{Refusal}
 use Rattle.refusals.specs.declared.Refusal.TheVariants.{TooMuch, NoRoom, NoOperation}
 use Rattle.refusals.specs.Outcome.{Ok, Err, Test, no_fault, unless}
 use Rattle.cigar.specs.Text.{element}
-use Rattle.words.specs.Words.{element_of_word, word_of, is_known, all_known, read_words, fault_of, fault_from, elements_at, write_words}
+use Rattle.words.specs.Words.{element_of_word, word_of, all_known, read_words, fault_of, fault_from, elements_at, write_words}
 use Rattle.words.specs.laws.RoundTrips.{fault_first}
 
 module _ (words : List ℕ) (i : ℕ) where
-  pub known_more : i < length words → is_known (get_or words i 0) ≡ true → all_known (drop i words) ≡ all_known (drop (i + 1) words)
-  unfolding all_known
-  known_more h k = rw (drop-cons words i 0 h, k, add-one i)
-
-  pub known_not : i < length words → is_known (get_or words i 0) ≡ false → all_known (drop i words) ≡ false
-  unfolding all_known
-  known_not h k = rw (drop-cons words i 0 h, k)
-
-  pub known_none : length words ≤ i → all_known (drop i words) ≡ true
-  unfolding all_known
-  known_none h = rw (drop_of_length-le words h)
-
   pub elements_more : i < length words → map element_of_word (drop i words) ≡ element_of_word (get_or words i 0) ∷ map element_of_word (drop (i + 1) words)
   elements_more h = rw (drop-cons words i 0 h, add-one i)
 
