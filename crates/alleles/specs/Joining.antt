@@ -1,6 +1,7 @@
 -- A g. interval with two alleles: the plain mapping's c. interval, not narrowed, and both alleles as the transcript reads them, trimmed. Refusals come in the order 23, 34, 20, then the mapping's own. Assumes nothing.
 use Rattle.std.specs.Prelude.{ℕ, Bool, false, not, List, length}
-use Rattle.refusals.specs.Outcome.{Outcome, answered, refused, and_then, through, both}
+use Rattle.refusals.specs.Numbers.{number}
+use Rattle.refusals.specs.Outcome.{Outcome, Ok, Err, and_then, through, both}
 use Rattle.transcript.specs.Transcript.{Source}
 use Rattle.transcript.specs.Transcript.Source.{aligned, length_only}
 use Rattle.holding.specs.Holding.{Lent, checked}
@@ -85,8 +86,8 @@ laid_with plain gone reference alternative = record { answer = laid c_laid plain
 
 -- where it refuses, the answer's number is the refusal's and all else is 0
 abbrev pub joined_laid : Outcome Joining → Joined
-joined_laid (answered j) = laid_with (answered j.interval) j.trimmed.gone (length j.trimmed.left.reference) (length j.trimmed.left.alternative)
-joined_laid (refused k) = record { answer = refusal k; prefix = 0; suffix = 0; reference = 0; alternative = 0 }
+joined_laid (Ok j) = laid_with (Ok j.interval) j.trimmed.gone (length j.trimmed.left.reference) (length j.trimmed.left.alternative)
+joined_laid (Err k) = record { answer = refusal (number k); prefix = 0; suffix = 0; reference = 0; alternative = 0 }
 
 -- the two buffers afterwards: what is left of an allele is at the front and the rest stays, and where it is refused all stays
 abbrev pub reference_after : List ℕ → Outcome Joining → List ℕ

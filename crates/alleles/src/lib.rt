@@ -2,17 +2,16 @@
 #![tactic(auto)]
 
 ghost use Rattle.std.specs.Prelude.{◌≡◌, ◌&&◌, length};
-ghost use Rattle.refusals.specs.Outcome.{number_of, Outcome.refused};
 ghost use Rattle.holding.specs.Holding.{lent};
-ghost use Rattle.positions.specs.Paper.{paper_g_question, paper_c};
+ghost use Rattle.positions.specs.Paper.{paper_c};
 ghost use Rattle.strands.specs.Turned.{are_bases};
 ghost use Rattle.alleles.specs.Joining.{alleles, rooms, joined, joined_laid, laid_with, reference_after, alternative_after};
 ghost use Rattle.alleles.specs.Deciding.{head_reads_back, enough, first_refusal};
 
 use layout::lay;
 use layout::lay::Answer;
-use positions::{CAnswer, GQuestion};
-use refusals::{MOST_SEGMENTS, MOST_STARTS, NO_BASE, NO_ROOM, NOT_TOGETHER};
+use positions::{CPosition, GQuestion};
+use refusals::{MOST_SEGMENTS, MOST_STARTS, Refusal};
 use strands::{Removed, turn};
 use transcript::{Head, OF_RECORDS};
 
@@ -33,10 +32,7 @@ fn reads_back(head: Head) -> bool
 {
     let kind = head.kind;
     if kind == OF_RECORDS {
-        if holding::is_forward(head) {
-            return false;
-        }
-        return true;
+        return !holding::is_forward(head);
     }
     false
 }
@@ -45,10 +41,7 @@ fn reads_back(head: Head) -> bool
 fn are_both_bases(reference: &[u8], alternative: &[u8]) -> bool
     ensures { result ≡ (are_bases reference.now && are_bases alternative.now) }
 {
-    if turn::are_bases(reference) {
-        return turn::are_bases(alternative);
-    }
-    false
+    turn::are_bases(reference) && turn::are_bases(alternative)
 }
 
 // Whether that many bytes of each fit its buffer.
@@ -60,65 +53,46 @@ fn have_room(
 ) -> bool
     ensures { result ≡ (enough reference_room reference && enough alternative_room alternative) }
 {
-    if reference_room < reference {
-        return false;
-    }
-    if alternative_room < alternative {
-        return false;
-    }
-    true
+    reference <= reference_room && alternative <= alternative_room
 }
 
-// The mapping's refusal, 0 where it answers.
-fn number_of(told: CAnswer) -> u8
-    ensures { result ≡ number_of (paper_c told) }
+// The refusal that comes first, if there is one: 23, 34, 20, then the mapping's own.
+fn first_refusal(told: positions::Answer<CPosition>, bases: bool, room: bool) -> Result<(), Refusal>
+    ensures { result ≡ first_refusal (paper_c told) bases room }
 {
     match told {
-        CAnswer::Certain(_, _) => 0,
-        CAnswer::Uncertain(_, _) => 0,
-        CAnswer::Refused(k) => k,
+        Err(Refusal::NotTogether) => Err(Refusal::NotTogether),
+        _ if !bases => Err(Refusal::NoBase),
+        _ if !room => Err(Refusal::NoRoom),
+        Err(k) => Err(k),
+        Ok(_) => Ok(()),
     }
-}
-
-// The refusal that comes first: 23, 34, 20, then the mapping's own; 0 where there is none.
-fn first_refusal(asked: u8, bases: bool, room: bool) -> u8
-    ensures { result ≡ first_refusal asked bases room }
-{
-    if asked == NOT_TOGETHER {
-        return NOT_TOGETHER;
-    }
-    if bases {
-        if room {
-            return asked;
-        }
-        return NO_ROOM;
-    }
-    NO_BASE
 }
 
 // An answer, with what went and what is left.
-fn told_with(told: CAnswer, gone: Removed, reference: usize, alternative: usize) -> Joined
+fn told_with(
+    told: positions::Answer<CPosition>,
+    gone: Removed,
+    reference: usize,
+    alternative: usize,
+) -> Joined
     ensures { result ≡ laid_with (paper_c told) gone reference alternative }
 {
-    let answer = lay::lay_c(told);
-    let prefix = gone.prefix;
-    let suffix = gone.suffix;
     Joined {
-        answer,
-        prefix,
-        suffix,
+        answer: lay::lay(told),
+        prefix: gone.prefix,
+        suffix: gone.suffix,
         reference,
         alternative,
     }
 }
 
 // A refusal.
-fn refused(number: u8) -> Joined
-    ensures { result ≡ joined_laid (refused number) }
+fn refused(k: Refusal) -> Joined
+    ensures { result ≡ joined_laid (Err k) }
 {
-    let answer = lay::lay_c(CAnswer::Refused(number));
     Joined {
-        answer,
+        answer: lay::refusal_of(k),
         prefix: 0,
         suffix: 0,
         reference: 0,
@@ -140,9 +114,9 @@ pub fn join(
     reference_out: &mut [u8],
     alternative_out: &mut [u8],
 ) -> Joined
-    ensures value { result ≡ joined_laid (joined (lent head genome.now transcript.now letters.now exons.now) strict (paper_g_question q) (alleles reference.now alternative.now) (rooms (length reference_out.old) (length alternative_out.old))) }
-    ensures reference_out_after { reference_out.new ≡ reference_after reference_out.old (joined (lent head genome.now transcript.now letters.now exons.now) strict (paper_g_question q) (alleles reference.now alternative.now) (rooms (length reference_out.old) (length alternative_out.old))) }
-    ensures alternative_out_after { alternative_out.new ≡ alternative_after alternative_out.old (joined (lent head genome.now transcript.now letters.now exons.now) strict (paper_g_question q) (alleles reference.now alternative.now) (rooms (length reference_out.old) (length alternative_out.old))) }
+    ensures value { result ≡ joined_laid (joined (lent head genome.now transcript.now letters.now exons.now) strict q (alleles reference.now alternative.now) (rooms (length reference_out.old) (length alternative_out.old))) }
+    ensures reference_out_after { reference_out.new ≡ reference_after reference_out.old (joined (lent head genome.now transcript.now letters.now exons.now) strict q (alleles reference.now alternative.now) (rooms (length reference_out.old) (length alternative_out.old))) }
+    ensures alternative_out_after { alternative_out.new ≡ alternative_after alternative_out.old (joined (lent head genome.now transcript.now letters.now exons.now) strict q (alleles reference.now alternative.now) (rooms (length reference_out.old) (length alternative_out.old))) }
 {
     let told = mapper::g_to_c(head, genome, transcript, letters, exons, q, strict);
     let back = reads_back(head);
@@ -151,11 +125,12 @@ pub fn join(
     let a = strands::left(alternative, back, gone);
     let bases = are_both_bases(reference, alternative);
     let room = have_room(r.len(), reference_out.len(), a.len(), alternative_out.len());
-    let number = first_refusal(number_of(told), bases, room);
-    if number == 0 {
-        turn::put_on_strand(r, back, reference_out);
-        turn::put_on_strand(a, back, alternative_out);
-        return told_with(told, gone, r.len(), a.len());
+    match first_refusal(told, bases, room) {
+        Ok(()) => {
+            turn::put_on_strand(r, back, reference_out);
+            turn::put_on_strand(a, back, alternative_out);
+            told_with(told, gone, r.len(), a.len())
+        }
+        Err(k) => refused(k),
     }
-    refused(number)
 }

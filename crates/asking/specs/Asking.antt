@@ -1,19 +1,23 @@
 -- A question of one of the six mappings as one value, asked of what is lent. Assumes nothing.
 use Rattle.std.specs.Prelude.{ℕ, ◌/◌, ◌%◌, Bool, false, cond, List, eqb, ℤ, pos, if◌then◌else◌}
-use Rattle.refusals.specs.Numbers.{no_log}
-use Rattle.refusals.specs.Outcome.{Outcome, refused}
+use Rattle.refusals.specs.declared.Refusal.TheVariants.{NoLog}
+use Rattle.refusals.specs.Numbers.{number}
+use Rattle.refusals.specs.Outcome.{Outcome, Err, Ok}
 use Rattle.holding.specs.Holding.{Lent, checked}
 use Rattle.mapper.specs.Asking.{ask_g_to_n, ask_n_to_g, ask_n_to_c, ask_c_to_n, ask_g_to_c, ask_c_to_g}
 use Rattle.layout.specs.Layout.{star_of, g_laid, n_laid, c_laid, refusal, laid}
-use Rattle.taking.specs.Questions.{map_g_to_n, map_n_to_g, map_n_to_c, map_c_to_n, map_g_to_c, is_strict, g_of, n_of, c_of}
+use Rattle.taking.specs.Questions.{map_g_to_n, map_n_to_g, map_n_to_c, map_c_to_n, map_g_to_c, kind_of, is_strict, g_of, n_of, c_of}
 use Rattle.layout.specs.declared.lay.Answer.{Answer}
 use Rattle.taking.specs.declared.question.Question.{Question}
+use Rattle.taking.specs.declared.question.Kind.{Kind}
 use Rattle.canonical.specs.Canonical.{holdable}
 use Rattle.journal.specs.Logs.{appending}
 use Rattle.entries.specs.declared.Entry.{Entry}
-use Rattle.journal.specs.declared.Appended.{Appended}
-use Rattle.journal.specs.declared.Appended.TheVariants as appended
 use Rattle.asking.specs.declared.Recorded.{Recorded}
+
+-- its kind; 35 for a question that no entry can hold
+abbrev pub held_kind : Question → Outcome Kind
+held_kind q = if holdable q then kind_of q.kind else Err NoLog
 
 module _ (x : Lent) where
   -- the mapping that a question names, laid out; a kind above 5 names none and is refused before
@@ -28,7 +32,7 @@ module _ (x : Lent) where
 
   -- 35 first, for a question that no entry can hold
   unfoldable pub asked : Question → Answer
-  asked q = if holdable q then named q else refusal no_log
+  asked q = if holdable q then named q else refusal (number NoLog)
 
   -- the question and what is said to it
   abbrev pub recorded : Question → Entry
@@ -36,12 +40,12 @@ module _ (x : Lent) where
 
   -- what is put behind the bytes in use: 35 for such a question, then the log's own 35, 3 and 20
   unfoldable pub recording : Question → List ℕ → ℕ → Outcome (List ℕ)
-  recording q s used = if holdable q then appending s used (recorded q) else refused no_log
+  recording q s used = if holdable q then appending s used (recorded q) else Err NoLog
 
 -- as the boundary has it: where it is refused, all else is 0
-abbrev pub recorded_laid : Answer → Appended → Recorded
-recorded_laid a (appended.Length n) = record { number = 0; length = n; answer = a }
-recorded_laid a (appended.Refused k) = record { number = k; length = 0; answer = refusal 0 }
+abbrev pub recorded_laid : Answer → Outcome ℕ → Recorded
+recorded_laid a (Ok n) = record { number = 0; length = n; answer = a }
+recorded_laid a (Err k) = record { number = number k; length = 0; answer = refusal 0 }
 
 -- ---- the question that the arguments of an entry of the boundary make: kind, interval, strictness
 

@@ -4,15 +4,15 @@
 ghost use Rattle.std.specs.Prelude.{◌≡◌};
 ghost use Rattle.holding.specs.Holding.{lent};
 ghost use Rattle.journal.specs.Logs.{appended_of, log_after};
-ghost use Rattle.asking.specs.Asking.{named, asked, recording, recorded_laid};
+ghost use Rattle.asking.specs.Asking.{held_kind, named, asked, recording, recorded_laid};
+ghost use Rattle.taking.specs.Questions.{kind_of};
 
 use entries::Entry;
-use journal::Appended;
 use layout::lay;
 use layout::lay::Answer;
-use refusals::{MOST_SEGMENTS, MOST_STARTS, NO_LOG};
+use refusals::{MOST_SEGMENTS, MOST_STARTS, Refusal};
 use taking::question;
-use taking::question::{C_TO_N, G_TO_C, G_TO_N, N_TO_C, N_TO_G, Question};
+use taking::question::{Kind, Question};
 use transcript::Head;
 
 // What was said to a question, and how long the log is with it; all but the number is 0 where it is refused.
@@ -24,44 +24,57 @@ pub struct Recorded {
     pub answer: Answer,
 }
 
-// What the mapping says that a question names. Its interval is read in each unit, and the kind says which is meant.
+// The kind of a question; 35 where no entry of a log can hold it.
+fn held_kind(q: Question) -> Result<Kind, Refusal>
+    ensures { result ≡ held_kind q }
+{
+    if canonical::is_holdable(q) {
+        return Kind::try_from(q.kind);
+    }
+    Err(Refusal::NoLog)
+}
+
+// What the mapping says that a question of this kind names.
+#[tactic(auto, unfolding(crate::specs::Asking::named), using(canonical::proofs::KindNumbers::number_back))]
 fn answer_of(
     head: Head,
     genome: &[u32; MOST_STARTS],
     transcript: &[u32; MOST_STARTS],
     letters: &[u8; MOST_SEGMENTS],
     exons: &[u16; MOST_SEGMENTS],
+    kind: Kind,
     q: Question,
 ) -> Answer
+    requires { kind_of q.kind ≡ Ok kind }
     ensures { result ≡ named (lent head genome.now transcript.now letters.now exons.now) q }
 {
-    let kind = q.kind;
     let strict = question::is_strict(q);
-    let g = question::g_of(q);
-    let n = question::n_of(q);
-    let c = question::c_of(q);
-    if kind == G_TO_N {
-        let told = mapper::g_to_n(head, genome, transcript, letters, exons, g, strict);
-        return lay::lay_n(told);
+    match kind {
+        Kind::GToN => {
+            let g = question::g_of(q);
+            lay::lay(mapper::g_to_n(head, genome, transcript, letters, exons, g, strict))
+        }
+        Kind::NToG => {
+            let n = question::n_of(q);
+            lay::lay(mapper::n_to_g(head, genome, transcript, letters, exons, n, strict))
+        }
+        Kind::NToC => {
+            let n = question::n_of(q);
+            lay::lay_plain(mapper::n_to_c(head, genome, transcript, letters, exons, n, strict))
+        }
+        Kind::CToN => {
+            let c = question::c_of(q);
+            lay::lay_plain(mapper::c_to_n(head, genome, transcript, letters, exons, c, strict))
+        }
+        Kind::GToC => {
+            let g = question::g_of(q);
+            lay::lay(mapper::g_to_c(head, genome, transcript, letters, exons, g, strict))
+        }
+        Kind::CToG => {
+            let c = question::c_of(q);
+            lay::lay(mapper::c_to_g(head, genome, transcript, letters, exons, c, strict))
+        }
     }
-    if kind == N_TO_G {
-        let told = mapper::n_to_g(head, genome, transcript, letters, exons, n, strict);
-        return lay::lay_g(told);
-    }
-    if kind == N_TO_C {
-        let told = mapper::n_to_c(head, genome, transcript, letters, exons, n, strict);
-        return lay::lay_c_plain(told);
-    }
-    if kind == C_TO_N {
-        let told = mapper::c_to_n(head, genome, transcript, letters, exons, c, strict);
-        return lay::lay_n_plain(told);
-    }
-    if kind == G_TO_C {
-        let told = mapper::g_to_c(head, genome, transcript, letters, exons, g, strict);
-        return lay::lay_c(told);
-    }
-    let told = mapper::c_to_g(head, genome, transcript, letters, exons, c, strict);
-    lay::lay_g(told)
 }
 
 // What is said to a question: 35 first, where no entry of a log can hold it.
@@ -75,29 +88,27 @@ pub fn ask(
 ) -> Answer
     ensures { result ≡ asked (lent head genome.now transcript.now letters.now exons.now) q }
 {
-    if canonical::is_holdable(q) {
-        return answer_of(head, genome, transcript, letters, exons, q);
+    match held_kind(q) {
+        Ok(kind) => answer_of(head, genome, transcript, letters, exons, kind, q),
+        Err(k) => lay::refusal_of(k),
     }
-    lay::refusal_of(NO_LOG)
 }
 
-fn lay_recorded(answer: Answer, appended: Appended) -> Recorded
+// What was said, where the log has its entry; a refusal has neither.
+fn lay_recorded(answer: Answer, appended: Result<usize, Refusal>) -> Recorded
     ensures { result ≡ recorded_laid answer appended }
 {
     match appended {
-        Appended::Length(length) => Recorded {
+        Ok(length) => Recorded {
             number: 0,
             length,
             answer,
         },
-        Appended::Refused(k) => {
-            let none = lay::refusal_of(0);
-            Recorded {
-                number: k as u32,
-                length: 0,
-                answer: none,
-            }
-        }
+        Err(k) => Recorded {
+            number: u32::from(k.number()),
+            length: 0,
+            answer: lay::blank(),
+        },
     }
 }
 
@@ -115,13 +126,15 @@ pub fn record(
     ensures value { result ≡ recorded_laid (asked (lent head genome.now transcript.now letters.now exons.now) q) (appended_of used (recording (lent head genome.now transcript.now letters.now exons.now) q log.old used)) }
     ensures log_after { log.new ≡ log_after log.old used (recording (lent head genome.now transcript.now letters.now exons.now) q log.old used) }
 {
-    if canonical::is_holdable(q) {
-        let answer = answer_of(head, genome, transcript, letters, exons, q);
-        let entry = Entry {
-            question: q,
-            answer,
-        };
-        return lay_recorded(answer, journal::append(log, used, entry));
+    match held_kind(q) {
+        Ok(kind) => {
+            let answer = answer_of(head, genome, transcript, letters, exons, kind, q);
+            let entry = Entry {
+                question: q,
+                answer,
+            };
+            lay_recorded(answer, journal::append(log, used, entry))
+        }
+        Err(k) => lay_recorded(lay::blank(), Err(k)),
     }
-    lay_recorded(lay::refusal_of(0), Appended::Refused(NO_LOG))
 }

@@ -1,4 +1,5 @@
 -- What was judged and is no refusal: what was made, where its elements go, and its head. Assumes nothing.
+use Rattle.refusals.specs.Outcome.{Ok}
 use mathlib.Core.Path.{◌≡◌, refl, sym, ap, subst, ◌∙◌}
 use mathlib.Core.List.{List}
 use Prim.Native.Nat.{ℕ, ◌≤◌}
@@ -24,7 +25,6 @@ use Rattle.judging.specs.laws.Accepted.{Accepted, accepted_means, judged_sane, w
 use Rattle.transcript.specs.declared.Head.{Head}
 use Rattle.transcript.specs.declared.Numbers.{Numbers}
 use Rattle.reading.specs.declared.Sums.{Sums}
-use Rattle.reading.specs.declared.Tally.TheVariants as tally
 use Rattle.reading.proofs.laws.Counted.{all_count}
 use Rattle.reading.proofs.laws.Tallied.{either_strand}
 use Rattle.judging.specs.laws.Told.{Told}
@@ -55,8 +55,8 @@ module _ (n : Numbers) (s : List ℕ) (to : Sums) (p : Told (judge n s) to) wher
       let sane = judged_sane n s made p.judged in
       rw p.sums_are (record { few = sane.few; genome_small = omega (arith, sane.genome_small); transcript_small = sane.transcript_small })
 
-  pub told_all : tallied_all (exons_of (input_of n s).records) ≡ tally.Sums to
-  told_all = rw means.pass.on.were_read (ap tally.Sums (sym (p.sums_are ∙ either_strand made.forward made.exon_list)))
+  pub told_all : tallied_all (exons_of (input_of n s).records) ≡ Ok to
+  told_all = rw means.pass.on.were_read (ap Ok (sym (p.sums_are ∙ either_strand made.forward made.exon_list)))
 
   pub forward_is : eq_z n.strand (pos 1) ≡ made.forward
   forward_is = ap (λ (z : ℤ). eq_z z (pos 1)) means.pass.strand_is ∙ plus_is made.forward

@@ -1,14 +1,12 @@
 -- What building answers, and what it leaves in the lent tables. Assumes nothing.
 use Rattle.std.specs.Prelude.{ℕ, List, pos, length}
 use Rattle.refusals.specs.Numbers.{most_segments}
-use Rattle.refusals.specs.Outcome.{Outcome, answered, refused}
+use Rattle.refusals.specs.Outcome.{Outcome, Ok, Err}
 use Rattle.transcript.specs.Building.{first_start, numbers_of}
 use Rattle.judging.specs.Judging.{Made, Measured, elements_made}
 use Rattle.transcript.specs.Heads.{strand_of, bits_of, start_in, end_in}
 use Rattle.segments.specs.Tables.{Tables, padded, tables_of}
 use Rattle.transcript.specs.declared.Head.{Head}
-use Rattle.transcript.specs.declared.Built.{Built}
-use Rattle.transcript.specs.declared.Built.TheVariants as answer
 
 -- ---- the head
 
@@ -42,20 +40,20 @@ length_head m = record {
 
 -- ---- the answer: the refusal's number, or the head
 
-abbrev pub built_answer : Outcome Made → Built
-built_answer (refused k) = answer.Refused k
-built_answer (answered m) = answer.Transcript (head_of m)
+abbrev pub built_answer : Outcome Made → Outcome Head
+built_answer (Err k) = Err k
+built_answer (Ok m) = Ok (head_of m)
 
-abbrev pub length_answer : Outcome Measured → Built
-length_answer (refused k) = answer.Refused k
-length_answer (answered m) = answer.Transcript (length_head m)
+abbrev pub length_answer : Outcome Measured → Outcome Head
+length_answer (Err k) = Err k
+length_answer (Ok m) = Ok (length_head m)
 
 -- ---- the tables afterwards: those of the elements, and of their exon numbers, or, after a refusal, as they were
 
 abbrev pub tables_after : Outcome Made → Tables → Tables
-tables_after (refused k) was = was
-tables_after (answered m) was = tables_of (elements_made m)
+tables_after (Err k) was = was
+tables_after (Ok m) was = tables_of (elements_made m)
 
 abbrev pub exons_after : Outcome Made → List ℕ → List ℕ
-exons_after (refused k) was = was
-exons_after (answered m) was = padded most_segments (numbers_of m.forward m.exon_list)
+exons_after (Err k) was = was
+exons_after (Ok m) was = padded most_segments (numbers_of m.forward m.exon_list)

@@ -3,20 +3,20 @@ ghost use Rattle.std.specs.Prelude.{◌≡◌, pos, nat_abs};
 ghost use Rattle.judging.specs.Judging.{length_fault, judge_length};
 ghost use Rattle.building.specs.Afterwards.{length_answer};
 
-use refusals::{BAD_BOUND, MOST_BASES, NOT_TOGETHER, TOO_LONG};
-use transcript::{BOTH_BITS, Built, Head, OF_LENGTH};
+use refusals::{MOST_BASES, Refusal};
+use transcript::{BOTH_BITS, Head, OF_LENGTH};
 
 // 4 and 9.
-fn length_fault(length: i64) -> u8
+fn length_fault(length: i64) -> Result<(), Refusal>
     ensures { result ≡ length_fault length }
 {
     if length < 0 {
-        return BAD_BOUND;
+        return Err(Refusal::BadBound);
     }
     if length > MOST_BASES as i64 {
-        return TOO_LONG;
+        return Err(Refusal::TooLong);
     }
-    0
+    Ok(())
 }
 
 // A length that is not negative.
@@ -27,27 +27,18 @@ fn bases_of(length: i32) -> u64
     length as u64
 }
 
-// The transcript of a length: its head, or the number of a refusal.
-pub fn build_length(length: i32, cds: u32, start: i32, end: i32) -> Built
+// The transcript of a length: its head, or a refusal.
+pub fn build_length(length: i32, cds: u32, start: i32, end: i32) -> Result<Head, Refusal>
     ensures { result ≡ length_answer (judge_length length cds start end) }
 {
     if cds > BOTH_BITS {
-        return Built::Refused(NOT_TOGETHER);
+        return Err(Refusal::NotTogether);
     }
-    let fault = length_fault(length as i64);
-    if fault != 0 {
-        return Built::Refused(fault);
-    }
+    length_fault(i64::from(length))?;
     let from = transcript::start_of(cds, start);
     let to = transcript::end_of(cds, end);
-    let half = judging::half_fault(from, to);
-    if half != 0 {
-        return Built::Refused(half);
-    }
-    let outside = judging::cds_fault(from, to, bases_of(length));
-    if outside != 0 {
-        return Built::Refused(outside);
-    }
+    judging::half_fault(from, to)?;
+    judging::cds_fault(from, to, bases_of(length))?;
     let bare = Head {
         kind: OF_LENGTH,
         strand: 0,
@@ -59,5 +50,5 @@ pub fn build_length(length: i32, cds: u32, start: i32, end: i32) -> Built
         length,
         records: 0,
     };
-    Built::Transcript(transcript::with_cds(bare, cds, start, end))
+    Ok(transcript::with_cds(bare, cds, start, end))
 }

@@ -11,10 +11,10 @@ ghost use Rattle.segments.specs.Tables.{tables};
 ghost use Rattle.filling.specs.Filling.{Long};
 ghost use Rattle.building.specs.Afterwards.{built_answer, tables_after, exons_after};
 
-use reading::{Sums, Tally};
+use reading::Sums;
 use records::ALT_START;
-use refusals::{MOST_SEGMENTS, MOST_STARTS};
-use transcript::{Built, Head, Numbers, OF_RECORDS};
+use refusals::{MOST_SEGMENTS, MOST_STARTS, Refusal};
+use transcript::{Head, Numbers, OF_RECORDS};
 
 pub mod length_only;
 
@@ -49,33 +49,28 @@ fn build_into(
     transcript: &mut [u32],
     letters: &mut [u8],
     exons: &mut [u16],
-) -> Built
+) -> Result<Head, Refusal>
     requires { Long (tables genome.old transcript.old letters.old) × (length exons.old ≡ most_segments) }
     ensures value { result ≡ built_answer (judge numbers s.now) }
     ensures letters_after { tables genome.new transcript.new letters.new ≡ tables_after (judge numbers s.now) (tables genome.old transcript.old letters.old) }
     ensures exons_after { exons.new ≡ exons_after (judge numbers s.now) exons.old }
 {
-    match judging::judge(numbers, s) {
-        Tally::Sums(to) => {
-            let strand = numbers.strand;
-            let forward = strand == 1;
-            filling::write_tables(
-                forward,
-                numbers.count,
-                s,
-                to,
-                genome,
-                transcript,
-                letters,
-                exons,
-            );
-            Built::Transcript(head_of(numbers, s, to))
-        }
-        Tally::Refused(k) => Built::Refused(k),
-    }
+    let to = judging::judge(numbers, s)?;
+    let forward = numbers.strand == 1;
+    filling::write_tables(
+        forward,
+        numbers.count,
+        s,
+        to,
+        genome,
+        transcript,
+        letters,
+        exons,
+    );
+    Ok(head_of(numbers, s, to))
 }
 
-// The transcript that records make: its head, with its tables in the lent memory, or the number of a refusal, which leaves them as they are.
+// The transcript that records make: its head, with its tables in the lent memory, or a refusal, which leaves them as they are.
 pub fn build(
     numbers: Numbers,
     records: &[u8],
@@ -83,7 +78,7 @@ pub fn build(
     transcript: &mut [u32; MOST_STARTS],
     letters: &mut [u8; MOST_SEGMENTS],
     exons: &mut [u16; MOST_SEGMENTS],
-) -> Built
+) -> Result<Head, Refusal>
     ensures value { result ≡ built_answer (judge numbers records.now) }
     ensures letters_after { tables genome.new transcript.new letters.new ≡ tables_after (judge numbers records.now) (tables genome.old transcript.old letters.old) }
     ensures exons_after { exons.new ≡ exons_after (judge numbers records.now) exons.old }

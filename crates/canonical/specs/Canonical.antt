@@ -1,11 +1,15 @@
 -- The questions and answers that an entry can hold. Every other entry is 35: `holdable` and `sayable` have the reasons one by one, and there is no other.
 -- Assumes nothing.
 use Rattle.std.specs.Prelude.{ℕ, Bool, true, ◌&&◌, ◌||◌, List, [], ◌∷◌, eqb, ltb, leb, ℤ, pos, if◌then◌else◌}
-use Rattle.refusals.specs.Numbers.{not_coding, outside, n_outside, c_outside, too_wide, no_genome, missing_end, not_together}
-use Rattle.refusals.specs.Refusing.{one_of}
+use Rattle.std.specs.List.{list_any}
+use Rattle.refusals.specs.declared.Refusal.{Refusal}
+use Rattle.refusals.specs.declared.Refusal.TheVariants.{NotCoding, Outside, NOutside, COutside, TooWide, NoGenome, MissingEnd, NotTogether}
+use Rattle.refusals.specs.Numbers.{number}
 use Rattle.whole.specs.Whole.{eq_z}
 use Rattle.taking.specs.Questions.{map_g_to_n, map_n_to_g, map_n_to_c, map_c_to_n, map_g_to_c, map_c_to_g, from_g, from_c, to_g, to_c, is_plain, is_star, is_missing}
 use Rattle.taking.specs.declared.question.Question.{Question}
+use Rattle.taking.specs.declared.question.Kind.{Kind}
+use Rattle.taking.specs.declared.question.Kind.TheVariants.{GToN, NToG, NToC, CToN, GToC, CToG}
 use Rattle.layout.specs.declared.lay.Position.{Position}
 use Rattle.layout.specs.declared.lay.Answer.{Answer}
 use Rattle.entries.specs.declared.Entry.{Entry}
@@ -17,6 +21,15 @@ is_zero z = eq_z z (pos 0)
 infix 40 ◌only◌
 abbrev pub ◌only◌ : Bool → Bool → Bool
 a only b = if a then b else true
+
+-- the number of a kind
+abbrev pub kind_number : Kind → ℕ
+kind_number GToN = map_g_to_n
+kind_number NToG = map_n_to_g
+kind_number NToC = map_n_to_c
+kind_number CToN = map_c_to_n
+kind_number GToC = map_g_to_c
+kind_number CToG = map_c_to_g
 
 -- ---- a question
 
@@ -44,14 +57,18 @@ holdable q =
 -- ---- what is said to it
 
 -- the refusals that a kind can give, strict or not
-unfoldable pub refusals_of : ℕ → List ℕ
+unfoldable pub refusals_of : ℕ → List Refusal
 refusals_of kind =
-    if eqb kind map_g_to_n then outside ∷ too_wide ∷ no_genome ∷ missing_end ∷ not_together ∷ []
-    else if eqb kind map_n_to_g then outside ∷ too_wide ∷ no_genome ∷ not_together ∷ []
-    else if eqb kind map_n_to_c then not_coding ∷ n_outside ∷ too_wide ∷ not_together ∷ []
-    else if eqb kind map_c_to_n then not_coding ∷ c_outside ∷ too_wide ∷ not_together ∷ []
-    else if eqb kind map_g_to_c then not_coding ∷ outside ∷ n_outside ∷ too_wide ∷ no_genome ∷ missing_end ∷ not_together ∷ []
-    else not_coding ∷ c_outside ∷ too_wide ∷ no_genome ∷ not_together ∷ []
+    if eqb kind map_g_to_n then Outside ∷ TooWide ∷ NoGenome ∷ MissingEnd ∷ NotTogether ∷ []
+    else if eqb kind map_n_to_g then Outside ∷ TooWide ∷ NoGenome ∷ NotTogether ∷ []
+    else if eqb kind map_n_to_c then NotCoding ∷ NOutside ∷ TooWide ∷ NotTogether ∷ []
+    else if eqb kind map_c_to_n then NotCoding ∷ COutside ∷ TooWide ∷ NotTogether ∷ []
+    else if eqb kind map_g_to_c then NotCoding ∷ Outside ∷ NOutside ∷ TooWide ∷ NoGenome ∷ MissingEnd ∷ NotTogether ∷ []
+    else NotCoding ∷ COutside ∷ TooWide ∷ NoGenome ∷ NotTogether ∷ []
+
+-- a number is that of one of ks
+abbrev pub is_number_of : ℕ → List Refusal → Bool
+is_number_of n ks = list_any (λ k. eqb n (number k)) ks
 
 -- the tags, which are an answer's marks: refused, certain, uncertain, unmarked
 abbrev pub refused_tag : ℕ
@@ -91,7 +108,7 @@ is_nowhere p = is_zero p.base && is_zero p.offset && eqb p.star 0 && eqb p.exon 
 -- what may stand beside a question of a kind. 35: a refusal that the kind cannot give, or an answer beside it; a tag above 3 or not of the kind; a refusal beside an answer
 unfoldable pub sayable : ℕ → Answer → Bool
 sayable kind a =
-    if eqb a.mark refused_tag then one_of a.number (refusals_of kind) && is_nowhere a.start && is_nowhere a.end
+    if eqb a.mark refused_tag then is_number_of a.number (refusals_of kind) && is_nowhere a.start && is_nowhere a.end
     else tag_of_kind kind a.mark && eqb a.number 0 && end_sayable kind a.start && end_sayable kind a.end
 
 unfoldable pub canonical : Entry → Bool

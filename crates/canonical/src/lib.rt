@@ -2,22 +2,19 @@
 #![tactic(auto)]
 
 ghost use Rattle.std.specs.Prelude.{◌≡◌};
-ghost use Rattle.refusals.specs.Refusing.{one_of};
 ghost use Rattle.taking.specs.Questions.{from_g, from_c, to_g, to_c, is_plain};
-ghost use Rattle.canonical.specs.Canonical.{is_zero, ◌only◌, end_holdable, holdable, refusals_of, tag_of_kind, exon_of_kind, end_sayable, is_nowhere, sayable, canonical};
+ghost use Rattle.canonical.specs.Canonical.{kind_number, ◌only◌, end_holdable, holdable, refusals_of, is_number_of, tag_of_kind, exon_of_kind, end_sayable, is_nowhere, sayable, canonical};
 
 use entries::Entry;
 use layout::lay::{Answer, Position};
-use refusals::{
-    C_OUTSIDE, MISSING_END, N_OUTSIDE, NO_GENOME, NOT_CODING, NOT_TOGETHER, OUTSIDE, TOO_WIDE,
-};
+use refusals::Refusal;
 use taking::question;
-use taking::question::{C_TO_G, C_TO_N, G_TO_C, G_TO_N, N_TO_C, N_TO_G, Question};
+use taking::question::{Kind, Question};
 
-// Star and missing together.
+// Star and missing together, two bits of a number, since the C interface and a log have them so.
 const BOTH_MARKS: u32 = 3;
 
-// The tags, which are an answer's marks.
+// The tags, which are an answer's marks: numbers, since the C interface and a log have them so.
 const REFUSED: u32 = 0;
 
 const CERTAIN: u32 = 1;
@@ -26,41 +23,35 @@ const UNCERTAIN: u32 = 2;
 
 const UNMARKED: u32 = 3;
 
-fn from_g(kind: u32) -> bool
-    ensures { result ≡ from_g kind }
+fn from_g(kind: Kind) -> bool
+    ensures { result ≡ from_g (kind_number kind) }
 {
-    (kind == G_TO_N) | (kind == G_TO_C)
+    matches!(kind, Kind::GToN | Kind::GToC)
 }
 
-fn from_c(kind: u32) -> bool
-    ensures { result ≡ from_c kind }
+fn from_c(kind: Kind) -> bool
+    ensures { result ≡ from_c (kind_number kind) }
 {
-    (kind == C_TO_N) | (kind == C_TO_G)
+    matches!(kind, Kind::CToN | Kind::CToG)
 }
 
-fn to_g(kind: u32) -> bool
-    ensures { result ≡ to_g kind }
+fn to_g(kind: Kind) -> bool
+    ensures { result ≡ to_g (kind_number kind) }
 {
-    (kind == N_TO_G) | (kind == C_TO_G)
+    matches!(kind, Kind::NToG | Kind::CToG)
 }
 
-fn to_c(kind: u32) -> bool
-    ensures { result ≡ to_c kind }
+fn to_c(kind: Kind) -> bool
+    ensures { result ≡ to_c (kind_number kind) }
 {
-    (kind == N_TO_C) | (kind == G_TO_C)
+    matches!(kind, Kind::NToC | Kind::GToC)
 }
 
 // Whether a kind is n. to c. or back.
-fn is_plain(kind: u32) -> bool
-    ensures { result ≡ is_plain kind }
+fn is_plain(kind: Kind) -> bool
+    ensures { result ≡ is_plain (kind_number kind) }
 {
-    (kind == N_TO_C) | (kind == C_TO_N)
-}
-
-fn is_zero(z: i32) -> bool
-    ensures { result ≡ is_zero z }
-{
-    z == 0
+    matches!(kind, Kind::NToC | Kind::CToN)
 }
 
 // Whether a holds only where b does.
@@ -74,84 +65,74 @@ fn only(a: bool, b: bool) -> bool
 }
 
 // Whether an entry can hold an end of a question: its marks, its number and its offset.
-fn is_end_holdable(kind: u32, marks: u32, base: i32, offset: i32) -> bool
-    ensures { result ≡ end_holdable kind marks base offset }
+#[tactic(auto, unfolding(crate::specs::Canonical::end_holdable))]
+fn is_end_holdable(kind: Kind, marks: u32, base: i32, offset: i32) -> bool
+    ensures { result ≡ end_holdable (kind_number kind) marks base offset }
 {
     let in_g = from_g(kind);
     let missing = question::is_missing(marks);
     (marks <= BOTH_MARKS)
         & only(question::is_star(marks), from_c(kind))
         & only(missing, in_g)
-        & only(in_g, is_zero(offset))
-        & only(missing, is_zero(base))
+        & only(in_g, offset == 0)
+        & only(missing, base == 0)
 }
 
 // Whether an entry can hold a question.
+#[tactic(auto, unfolding(crate::specs::Canonical::holdable))]
 pub fn is_holdable(q: Question) -> bool
     ensures { result ≡ holdable q }
 {
-    (q.kind <= C_TO_G)
-        & (q.strict <= 1)
-        & is_end_holdable(q.kind, q.start_marks, q.start, q.start_offset)
-        & is_end_holdable(q.kind, q.end_marks, q.end, q.end_offset)
+    let Ok(kind) = Kind::try_from(q.kind) else {
+        return false;
+    };
+    (q.strict <= 1)
+        & is_end_holdable(kind, q.start_marks, q.start, q.start_offset)
+        & is_end_holdable(kind, q.end_marks, q.end, q.end_offset)
 }
 
-// Whether a number stands in a list.
-fn is_listed(n: u32, list: &[u8]) -> bool
-    ensures { result ≡ one_of n list.now }
+// Whether a number is that of a refusal in a list.
+fn is_listed(n: u32, refusals: &[Refusal]) -> bool
+    ensures { result ≡ is_number_of n refusals.now }
 {
-    let mut i = 0;
-    while i < list.len() {
-        if n == fields::u8_at(list, i) {
-            return true;
-        }
-        i += 1;
-    }
-    false
+    refusals
+        .iter()
+        .any(|refusal| n == u32::from(refusal.number()))
 }
 
-// Whether a kind can give a refusal.
-fn can_refuse(kind: u32, refusal: u32) -> bool
-    ensures { result ≡ one_of refusal (refusals_of kind) }
+// Whether a kind can give the refusal of a number.
+#[tactic(auto, unfolding(crate::specs::Canonical::refusals_of))]
+fn can_refuse(kind: Kind, n: u32) -> bool
+    ensures { result ≡ is_number_of n (refusals_of (kind_number kind)) }
 {
-    if kind == G_TO_N {
-        return is_listed(
-            refusal,
-            &[OUTSIDE, TOO_WIDE, NO_GENOME, MISSING_END, NOT_TOGETHER],
-        );
-    }
-    if kind == N_TO_G {
-        return is_listed(refusal, &[OUTSIDE, TOO_WIDE, NO_GENOME, NOT_TOGETHER]);
-    }
-    if kind == N_TO_C {
-        return is_listed(refusal, &[NOT_CODING, N_OUTSIDE, TOO_WIDE, NOT_TOGETHER]);
-    }
-    if kind == C_TO_N {
-        return is_listed(refusal, &[NOT_CODING, C_OUTSIDE, TOO_WIDE, NOT_TOGETHER]);
-    }
-    if kind == G_TO_C {
-        return is_listed(
-            refusal,
+    use Refusal::{
+        COutside, MissingEnd, NOutside, NoGenome, NotCoding, NotTogether, Outside, TooWide,
+    };
+    match kind {
+        Kind::GToN => is_listed(n, &[Outside, TooWide, NoGenome, MissingEnd, NotTogether]),
+        Kind::NToG => is_listed(n, &[Outside, TooWide, NoGenome, NotTogether]),
+        Kind::NToC => is_listed(n, &[NotCoding, NOutside, TooWide, NotTogether]),
+        Kind::CToN => is_listed(n, &[NotCoding, COutside, TooWide, NotTogether]),
+        Kind::GToC => is_listed(
+            n,
             &[
-                NOT_CODING,
-                OUTSIDE,
-                N_OUTSIDE,
-                TOO_WIDE,
-                NO_GENOME,
-                MISSING_END,
-                NOT_TOGETHER,
+                NotCoding,
+                Outside,
+                NOutside,
+                TooWide,
+                NoGenome,
+                MissingEnd,
+                NotTogether,
             ],
-        );
+        ),
+        Kind::CToG => is_listed(n, &[NotCoding, COutside, TooWide, NoGenome, NotTogether]),
     }
-    is_listed(
-        refusal,
-        &[NOT_CODING, C_OUTSIDE, TOO_WIDE, NO_GENOME, NOT_TOGETHER],
-    )
 }
 
 // Whether an answer's tag is one of the kind.
-fn is_tag_of_kind(kind: u32, tag: u32) -> bool
-    ensures { result ≡ tag_of_kind kind tag }
+#[tactic(auto, unfolding(crate::specs::Canonical::tag_of_kind))]
+fn is_tag_of_kind(kind: Kind, tag: u32) -> bool
+    ensures { result ≡ tag_of_kind (kind_number kind) tag }
 {
     if is_plain(kind) {
         return tag == UNMARKED;
@@ -160,8 +141,9 @@ fn is_tag_of_kind(kind: u32, tag: u32) -> bool
 }
 
 // Whether an answer of the kind can have an exon's number.
-fn is_exon_of_kind(kind: u32, exon: u32) -> bool
-    ensures { result ≡ exon_of_kind kind exon }
+#[tactic(auto, unfolding(crate::specs::Canonical::exon_of_kind))]
+fn is_exon_of_kind(kind: Kind, exon: u32) -> bool
+    ensures { result ≡ exon_of_kind (kind_number kind) exon }
 {
     if is_plain(kind) {
         return exon == 0;
@@ -170,25 +152,28 @@ fn is_exon_of_kind(kind: u32, exon: u32) -> bool
 }
 
 // Whether a position can be an end of an answer.
-fn is_end_sayable(kind: u32, p: Position) -> bool
-    ensures { result ≡ end_sayable kind p }
+#[tactic(auto, unfolding(crate::specs::Canonical::end_sayable))]
+fn is_end_sayable(kind: Kind, p: Position) -> bool
+    ensures { result ≡ end_sayable (kind_number kind) p }
 {
     (p.star <= 1)
         & only(p.star == 1, to_c(kind))
-        & only(to_g(kind), is_zero(p.offset))
+        & only(to_g(kind), p.offset == 0)
         & is_exon_of_kind(kind, p.exon)
 }
 
 // Whether there is no position, as beside a refusal.
+#[tactic(auto, unfolding(crate::specs::Canonical::is_nowhere))]
 fn is_nowhere(p: Position) -> bool
     ensures { result ≡ is_nowhere p }
 {
-    is_zero(p.base) & is_zero(p.offset) & (p.star == 0) & (p.exon == 0)
+    (p.base == 0) & (p.offset == 0) & (p.star == 0) & (p.exon == 0)
 }
 
 // Whether an answer or a refusal can stand beside a question of a kind.
-fn is_sayable(kind: u32, a: Answer) -> bool
-    ensures { result ≡ sayable kind a }
+#[tactic(auto, unfolding(crate::specs::Canonical::sayable))]
+fn is_sayable(kind: Kind, a: Answer) -> bool
+    ensures { result ≡ sayable (kind_number kind) a }
 {
     if a.mark == REFUSED {
         return can_refuse(kind, a.number) & is_nowhere(a.start) & is_nowhere(a.end);
@@ -200,9 +185,12 @@ fn is_sayable(kind: u32, a: Answer) -> bool
 }
 
 // Whether a log can hold an entry.
+#[tactic(auto, unfolding(crate::specs::Canonical::canonical, crate::specs::Canonical::holdable))]
 pub fn is_canonical(e: Entry) -> bool
     ensures { result ≡ canonical e }
 {
-    let question = e.question;
-    is_holdable(question) & is_sayable(question.kind, e.answer)
+    let Ok(kind) = Kind::try_from(e.question.kind) else {
+        return false;
+    };
+    is_holdable(e.question) & is_sayable(kind, e.answer)
 }

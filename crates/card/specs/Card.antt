@@ -1,18 +1,15 @@
 -- A card: what building's input is written as, and what bytes read as. Assumes nothing.
-use Rattle.std.specs.Prelude.{ℕ, ◌+◌, ◌*◌, Bool, ◌&&◌, not, List, [], ◌∷◌, ◌++◌, eqb, ltb, leb, ℤ, pos, length, get_or, drop, if◌then◌else◌}
-use Rattle.refusals.specs.Numbers.{too_much, no_card, bad_version, most_card}
-use Rattle.refusals.specs.Outcome.{Outcome, answered, refused}
+use Rattle.std.specs.Prelude.{ℕ, ◌+◌, ◌*◌, Bool, ◌&&◌, not, List, [], ◌∷◌, ◌++◌, eqb, ltb, leb, ℤ, pos, length, get_or, drop, if◌then◌else◌, Some, None, Option}
+use Rattle.refusals.specs.Numbers.{most_card}
+use Rattle.refusals.specs.declared.Refusal.TheVariants.{TooMuch, NoCard, BadVersion}
+use Rattle.refusals.specs.Outcome.{Outcome, Ok, Err}
 use Rattle.whole.specs.Whole.{eq_z}
 use Rattle.fields.specs.Fields.{le16, bytes16, bytes32, bits32}
 use Rattle.records.specs.Records.{Record, field_at, record_text, exactly}
 use Rattle.transcript.specs.Heads.{both_bits, start_of, end_of, strand_of, number_of}
-use Rattle.transcript.specs.declared.Bound.{Bound}
-use Rattle.transcript.specs.declared.Bound.TheVariants.{Given, Absent}
 use Rattle.transcript.specs.declared.Numbers.{Numbers}
 use Rattle.judging.specs.Input.{Input, input_of}
 use Rattle.card.specs.Layout.{mark, version, version_at, strand_at, cds_at, start_at, end_at, count_at, records_at}
-use Rattle.card.specs.declared.ReadCard.{ReadCard}
-use Rattle.card.specs.declared.ReadCard.TheVariants as read
 
 -- ---- writing
 
@@ -21,11 +18,11 @@ abbrev pub strand_byte : ℤ → ℕ
 strand_byte z = if eq_z z (pos 1) then 0 else 1
 
 -- bit 0 start given, bit 1 end given
-abbrev pub given_bit : Bound → ℕ
-given_bit (Given z) = 1
-given_bit Absent = 0
+abbrev pub given_bit : Option ℤ → ℕ
+given_bit (Some z) = 1
+given_bit None = 0
 
-abbrev pub cds_byte : Bound → Bound → ℕ
+abbrev pub cds_byte : Option ℤ → Option ℤ → ℕ
 cds_byte start end = given_bit start + 2 * given_bit end
 
 -- records, one after the other
@@ -34,7 +31,7 @@ records_text [] = []
 records_text (r ∷ rs) = record_text r ++ records_text rs
 
 -- what stands before n records
-unfoldable pub header_text : ℤ → Bound → Bound → ℕ → List ℕ
+unfoldable pub header_text : ℤ → Option ℤ → Option ℤ → ℕ → List ℕ
 header_text strand start end n =
     mark
     ++ bytes16 version
@@ -78,13 +75,13 @@ is_card s =
     && exactly (le16 s count_at) (drop records_at s) 0)))
 
 -- document 01's order: 3 (size), 21 (under 5 bytes or wrong mark), 22, 21 (all else)
-unfoldable pub read_card : List ℕ → ReadCard
+unfoldable pub read_card : List ℕ → Outcome Numbers
 read_card s =
-    if ltb most_card (length s) then read.Refused too_much
-    else if not (is_marked s) then read.Refused no_card
-    else if not (eqb (le16 s version_at) version) then read.Refused bad_version
-    else if not (is_card s) then read.Refused no_card
-    else read.Card (numbers_in s)
+    if ltb most_card (length s) then Err TooMuch
+    else if not (is_marked s) then Err NoCard
+    else if not (eqb (le16 s version_at) version) then Err BadVersion
+    else if not (is_card s) then Err NoCard
+    else Ok (numbers_in s)
 
 -- ---- what a card says
 
@@ -93,9 +90,9 @@ abbrev pub input_in : List ℕ → Numbers → Input
 input_in s n = input_of n (drop records_at s)
 
 -- an input, or the number of a refusal
-abbrev pub said : List ℕ → ReadCard → Outcome Input
-said s (read.Card m) = answered (input_in s m)
-said s (read.Refused k) = refused k
+abbrev pub said : List ℕ → Outcome Numbers → Outcome Input
+said s (Ok m) = Ok (input_in s m)
+said s (Err k) = Err k
 
 abbrev pub card_says : List ℕ → Outcome Input
 card_says s = said s (read_card s)

@@ -10,16 +10,13 @@ ghost use Rattle.transcript.specs.Heads.{strand_of};
 ghost use Rattle.segments.specs.Tables.{tables};
 ghost use Rattle.building.specs.Afterwards.{built_answer, tables_after, exons_after};
 ghost use Rattle.card.specs.Layout.{mark, version, start_at, records_at};
-ghost use Rattle.whole.specs.Whole.{eq_z};
 ghost use Rattle.fields.specs.Fields.{bytes16};
 ghost use Rattle.card.specs.Card.{strand_byte, given_bit, cds_byte, header_text, card_text, is_marked, numbers_in, are_plain, is_card, read_card};
 ghost use Rattle.judging.specs.Input.{input_of};
 ghost use Rattle.card.specs.Writing.{judge_card, card_writing};
 
-use reading::Tally;
-use refusals::{BAD_VERSION, MOST_CARD, MOST_SEGMENTS, MOST_STARTS, NO_CARD, NO_ROOM, TOO_MUCH};
-use spelling::Written;
-use transcript::{BOTH_BITS, Bound, Built, Numbers};
+use refusals::{MOST_CARD, MOST_SEGMENTS, MOST_STARTS, Refusal};
+use transcript::{BOTH_BITS, Head, Numbers};
 
 const VERSION: u32 = 1;
 
@@ -38,14 +35,6 @@ const COUNT_AT: usize = 15;
 
 pub const RECORDS_AT: usize = 17;
 
-// What bytes read as: the numbers of building's input, whose records are the card's bytes from RECORDS_AT on.
-#[derive(Clone, Copy)]
-pub enum ReadCard {
-    Card(Numbers),
-    // 3, 21 or 22.
-    Refused(u8),
-}
-
 // Writes the mark at the front.
 pub fn put_mark(buffer: &mut [u8])
     requires { 3 ≤ length buffer.old }
@@ -60,26 +49,14 @@ pub fn put_mark(buffer: &mut [u8])
 fn is_marked(card: &[u8]) -> bool
     ensures { result ≡ is_marked card.now }
 {
-    if card.len() < STRAND_AT {
-        return false;
-    }
-    if card[0] == b'T' {
-        if card[1] == b'X' {
-            return card[2] == b'C';
-        }
-        return false;
-    }
-    false
+    STRAND_AT <= card.len() && card.starts_with(b"TXC")
 }
 
 // The strand of a strand byte.
 fn strand_of(b: u8) -> i32
     ensures { result ≡ strand_of (eqb b 0) }
 {
-    if b == 0 {
-        return 1;
-    }
-    -1
+    if b == 0 { 1 } else { -1 }
 }
 
 // The numbers before the records.
@@ -101,26 +78,13 @@ fn read_numbers(card: &[u8]) -> Numbers
     }
 }
 
-// Whether two numbers are the same.
-fn is_same(a: i64, b: i64) -> bool
-    ensures { result ≡ eq_z a b }
-{
-    if a == b {
-        return true;
-    }
-    false
-}
-
 // Whether the number of a CDS bound that is not given is 0.
 fn are_plain(cds: u32, start: i32, end: i32) -> bool
     ensures { result ≡ are_plain cds start end }
 {
     let from = transcript::number_of(transcript::start_of(cds, start));
     let to = transcript::number_of(transcript::end_of(cds, end));
-    if is_same(from as i64, start as i64) {
-        return is_same(to as i64, end as i64);
-    }
-    false
+    from == start && to == end
 }
 
 // Whether bytes with the mark and the version are a card.
@@ -143,23 +107,24 @@ fn is_card(card: &[u8]) -> bool
     false
 }
 
-// The numbers of the input that a card holds, or a refusal.
-pub fn read_card(card: &[u8]) -> ReadCard
+// The numbers of the input that a card holds, whose records are its bytes from RECORDS_AT on, or a refusal: 3, 21 or 22.
+pub fn read_card(card: &[u8]) -> Result<Numbers, Refusal>
     ensures { result ≡ read_card card.now }
 {
     if MOST_CARD < card.len() {
-        return ReadCard::Refused(TOO_MUCH);
+        return Err(Refusal::TooMuch);
     }
-    if is_marked(card) {
-        if fields::u16_at(card, VERSION_AT) == VERSION {
-            if is_card(card) {
-                return ReadCard::Card(read_numbers(card));
-            }
-            return ReadCard::Refused(NO_CARD);
-        }
-        return ReadCard::Refused(BAD_VERSION);
+    if !is_marked(card) {
+        return Err(Refusal::NoCard);
     }
-    ReadCard::Refused(NO_CARD)
+    if fields::u16_at(card, VERSION_AT) != VERSION {
+        return Err(Refusal::BadVersion);
+    }
+    if is_card(card) {
+        Ok(read_numbers(card))
+    } else {
+        Err(Refusal::NoCard)
+    }
 }
 
 // The transcript that a card's input makes, or a refusal, which leaves the tables as they are.
@@ -169,17 +134,13 @@ pub fn build_card(
     transcript: &mut [u32; MOST_STARTS],
     letters: &mut [u8; MOST_SEGMENTS],
     exons: &mut [u16; MOST_SEGMENTS],
-) -> Built
+) -> Result<Head, Refusal>
     ensures value { result ≡ built_answer (judge_card card.now) }
     ensures letters_after { tables genome.new transcript.new letters.new ≡ tables_after (judge_card card.now) (tables genome.old transcript.old letters.old) }
     ensures exons_after { exons.new ≡ exons_after (judge_card card.now) exons.old }
 {
-    match read_card(card) {
-        ReadCard::Card(n) => {
-            building::build(n, &card[RECORDS_AT..], genome, transcript, letters, exons)
-        }
-        ReadCard::Refused(k) => Built::Refused(k),
-    }
+    let n = read_card(card)?;
+    building::build(n, &card[RECORDS_AT..], genome, transcript, letters, exons)
 }
 
 // Writes bytes from a place on.
@@ -187,35 +148,25 @@ fn put_bytes(buffer: &mut [u8], at: usize, bytes: &[u8])
     requires { at + length bytes.now ≤ length buffer.old }
     ensures { buffer.new ≡ sets buffer.old at bytes.now }
 {
-    let mut i = 0;
-    while i < bytes.len() {
-        buffer[at + i] = bytes[i];
-        i += 1;
-    }
+    buffer[at..at + bytes.len()].copy_from_slice(bytes);
 }
 
 // The byte of a strand.
 fn strand_byte(strand: i64) -> u8
     ensures { result ≡ strand_byte strand }
 {
-    if strand == 1 {
-        return 0;
-    }
-    1
+    if strand == 1 { 0 } else { 1 }
 }
 
 // Whether a bound is given, as a bit.
-fn given_bit(bound: Bound) -> u8
+fn given_bit(bound: Option<i32>) -> u8
     ensures { (result ≡ given_bit bound) × (result ≤ 1) }
 {
-    match bound {
-        Bound::Given(_) => 1,
-        Bound::Absent => 0,
-    }
+    u8::from(bound.is_some())
 }
 
 // The CDS byte.
-fn cds_byte(start: Bound, end: Bound) -> u8
+fn cds_byte(start: Option<i32>, end: Option<i32>) -> u8
     ensures { result ≡ cds_byte start end }
 {
     given_bit(start) + 2 * given_bit(end)
@@ -233,7 +184,7 @@ fn put_front(buffer: &mut [u8], strand: u8, cds: u8)
 }
 
 // Writes what stands before the records.
-fn put_header(buffer: &mut [u8], strand: i32, start: Bound, end: Bound, count: u32)
+fn put_header(buffer: &mut [u8], strand: i32, start: Option<i32>, end: Option<i32>, count: u32)
     requires { records_at ≤ length buffer.old }
     ensures { buffer.new ≡ sets buffer.old 0 (header_text strand start end count) }
 {
@@ -244,32 +195,30 @@ fn put_header(buffer: &mut [u8], strand: i32, start: Bound, end: Bound, count: u
 }
 
 // The card of records that stand in bytes, unless it is too large (3) or too long for the buffer (20).
-fn write_taken(numbers: Numbers, records: &[u8], buffer: &mut [u8]) -> Written
+fn write_taken(numbers: Numbers, records: &[u8], buffer: &mut [u8]) -> Result<usize, Refusal>
     requires { (numbers.count ≤ most_records) × (exactly numbers.count records.now 0 ≡ true) }
     ensures value { result ≡ written_answer (fitted most_card (length buffer.old) (card_text (input_of numbers records.now))) }
     ensures buffer_after { buffer.new ≡ buffer_after buffer.old (fitted most_card (length buffer.old) (card_text (input_of numbers records.now))) }
 {
     let size = RECORDS_AT + records.len();
     if MOST_CARD < size {
-        return Written::Refused(TOO_MUCH);
+        return Err(Refusal::TooMuch);
     }
     if buffer.len() < size {
-        return Written::Refused(NO_ROOM);
+        return Err(Refusal::NoRoom);
     }
     let from = transcript::start_of(numbers.cds, numbers.start);
     let to = transcript::end_of(numbers.cds, numbers.end);
     put_header(buffer, numbers.strand, from, to, numbers.count as u32);
     put_bytes(buffer, RECORDS_AT, records);
-    Written::Text(size)
+    Ok(size)
 }
 
 // The card of building's input at the front of a lent buffer, or a refusal, which leaves the buffer as it is.
-pub fn write_card(numbers: Numbers, records: &[u8], buffer: &mut [u8]) -> Written
+pub fn write_card(numbers: Numbers, records: &[u8], buffer: &mut [u8]) -> Result<usize, Refusal>
     ensures value { result ≡ written_answer (card_writing numbers records.now (length buffer.old)) }
     ensures buffer_after { buffer.new ≡ buffer_after buffer.old (card_writing numbers records.now (length buffer.old)) }
 {
-    match judging::judge(numbers, records) {
-        Tally::Sums(_) => write_taken(numbers, records, buffer),
-        Tally::Refused(k) => Written::Refused(k),
-    }
+    judging::judge(numbers, records)?;
+    write_taken(numbers, records, buffer)
 }

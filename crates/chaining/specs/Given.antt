@@ -1,26 +1,19 @@
 -- What a question is asked with: both ends of a g. interval, or 19; and whether there is a CDS to ask of. Assumes nothing.
-use Rattle.std.specs.Prelude.{Bool, true, false, ℤ}
-use Rattle.refusals.specs.Numbers.{missing_end}
-use Rattle.refusals.specs.Outcome.{Outcome, answered, refused}
+use Rattle.std.specs.Prelude.{Bool, true, false, ℤ, Some, None}
+use Rattle.refusals.specs.declared.Refusal.TheVariants.{MissingEnd}
+use Rattle.refusals.specs.Outcome.{Outcome, Ok, Err}
 use Rattle.transcript.specs.Transcript.{Cds}
 use Rattle.transcript.specs.Transcript.Cds.{no_cds, cds}
-use Rattle.positions.specs.Positions.{Interval, GAsked, at, missing}
-use Rattle.chaining.specs.declared.Given.{Given}
-use Rattle.chaining.specs.declared.Given.TheVariants as given_case
+use Rattle.positions.specs.Positions.{Interval, GAsked}
 
 -- the two ends of a g. interval, or 19 where one is missing
 abbrev pub given_ends : GAsked → GAsked → Outcome (Interval ℤ)
-given_ends (at a) (at b) = answered (record { from = a; to = b })
-given_ends (at a) missing = refused missing_end
-given_ends missing b = refused missing_end
+given_ends (Some a) (Some b) = Ok (record { from = a; to = b })
+given_ends (Some a) None = Err MissingEnd
+given_ends None b = Err MissingEnd
 
 abbrev pub given : Interval GAsked → Outcome (Interval ℤ)
 given q = given_ends q.from q.to
-
--- as the code holds them
-abbrev pub paper_given : Given → Outcome (Interval ℤ)
-paper_given (given_case.Ends a b) = answered (record { from = a; to = b })
-paper_given given_case.Missing = refused missing_end
 
 -- whether the transcript codes
 abbrev pub codes : Cds → Bool

@@ -2,46 +2,34 @@
 #![tactic(auto)]
 
 ghost use Rattle.std.specs.Prelude.{◌≡◌, ◌≤◌, get_or};
-ghost use Rattle.refusals.specs.Numbers.{no_genome, most_segments};
-ghost use Rattle.refusals.specs.Outcome.{and_then, through, Outcome.answered, Outcome.refused};
+ghost use Rattle.refusals.specs.Numbers.{most_segments};
+ghost use Rattle.refusals.specs.declared.Refusal.TheVariants.{NoGenome};
+ghost use Rattle.refusals.specs.Outcome.{and_then, through};
 ghost use Rattle.segments.specs.Tables.{tables};
 ghost use Rattle.positions.specs.Positions.{asks_n};
 ghost use Rattle.positions.specs.Answers.{chain};
-ghost use Rattle.positions.specs.Paper.{paper_g_question, paper_n_question, paper_c_question, paper_g, paper_n, paper_c, paper_n_plain, paper_c_plain, paper_said};
+ghost use Rattle.positions.specs.Paper.{paper_n_question, paper_c_question, paper_g, paper_n, paper_c, paper_n_plain, paper_c_plain};
 ghost use Rattle.coding.specs.Coding.{map_n_to_c, map_c_to_n};
 ghost use Rattle.spots.specs.Mapping.{map_g_to_n, map_n_to_g, lies_in_bounds};
 ghost use Rattle.spots.specs.Aligned.{aligned_by, Aligns};
-ghost use Rattle.chaining.specs.Given.{given, codes, paper_given};
+ghost use Rattle.chaining.specs.Given.{given, codes};
 ghost use Rattle.knowing.specs.Knowing.{paper_coding};
 
-use knowing::Coding;
+use knowing::Cds;
 use positions::{
-    CAnswer, CPlain, CQuestion, GAnswer, GAsked, GQuestion, NAnswer, NPlain, NQuestion, Said,
+    Answer, CPosition, CQuestion, GPosition, GQuestion, Interval, NPosition, NQuestion, Plain,
     fitting,
 };
-use refusals::{MISSING_END, MOST_SEGMENTS, MOST_STARTS, NO_GENOME, NOT_CODING};
+use refusals::{MOST_SEGMENTS, MOST_STARTS, Refusal};
 use spots::Alignment;
 
-// The two ends of a g. interval that are given, or the word that one is missing.
-#[derive(Clone, Copy)]
-pub enum Given {
-    Ends(i32, i32),
-    Missing,
-}
-
 // The two ends of a g. interval, where both are given; 19.
-pub fn both_ends(q: GQuestion) -> Given
-    ensures { paper_given result ≡ given (paper_g_question q) }
+pub fn both_ends(q: GQuestion) -> Result<Interval<i32>, Refusal>
+    ensures { result ≡ given q }
 {
-    let a = q.from;
-    let b = q.to;
-    match a {
-        GAsked::At(from) => match b {
-            GAsked::At(to) => Given::Ends(from, to),
-            GAsked::Missing => Given::Missing,
-        },
-        GAsked::Missing => Given::Missing,
-    }
+    let from = q.from.ok_or(Refusal::MissingEnd)?;
+    let to = q.to.ok_or(Refusal::MissingEnd)?;
+    Ok(Interval { from, to })
 }
 
 // g. to n.: 19, 14, 17.
@@ -53,110 +41,89 @@ pub fn g_to_n(
     exons: &[u16; MOST_SEGMENTS],
     q: GQuestion,
     strict: bool,
-) -> NAnswer
+) -> Answer<NPosition>
     requires { Aligns at (tables genome.now transcript.now letters.now) }
-    ensures { paper_n result ≡ and_then (given (paper_g_question q)) (map_g_to_n strict (aligned_by at (tables genome.now transcript.now letters.now) exons.now)) }
+    ensures { paper_n result ≡ and_then (given q) (map_g_to_n strict (aligned_by at (tables genome.now transcript.now letters.now) exons.now)) }
 {
-    match both_ends(q) {
-        Given::Ends(from, to) => places::to_n(
-            at, genome, transcript, letters, exons, from, to, strict,
-        ),
-        Given::Missing => NAnswer::Refused(MISSING_END),
-    }
+    let ends = both_ends(q)?;
+    places::to_n(
+        at, genome, transcript, letters, exons, ends.from, ends.to, strict,
+    )
 }
 
 // n. to c. of a transcript of that length: 13, 15, 17.
-pub fn n_to_c(length: u32, cds: Coding, q: NQuestion, strict: bool) -> CPlain
+#[tactic(auto, unfolding(coding::specs::Coding::map_n_to_c, coding::specs::Coding::c_of_interval))]
+pub fn n_to_c(length: u32, cds: Option<Cds>, q: NQuestion, strict: bool) -> Plain<CPosition>
     ensures { paper_c_plain result ≡ map_n_to_c strict length (paper_coding cds) (paper_n_question q) }
 {
-    match cds {
-        Coding::Cds(s, e) => coding::to_c(strict, length, s, e, q),
-        Coding::Missing => CPlain::Refused(NOT_CODING),
-    }
+    let c = cds.ok_or(Refusal::NotCoding)?;
+    coding::to_c(strict, length, c.start, c.end, q)
 }
 
 // c. to n. of a transcript of that length: 13, 16, 17.
-pub fn c_to_n(length: u32, cds: Coding, q: CQuestion, strict: bool) -> NPlain
+#[tactic(auto, unfolding(coding::specs::Coding::map_c_to_n))]
+pub fn c_to_n(length: u32, cds: Option<Cds>, q: CQuestion, strict: bool) -> Plain<NPosition>
     ensures { paper_n_plain result ≡ map_c_to_n strict length (paper_coding cds) (paper_c_question q) }
 {
-    match cds {
-        Coding::Cds(s, e) => coding::to_n(strict, length, s, e, q),
-        Coding::Missing => NPlain::Refused(NOT_CODING),
-    }
+    let c = cds.ok_or(Refusal::NotCoding)?;
+    coding::to_n(strict, length, c.start, c.end, q)
 }
 
 // The second step of g. to c.
-pub fn then_n_to_c(n: NAnswer, length: u32, cds: Coding, strict: bool) -> CAnswer
+pub fn then_n_to_c(
+    n: Answer<NPosition>,
+    length: u32,
+    cds: Option<Cds>,
+    strict: bool,
+) -> Answer<CPosition>
     ensures { paper_c result ≡ chain asks_n (paper_n n) (map_n_to_c strict length (paper_coding cds)) }
 {
-    match n {
-        NAnswer::Certain(i, exons) => {
-            let q = positions::asked_again(i);
-            fitting::c_marked(true, exons, n_to_c(length, cds, q, strict))
-        }
-        NAnswer::Uncertain(i, exons) => {
-            let q = positions::asked_again(i);
-            fitting::c_marked(false, exons, n_to_c(length, cds, q, strict))
-        }
-        NAnswer::Refused(k) => CAnswer::Refused(k),
-    }
+    let first = n?;
+    let q = positions::asked_again(first.interval);
+    fitting::marked(first.certain, first.exons, n_to_c(length, cds, q, strict))
 }
 
 // The second step of c. to g.
 pub fn then_n_to_g(
-    n: NPlain,
+    n: Plain<NPosition>,
     at: Alignment,
     genome: &[u32; MOST_STARTS],
     transcript: &[u32; MOST_STARTS],
     letters: &[u8; MOST_SEGMENTS],
     exons: &[u16; MOST_SEGMENTS],
     strict: bool,
-) -> GAnswer
+) -> Answer<GPosition>
     requires { Aligns at (tables genome.now transcript.now letters.now) }
     ensures { paper_g result ≡ chain asks_n (paper_n_plain n) (map_n_to_g strict (aligned_by at (tables genome.now transcript.now letters.now) exons.now)) }
 {
-    match n {
-        NPlain::Told(i) => {
-            let q = positions::asked_again(i);
-            places::to_g(at, genome, transcript, letters, exons, q, strict)
-        }
-        NPlain::Refused(k) => GAnswer::Refused(k),
-    }
+    let q = positions::asked_again(n?);
+    places::to_g(at, genome, transcript, letters, exons, q, strict)
 }
 
 // The same of a transcript that is known by its length alone: 18 after the first step.
-pub fn then_no_genome(n: NPlain) -> GAnswer
-    ensures { paper_g result ≡ chain asks_n (paper_n_plain n) (λ i. refused no_genome) }
+pub fn then_no_genome(n: Plain<NPosition>) -> Answer<GPosition>
+    ensures { paper_g result ≡ chain asks_n (paper_n_plain n) (λ i. Err NoGenome) }
 {
-    match n {
-        NPlain::Told(_) => GAnswer::Refused(NO_GENOME),
-        NPlain::Refused(k) => GAnswer::Refused(k),
-    }
+    n?;
+    Err(Refusal::NoGenome)
 }
 
 // Whether there is a CDS.
-pub fn is_coding(cds: Coding) -> Said
-    ensures { paper_said result ≡ answered (codes (paper_coding cds)) }
+pub fn is_coding(cds: Option<Cds>) -> bool
+    ensures { result ≡ codes (paper_coding cds) }
 {
-    match cds {
-        Coding::Cds(_, _) => Said::Yes,
-        Coding::Missing => Said::No,
-    }
+    cds.is_some()
 }
 
 // Whether a g. interval is in bounds: 19, then the question.
-pub fn is_in_bounds(at: Alignment, genome: &[u32; MOST_STARTS], q: GQuestion) -> Said
+pub fn is_in_bounds(
+    at: Alignment,
+    genome: &[u32; MOST_STARTS],
+    q: GQuestion,
+) -> Result<bool, Refusal>
     requires { at.count ≤ most_segments }
-    ensures { paper_said result ≡ through (lies_in_bounds at.first (get_or genome.now at.count 0)) (given (paper_g_question q)) }
+    ensures { result ≡ through (lies_in_bounds at.first (get_or genome.now at.count 0)) (given q) }
 {
-    match both_ends(q) {
-        Given::Ends(from, to) => {
-            if places::is_in_bounds(at, genome, from, to) {
-                Said::Yes
-            } else {
-                Said::No
-            }
-        }
-        Given::Missing => Said::Refused(MISSING_END),
-    }
+    let bounds = both_ends(q)?;
+    Ok(places::is_in_bounds(at, genome, bounds.from, bounds.to))
 }

@@ -9,34 +9,14 @@ ghost use Rattle.refusals.specs.Outcome.{Answered};
 ghost use Rattle.cigar.specs.Text.{is_digit, count_of, finished, step_at, read_all, elements_in, counted_of};
 ghost use Rattle.cigar.specs.Read.{read_text, counts_after, letters_after, FullLength, Filled};
 
-use refusals::{BAD_COUNT, MOST_COUNT, MOST_SEGMENTS, MOST_TEXT, NO_ELEMENT, TOO_MUCH};
+use refusals::{MOST_COUNT, MOST_SEGMENTS, MOST_TEXT, Refusal};
 
-// What reading at a place finds.
+// An element that stands in a text: its count, its letter and the place after it.
 #[derive(Clone, Copy)]
-pub enum Step {
-    // A whole element: its count, its letter and the place after it.
-    Element(u32, u8, usize),
-    // 7 or 8, the number of a refusal.
-    Refused(u8),
-    // Nothing left.
-    End,
-}
-
-// How many elements a text has, or the number of its refusal.
-#[derive(Clone, Copy)]
-pub enum Counted {
-    Count(usize),
-    Refused(u8),
-}
-
-// Whether a byte is a decimal digit.
-fn is_digit(b: u8) -> bool
-    ensures { result ≡ is_digit b }
-{
-    if b < b'0' {
-        return false;
-    }
-    b <= b'9'
+pub struct Step {
+    pub count: u32,
+    pub letter: u8,
+    pub next: usize,
 }
 
 // Whether a byte is one of the six letters.
@@ -63,64 +43,65 @@ fn more(n: u64, digit: u8) -> u64
 }
 
 // The element of a letter that was read. No digits mean 1, and a count above the largest is 8.
-fn finish(given: bool, n: u64, letter: u8, next: usize) -> Step
+fn finish(given: bool, n: u64, letter: u8, next: usize) -> Result<Option<Step>, Refusal>
     ensures { result ≡ finished (count_of given n) letter next }
 {
-    if given {
-        if n < OVER {
-            let count = n as u32;
-            return Step::Element(count, letter, next);
-        }
-        return Step::Refused(BAD_COUNT);
+    if !given {
+        return Ok(Some(Step {
+            count: 1,
+            letter,
+            next,
+        }));
     }
-    Step::Element(1, letter, next)
+    if n < OVER {
+        let count = n as u32;
+        return Ok(Some(Step {
+            count,
+            letter,
+            next,
+        }));
+    }
+    Err(Refusal::BadCount)
 }
 
-// The element that begins at `at`, its 7 or 8, or the end of the text.
-pub fn step_at(text: &[u8], at: usize) -> Step
+// The element that begins at `at`, its 7 or 8, or nothing at the end of the text.
+pub fn step_at(text: &[u8], at: usize) -> Result<Option<Step>, Refusal>
     ensures { result ≡ step_at text.now at }
 {
     if text.len() <= at {
-        return Step::End;
+        return Ok(None);
     }
     let mut n: u64 = 0;
     let mut given = false;
-    let mut i = at;
-    while i < text.len() {
+    for i in at..text.len() {
         let b = text[i];
-        if is_digit(b) {
+        if b.is_ascii_digit() {
             n = more(n, b);
             given = true;
-            i += 1;
+        } else if is_letter(b) {
+            return finish(given, n, b, i + 1);
         } else {
-            if is_letter(b) {
-                return finish(given, n, b, i + 1);
-            }
-            return Step::Refused(NO_ELEMENT);
+            return Err(Refusal::NoElement);
         }
     }
-    Step::Refused(NO_ELEMENT)
+    Err(Refusal::NoElement)
 }
 
 // How many elements a text has, or the first refusal: each element's 7, 8, and 3 where there is no room for it.
-pub fn count_elements(text: &[u8]) -> Counted
+pub fn count_elements(text: &[u8]) -> Result<usize, Refusal>
     ensures { result ≡ counted_of (read_all most_segments text.now) }
 {
     let mut at = 0;
     let mut n: usize = 0;
-    loop {
-        match step_at(text, at) {
-            Step::Element(_, _, next) => {
-                if n == MOST_SEGMENTS {
-                    return Counted::Refused(TOO_MUCH);
-                }
-                at = next;
-                n += 1;
-            }
-            Step::Refused(k) => return Counted::Refused(k),
-            Step::End => return Counted::Count(n),
+    // An element's step says where the next one begins, so no range or chain goes over them.
+    while let Some(step) = step_at(text, at)? {
+        if n == MOST_SEGMENTS {
+            return Err(Refusal::TooMuch);
         }
+        at = step.next;
+        n += 1;
     }
+    Ok(n)
 }
 
 // A count as the signed number of a table.
@@ -139,17 +120,18 @@ fn fill_elements(text: &[u8], counts: &mut [i32], letters: &mut [u8])
 {
     let mut at = 0;
     let mut n = 0;
+    // `while let` was tried: after it no proof knows which of the two other arms was met.
     loop {
         match step_at(text, at) {
-            Step::Element(count, letter, next) => {
-                let number = signed(count);
+            Ok(Some(step)) => {
+                let number = signed(step.count);
                 counts[n] = number;
-                letters[n] = letter;
+                letters[n] = step.letter;
                 n += 1;
-                at = next;
+                at = step.next;
             }
-            Step::Refused(_) => return,
-            Step::End => return,
+            Ok(None) => return,
+            Err(_) => return,
         }
     }
 }
@@ -159,21 +141,17 @@ pub fn read_cigar(
     text: &[u8],
     counts: &mut [i32; MOST_SEGMENTS],
     letters: &mut [u8; MOST_SEGMENTS],
-) -> Counted
+) -> Result<usize, Refusal>
     ensures value { result ≡ counted_of (read_text text.now) }
     ensures counts_after { counts.new ≡ counts_after counts.old (read_text text.now) }
     ensures letters_after { letters.new ≡ letters_after letters.old (read_text text.now) }
 {
     if MOST_TEXT < text.len() {
-        return Counted::Refused(TOO_MUCH);
+        return Err(Refusal::TooMuch);
     }
-    match count_elements(text) {
-        Counted::Count(n) => {
-            fill_elements(text, counts, letters);
-            Counted::Count(n)
-        }
-        Counted::Refused(k) => Counted::Refused(k),
-    }
+    let n = count_elements(text)?;
+    fill_elements(text, counts, letters);
+    Ok(n)
 }
 
 // How far an element goes along the genome.
@@ -187,8 +165,8 @@ pub fn along_genome(letter: u8, count: u32) -> u32
 pub fn along_transcript(letter: u8, count: u32) -> u32
     ensures { (result ≡ along_transcript (kind_of letter) count) × (result ≤ count) }
 {
-    if letter == b'I' {
-        return 0;
+    match letter {
+        b'I' | b'N' => 0,
+        _ => count,
     }
-    if letter == b'N' { 0 } else { count }
 }

@@ -2,8 +2,8 @@
 use Rattle.std.specs.Prelude.{ℕ, Bool, ◌&&◌, ◌||◌, ℤ, pos, if◌then◌else◌}
 use Rattle.std.specs.Bool.{beq}
 use Rattle.std.specs.Int.Signed.{lt_z, le_z}
-use Rattle.refusals.specs.Numbers.{not_coding, n_outside, c_outside}
-use Rattle.refusals.specs.Outcome.{Outcome, refused}
+use Rattle.refusals.specs.declared.Refusal.TheVariants.{NotCoding, NOutside, COutside}
+use Rattle.refusals.specs.Outcome.{Outcome, Err}
 use Rattle.whole.specs.Whole.{eq_z}
 use Rattle.numbering.specs.Numbers.{c_of_n, n_of_c}
 use Rattle.positions.specs.Positions.{Interval, each, NAsked, CAsked, NPosition, CPosition}
@@ -26,9 +26,9 @@ c_position s e a = record { base = c_of_n (pos s) (pos e) a.base; offset = a.off
 
 -- before 17 is asked
 unfoldable pub c_of_interval : Bool → ℕ → Cds → Interval NAsked → Answer CPosition
-c_of_interval strict len no_cds i = refused not_coding
+c_of_interval strict len no_cds i = Err NotCoding
 c_of_interval strict len (cds s e) i =
-    if refuses15 strict len i then refused n_outside
+    if refuses15 strict len i then Err NOutside
     else plainly (each (c_position s e) i)
 
 unfoldable pub map_n_to_c : Bool → ℕ → Cds → Interval NAsked → Answer CPosition
@@ -37,7 +37,7 @@ map_n_to_c strict len coding i = fitting c_fits (c_of_interval strict len coding
 -- of one position, which is both ends of its interval: 15, then 17
 unfoldable pub one_to_c : Bool → ℕ → ℕ → ℕ → NAsked → Outcome CPosition
 one_to_c strict len s e a =
-    if beyond strict len a.base then refused n_outside
+    if beyond strict len a.base then Err NOutside
     else if_fits c_fits (c_position s e a)
 
 -- ---- c. to n.: 13, then the start's 16 and 17, then the end's
@@ -45,11 +45,11 @@ one_to_c strict len s e a =
 unfoldable pub n_position : Bool → ℕ → ℕ → ℕ → CAsked → Outcome NPosition
 n_position strict len s e a =
     let n = n_of_c (pos s) (pos e) a.base in
-    if beyond strict len n then refused c_outside
+    if beyond strict len n then Err COutside
     else if_fits n_fits (record { base = n; offset = a.offset })
 
 unfoldable pub map_c_to_n : Bool → ℕ → Cds → Interval CAsked → Answer NPosition
-map_c_to_n strict len no_cds i = refused not_coding
+map_c_to_n strict len no_cds i = Err NotCoding
 map_c_to_n strict len (cds s e) i = ends unmarked (n_position strict len s e i.from) (n_position strict len s e i.to)
 
 -- two positions are one: c. to n. numbers such a position once

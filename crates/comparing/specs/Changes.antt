@@ -1,8 +1,8 @@
 -- What a row that builds or damages the lent transcript leaves in lent memory, and the words that it would record. Assumes nothing.
+use Rattle.transcript.specs.declared.Head.{Head}
 use Rattle.std.specs.Prelude.{ℕ, ◌%◌, List, ltb, leb, eqb, ℤ, pos, get_or, set, if◌then◌else◌}
 use Rattle.refusals.specs.Numbers.{most_segments, most_starts}
 use Rattle.refusals.specs.Outcome.{Outcome}
-use Rattle.transcript.specs.declared.Built.{Built}
 use Rattle.transcript.specs.declared.Numbers.{Numbers}
 use Rattle.segments.specs.Tables.{Tables, tables}
 use Rattle.judging.specs.Input.{numbers_of}
@@ -47,7 +47,7 @@ length_only_words number head =
     else two_words number (pos 0)
 
 -- of what was built, with the memory afterwards
-abbrev pub built_words : List ℕ → Built → List ℤ → Tables → List ℤ
+abbrev pub built_words : List ℕ → Outcome Head → List ℤ → Tables → List ℤ
 built_words row b head t = records_words row (built_number b) head t.genome t.transcript
 
 -- ---- damage: one number of the head (0), of a table of starts (1, 2), of the letters (3) or of the exon numbers (4) is set, where there is such a place

@@ -10,7 +10,7 @@ use Rattle.spelling.specs.Write.{Writing, writing, written_answer, buffer_after}
 use Rattle.segments.specs.Tables.{all_below}
 use Rattle.card.specs.Layout.{records_at}
 use Rattle.card.specs.Writing.{card_writing}
-use Rattle.results.specs.Results.{counted_laid, written_laid, part_laid}
+use Rattle.results.specs.Results.{counted_laid, part_laid}
 use Rattle.results.specs.declared.Part.{Part}
 use Rattle.comparing.specs.Sizes.{most_room}
 use Rattle.rows.specs.Rows.{first_of, behind, call_of, recorded_size, payload_of, expected}
@@ -69,13 +69,13 @@ holds_text buffer text = holds_each (λ (i : ℕ). get_or text i 0) (length text
 
 -- the words of what was written are those that the row expects, and the buffer then holds the text
 unfoldable pub text_agrees : List ℕ → Writing → List ℕ → List ℕ → Bool
-text_agrees row w buffer text = expected row (length_words (written_laid (written_answer w))) && holds_text (buffer_after buffer w) text
+text_agrees row w buffer text = expected row (length_words (counted_laid (written_answer w))) && holds_text (buffer_after buffer w) text
 
 -- the same for a card, of which the records are held to the buffer behind the card's head; a refusal leaves the buffer, which held zeros
 unfoldable pub card_agrees : List ℕ → Writing → List ℕ → List ℕ → Bool
 card_agrees row w buffer records =
-    if eqb (written_laid (written_answer w)).number 0 then expected row (length_words (written_laid (written_answer w))) && holds_text (behind (buffer_after buffer w) records_at) records
-    else expected row (length_words (written_laid (written_answer w))) && holds_text (buffer_after buffer w) []
+    if eqb (counted_laid (written_answer w)).number 0 then expected row (length_words (counted_laid (written_answer w))) && holds_text (behind (buffer_after buffer w) records_at) records
+    else expected row (length_words (counted_laid (written_answer w))) && holds_text (buffer_after buffer w) []
 
 -- ---- alleles
 

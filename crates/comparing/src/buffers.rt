@@ -26,10 +26,8 @@ pub fn holds(buffer: &[u8], text: &[u8]) -> bool
     ensures { result ≡ holds_text buffer.now text.now }
 {
     let mut same = true;
-    let mut i = 0;
-    while i < buffer.len() {
-        same = same & (buffer[i] == byte_at(text, i));
-        i += 1;
+    for (i, byte) in buffer.iter().enumerate() {
+        same &= *byte == byte_at(text, i);
     }
     same & (text.len() <= buffer.len())
 }

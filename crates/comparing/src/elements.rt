@@ -29,11 +29,7 @@ fn is_element(elements: &[u8], i: usize, count: i32, letter: u8) -> bool
     requires { i < laid_out elements.now }
     ensures { result ≡ is_element elements.now i count letter }
 {
-    let own = count_at(elements, i);
-    if own == count {
-        return letter_at(elements, i) == letter;
-    }
-    false
+    count_at(elements, i) == count && letter_at(elements, i) == letter
 }
 
 // Whether the tables begin with the elements laid out.
@@ -47,10 +43,8 @@ pub fn begin_with(
 {
     let number = elements.len() / ELEMENT;
     let mut same = true;
-    let mut i = 0;
-    while i < number {
-        same = same & is_element(elements, i, counts[i], letters[i]);
-        i += 1;
+    for i in 0..number {
+        same &= is_element(elements, i, counts[i], letters[i]);
     }
     same
 }
@@ -62,11 +56,9 @@ pub fn put_elements(elements: &[u8], counts: &mut [i32], letters: &mut [u8])
     ensures letters_after { letters.new ≡ letters_put elements.now letters.old (laid_out elements.now) }
 {
     let number = elements.len() / ELEMENT;
-    let mut i = 0;
-    while i < number {
+    for i in 0..number {
         let count = count_at(elements, i);
         counts[i] = count;
         letters[i] = letter_at(elements, i);
-        i += 1;
     }
 }

@@ -70,10 +70,8 @@ fn letter_at(elements: &[u8], i: usize) -> u8
 pub fn put_words(layout: &[u8], words: &mut [u32])
     ensures { words.new ≡ words_put layout.now words.old (length words.old) }
 {
-    let mut i = 0;
-    while i < words.len() {
-        words[i] = word_at(layout, i);
-        i += 1;
+    for (i, word) in words.iter_mut().enumerate() {
+        *word = word_at(layout, i);
     }
 }
 
@@ -82,10 +80,8 @@ pub fn holds_words(words: &[u32], layout: &[u8]) -> bool
     ensures { result ≡ holds_words words.now layout.now }
 {
     let mut same = true;
-    let mut i = 0;
-    while i < words.len() {
-        same = same & (words[i] == word_at(layout, i));
-        i += 1;
+    for (i, word) in words.iter().enumerate() {
+        same &= *word == word_at(layout, i);
     }
     same & (layout.len() / WORD <= words.len())
 }
@@ -95,10 +91,8 @@ pub fn holds_letters(letters: &[u8], elements: &[u8]) -> bool
     ensures { result ≡ holds_letters letters.now elements.now }
 {
     let mut same = true;
-    let mut i = 0;
-    while i < letters.len() {
-        same = same & (letters[i] == letter_at(elements, i));
-        i += 1;
+    for (i, letter) in letters.iter().enumerate() {
+        same &= *letter == letter_at(elements, i);
     }
     same & (elements.len() / ELEMENT <= letters.len())
 }
@@ -107,11 +101,7 @@ pub fn holds_letters(letters: &[u8], elements: &[u8]) -> bool
 fn is_count(elements: &[u8], i: usize, count: i32) -> bool
     ensures { result ≡ is_count elements.now i count }
 {
-    let own = count_at(elements, i);
-    if own == count {
-        return true;
-    }
-    false
+    count_at(elements, i) == count
 }
 
 // Whether a slice holds the counts of the elements laid out and after them only zeros.
@@ -119,10 +109,8 @@ pub fn holds_counts(counts: &[i32], elements: &[u8]) -> bool
     ensures { result ≡ holds_counts counts.now elements.now }
 {
     let mut same = true;
-    let mut i = 0;
-    while i < counts.len() {
-        same = same & is_count(elements, i, counts[i]);
-        i += 1;
+    for (i, count) in counts.iter().enumerate() {
+        same &= is_count(elements, i, *count);
     }
     same & (elements.len() / ELEMENT <= counts.len())
 }

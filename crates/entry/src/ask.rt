@@ -74,7 +74,7 @@ pub fn txc_n_to_g(
     ensures { result ≡ told_n_to_g (lent_at head.now genome.now transcript.now letters.now exons.now) start start_offset end end_offset strict }
 {
     let n = taking::n_asked(start, start_offset, end, end_offset);
-    lay::lay_g(mapper::n_to_g(
+    lay::lay(mapper::n_to_g(
         lending::head_of(head),
         genome,
         transcript,
@@ -100,7 +100,7 @@ pub fn txc_n_to_c(
     ensures { result ≡ told_n_to_c (lent_at head.now genome.now transcript.now letters.now exons.now) start start_offset end end_offset strict }
 {
     let n = taking::n_asked(start, start_offset, end, end_offset);
-    lay::lay_c_plain(mapper::n_to_c(
+    lay::lay_plain(mapper::n_to_c(
         lending::head_of(head),
         genome,
         transcript,
@@ -128,7 +128,7 @@ pub fn txc_c_to_n(
     ensures { result ≡ told_c_to_n (lent_at head.now genome.now transcript.now letters.now exons.now) start start_offset start_star end end_offset end_star strict }
 {
     let c = taking::c_asked(start, start_offset, start_star, end, end_offset, end_star);
-    lay::lay_n_plain(mapper::c_to_n(
+    lay::lay_plain(mapper::c_to_n(
         lending::head_of(head),
         genome,
         transcript,

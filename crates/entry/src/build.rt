@@ -6,7 +6,7 @@ ghost use Rattle.judging.specs.Input.{numbers_of};
 ghost use Rattle.judging.specs.Judging.{judge, judge_length};
 ghost use Rattle.building.specs.Afterwards.{built_answer, length_answer, tables_after, exons_after};
 ghost use Rattle.card.specs.Writing.{card_writing, judge_card};
-ghost use Rattle.results.specs.Results.{built_number, built_head, written_laid};
+ghost use Rattle.results.specs.Results.{built_number, built_head, counted_laid};
 
 use layout::lay::Length;
 use refusals::{MOST_SEGMENTS, MOST_STARTS};
@@ -92,9 +92,9 @@ pub fn txc_write_card(
     records: &[u8],
     buffer: &mut [u8],
 ) -> Length
-    ensures value { result ≡ written_laid (written_answer (card_writing (numbers_of strand cds cds_start cds_end count) records.now (length buffer.old))) }
+    ensures value { result ≡ counted_laid (written_answer (card_writing (numbers_of strand cds cds_start cds_end count) records.now (length buffer.old))) }
     ensures buffer_after { buffer.new ≡ buffer_after buffer.old (card_writing (numbers_of strand cds cds_start cds_end count) records.now (length buffer.old)) }
 {
     let numbers = numbers_of(strand, cds, cds_start, cds_end, count);
-    results::written_laid(card::write_card(numbers, records, buffer))
+    results::counted_laid(card::write_card(numbers, records, buffer))
 }

@@ -5,7 +5,7 @@ ghost use Rattle.lending.specs.Lending.{lent_at};
 ghost use Rattle.journal.specs.Logs.{appended_of, log_after};
 ghost use Rattle.asking.specs.Asking.{asked, recording, recorded_laid};
 ghost use Rattle.playback.specs.Replay.{replaying};
-ghost use Rattle.results.specs.Results.{written_laid};
+ghost use Rattle.results.specs.Results.{counted_laid};
 
 use asking::Recorded;
 use layout::lay::{Answer, Length};
@@ -57,10 +57,10 @@ pub fn txc_replay<'a>(
     log: &'a [u8],
     buffer: &mut [u8],
 ) -> Length
-    ensures value { result ≡ written_laid (written_answer (replaying (lent_at head.now genome.now transcript.now letters.now exons.now) log.now (length buffer.old))) }
+    ensures value { result ≡ counted_laid (written_answer (replaying (lent_at head.now genome.now transcript.now letters.now exons.now) log.now (length buffer.old))) }
     ensures buffer_after { buffer.new ≡ buffer_after buffer.old (replaying (lent_at head.now genome.now transcript.now letters.now exons.now) log.now (length buffer.old)) }
 {
     let known = lending::head_of(head);
     let told = playback::replay(known, genome, transcript, letters, exons, log, buffer);
-    results::written_laid(told)
+    results::counted_laid(told)
 }

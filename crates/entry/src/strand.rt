@@ -15,8 +15,8 @@ pub fn txc_turn(allele: &[u8], buffer: &mut [u8]) -> Length
     ensures value { result ≡ text_laid (turning allele.now (length buffer.old)) }
     ensures buffer_after { buffer.new ≡ turned_into buffer.old (turning allele.now (length buffer.old)) }
 {
-    let number = strands::turn::turn(allele, buffer);
-    results::number_laid(number, allele.len())
+    let turned = strands::turn::turn(allele, buffer);
+    results::counted_laid(turned.map(|()| allele.len()))
 }
 
 // g. to c., and what is left of the two alleles at the fronts of the two buffers.

@@ -4,7 +4,7 @@ ghost use Rattle.cigar.specs.Text.{counted_of};
 ghost use Rattle.cigar.specs.Read.{read_text, counts_after, letters_after};
 ghost use Rattle.spelling.specs.Write.{writing, written_answer, buffer_after};
 ghost use Rattle.sequences.specs.Alleles.{prefix_len, suffix_len, changed_part};
-ghost use Rattle.results.specs.Results.{counted_laid, written_laid, part_laid};
+ghost use Rattle.results.specs.Results.{counted_laid, part_laid};
 
 use layout::lay::Length;
 use refusals::MOST_SEGMENTS;
@@ -32,7 +32,7 @@ pub extern "C" fn txc_write_cigar(
     letters: &[u8; MOST_SEGMENTS],
     buffer: &mut [u8],
 ) -> Length
-    ensures value { result ≡ written_laid (written_answer (writing number counts.now letters.now (length buffer.old))) }
+    ensures value { result ≡ counted_laid (written_answer (writing number counts.now letters.now (length buffer.old))) }
     ensures buffer_after { buffer.new ≡ buffer_after buffer.old (writing number counts.now letters.now (length buffer.old)) }
 {
     entry::text::txc_write_cigar(number, counts, letters, buffer)

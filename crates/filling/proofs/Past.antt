@@ -5,7 +5,7 @@ use mathlib.Core.List.{List, [], ◌∷◌, ◌++◌}
 use Prim.Native.Nat.{ℕ, ◌+◌, ◌-◌, ◌<◌}
 use native.Mathlib.Omega.{arith}
 use lib.ListN.{length}
-use Rattle.refusals.specs.Outcome.{answered, refused, and_then}
+use Rattle.refusals.specs.Outcome.{Ok, Err, and_then}
 use Rattle.cigar.specs.Elements.{Element}
 use Rattle.cigar.specs.Text.{Reading, elements_in}
 use Rattle.records.specs.Records.{Record, next_at, record_at, records_from}
@@ -16,7 +16,6 @@ use Rattle.reading.specs.Tallies.{nothing, sums_of, one_on, sums_on, tallied, ta
 use Rattle.segments.specs.Tables.{Tables}
 use Rattle.filling.specs.Filling.{fill, ordered, next_elements, elements_past, elements_all, SmallSums, SmallTally}
 use Rattle.reading.specs.declared.Sums.{Sums}
-use Rattle.reading.specs.declared.Tally.TheVariants as tally
 use Rattle.reading.specs.laws.Texts.{on_one}
 use Rattle.reading.specs.laws.Spans.{before_all, ahead, followed, spanned_own, tallied_own}
 use Rattle.reading.proofs.laws.Tallied.{either_strand}
@@ -34,8 +33,8 @@ ordered_sums false s es = sums_reverse s es
 
 -- what is tallied so far is no larger
 pub small_so_far : (e : ℕ) (s : Sums) (x : Exons) → SmallTally (tallied_after e s x) → SmallSums s
-small_so_far e s (answered xs) h = record { few = omega (arith, h.few); genome_small = omega (arith, h.genome_small); transcript_small = omega (arith, h.transcript_small) }
-small_so_far e s (refused k) h = absurd h
+small_so_far e s (Ok xs) h = record { few = omega (arith, h.few); genome_small = omega (arith, h.genome_small); transcript_small = omega (arith, h.transcript_small) }
+small_so_far e s (Err k) h = absurd h
 
 -- ---- the next record
 
@@ -46,9 +45,9 @@ module _ (forward : Bool) (s : List ℕ) (k at : ℕ) (some : 0 < k) (p : Record
   abbrev others : Exons
   others = exons_after to.count (records_from (k - 1) s (next_at s at))
 
-  module _ (told : tallied (one_on from (between p here)) (spanned here (read_next from.count here)) ≡ tally.Sums to) where
+  module _ (told : tallied (one_on from (between p here)) (spanned here (read_next from.count here)) ≡ Ok to) where
     -- its own reading passed 32
-    pub next_told : tallied (one_on from (between p here)) (read_next from.count here) ≡ tally.Sums to
+    pub next_told : tallied (one_on from (between p here)) (read_next from.count here) ≡ Ok to
     next_told = tallied_own here (one_on from (between p here)) (read_next from.count here) told
 
     -- its gap and its elements go where its tally does
@@ -71,17 +70,17 @@ module _ (forward : Bool) (s : List ℕ) (k at : ℕ) (some : 0 < k) (p : Record
       where
         join : (es : List Element) (x : Exons) → SmallTally (tallied_after (genome_end_of here) to x)
             → elements_past forward (genome_end_of p) (before_all (exon_of here es) x) ≡ (between p here ∷ ordered forward es) ++ elements_past forward (genome_end_of here) x
-        join es (answered xs) h = refl
-        join es (refused i) h = absurd h
+        join es (Ok xs) h = refl
+        join es (Err i) h = absurd h
 
-        go : (r : Reading) → tallied (one_on from (between p here)) r ≡ tally.Sums to
+        go : (r : Reading) → tallied (one_on from (between p here)) r ≡ Ok to
             → elements_past forward (genome_end_of p) (and_then r (ahead here after))
             ≡ (between p here ∷ ordered forward (elements_in r)) ++ elements_past forward (genome_end_of here) others
-        go (answered es) e =
+        go (Ok es) e =
             let is : sums_on (one_on from (between p here)) es ≡ to = cc in
             let n : from.count + 1 + length es ≡ to.count = ap (λ (t : Sums). t.count) is in
             rw n (join es others small)
-        go (refused i) e = absurd (never e)
+        go (Err i) e = absurd (never e)
 
 -- none is left
 pub past_none : (forward : Bool) (e n k : ℕ) (s : List ℕ) (at : ℕ) → k ≡ 0 → elements_past forward e (exons_after n (records_from k s at)) ≡ []
@@ -90,8 +89,8 @@ past_none forward e n k s at h = rw (records_none k s at h)
 
 -- ---- the first record, and those after it
 
-module _ (forward : Bool) (s : List ℕ) (k at : ℕ) (some : 0 < k) {to : Sums} (told : tallied nothing (spanned (record_at s at) (read_first (record_at s at))) ≡ tally.Sums to) where
-  pub first_told : tallied nothing (read_first (record_at s at)) ≡ tally.Sums to
+module _ (forward : Bool) (s : List ℕ) (k at : ℕ) (some : 0 < k) {to : Sums} (told : tallied nothing (spanned (record_at s at) (read_first (record_at s at))) ≡ Ok to) where
+  pub first_told : tallied nothing (read_first (record_at s at)) ≡ Ok to
   first_told = tallied_own (record_at s at) nothing (read_first (record_at s at)) told
 
   pub first_ends : to ≡ sums_on nothing (ordered forward (elements_in (read_first (record_at s at))))
@@ -114,19 +113,19 @@ module _ (forward : Bool) (s : List ℕ) (k at : ℕ) (some : 0 < k) {to : Sums}
     where
       join : (es : List Element) (x : Exons) → SmallTally (tallied_after (genome_end_of (record_at s at)) to x)
           → elements_all forward (before_all (exon_of (record_at s at) es) x) ≡ ordered forward es ++ elements_past forward (genome_end_of (record_at s at)) x
-      join es (answered xs) h = refl
-      join es (refused i) h = absurd h
+      join es (Ok xs) h = refl
+      join es (Err i) h = absurd h
 
-      go : (r : Reading) → tallied nothing r ≡ tally.Sums to
+      go : (r : Reading) → tallied nothing r ≡ Ok to
           → elements_all forward (and_then r (ahead (record_at s at) following))
           ≡ ordered forward (elements_in r) ++ elements_past forward (genome_end_of (record_at s at)) after_first
-      go (answered es) e =
+      go (Ok es) e =
           let is : sums_on nothing es ≡ to = cc in
           let n : length es ≡ to.count = omega (arith, ap (λ (t : Sums). t.count) is) in
           rw n (join es after_first small)
-      go (refused i) e = absurd (never e)
+      go (Err i) e = absurd (never e)
 
 -- all elements go where the tally does, on either strand
-pub all_end : (forward : Bool) (x : Exons) (to : Sums) → tallied_all x ≡ tally.Sums to → to ≡ sums_of (elements_all forward x)
-all_end forward (answered xs) to e = let is : sums_of (elements_of true xs) ≡ to = cc in sym (either_strand forward xs ∙ is)
-all_end forward (refused k) to e = absurd (never e)
+pub all_end : (forward : Bool) (x : Exons) (to : Sums) → tallied_all x ≡ Ok to → to ≡ sums_of (elements_all forward x)
+all_end forward (Ok xs) to e = let is : sums_of (elements_of true xs) ≡ to = cc in sym (either_strand forward xs ∙ is)
+all_end forward (Err k) to e = absurd (never e)

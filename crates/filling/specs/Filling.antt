@@ -2,7 +2,7 @@
 use Rattle.std.specs.Prelude.{ℕ, ◌+◌, ◌-◌, ◌≤◌, ◌<◌, Bool, true, false, cond, List, [], ◌∷◌, reverse, ◌≡◌, length, set, replicate}
 use Rattle.std.proofs.lemmas.List.Edits.{sets}
 use Rattle.refusals.specs.Numbers.{most_segments, most_starts, most_bases}
-use Rattle.refusals.specs.Outcome.{answered, refused}
+use Rattle.refusals.specs.Outcome.{Ok, Err, Outcome}
 use Rattle.cigar.specs.Elements.{Element}
 use Rattle.cigar.specs.Text.{elements_in}
 use Rattle.segments.specs.Tables.{Tables, tables}
@@ -11,8 +11,6 @@ use Rattle.transcript.specs.Building.{elements_after, elements_of, numbers_after
 use Rattle.reading.specs.Reading.{between, read_next, Exons}
 use Rattle.reading.specs.Tallies.{one_on}
 use Rattle.reading.specs.declared.Sums.{Sums}
-use Rattle.reading.specs.declared.Tally.{Tally}
-use Rattle.reading.specs.declared.Tally.TheVariants as tally
 
 -- ---- tables
 
@@ -61,22 +59,22 @@ next_elements forward used p r = between p r ∷ ordered forward (elements_in (r
 
 -- the elements of records after one that ends at e, none where they are refused
 abbrev pub elements_past : Bool → ℕ → Exons → List Element
-elements_past forward e (answered xs) = elements_after forward e xs
-elements_past forward e (refused k) = []
+elements_past forward e (Ok xs) = elements_after forward e xs
+elements_past forward e (Err k) = []
 
 -- the elements of all records, none where they are refused
 abbrev pub elements_all : Bool → Exons → List Element
-elements_all forward (answered xs) = elements_of forward xs
-elements_all forward (refused k) = []
+elements_all forward (Ok xs) = elements_of forward xs
+elements_all forward (Err k) = []
 
 -- their exon numbers: of records after one that has so many before it, and of all
 abbrev pub numbers_past : Bool → ℕ → Exons → List ℕ
-numbers_past forward before (answered xs) = numbers_after forward before xs
-numbers_past forward before (refused k) = []
+numbers_past forward before (Ok xs) = numbers_after forward before xs
+numbers_past forward before (Err k) = []
 
 abbrev pub numbers_all : Bool → Exons → List ℕ
-numbers_all forward (answered xs) = numbers_of forward xs
-numbers_all forward (refused k) = []
+numbers_all forward (Ok xs) = numbers_of forward xs
+numbers_all forward (Err k) = []
 
 -- ---- sums
 
@@ -99,6 +97,6 @@ pub record SmallSums (s : Sums) : Type 0 where
   pub transcript_small : s.transcript ≤ most_bases
 
 -- what was tallied is no refusal, and the tables have room for it
-abbrev pub SmallTally : Tally → Type 0
-SmallTally (tally.Sums s) = SmallSums s
-SmallTally (tally.Refused k) = ⊥
+abbrev pub SmallTally : Outcome Sums → Type 0
+SmallTally (Ok s) = SmallSums s
+SmallTally (Err k) = ⊥

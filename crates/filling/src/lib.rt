@@ -10,39 +10,13 @@ ghost use Rattle.records.specs.Records.{record_at, records_from};
 ghost use Rattle.records.specs.Walk.{Beside, Stands, Walk, Ready};
 ghost use Rattle.reading.specs.Reading.{between, genome_end_of, read_first, read_next, exons_after, exons_of};
 ghost use Rattle.reading.specs.Tallies.{Bounded, nothing, one_on, tallied, tallied_after, tallied_all};
-ghost use Rattle.reading.specs.declared.Tally.TheVariants as tally;
 ghost use Rattle.segments.specs.Tables.{tables, padded, tables_of};
 ghost use Rattle.transcript.specs.Building.{numbered_by};
 ghost use Rattle.filling.specs.Filling.{Long, fill, tables_finished, ordered, turned_on, next_elements, elements_past, elements_all, numbers_past, numbers_all, UpTo, Before, SmallSums, SmallTally};
 
-use cigar::Step;
-use reading::{Sums, Tally};
+use reading::Sums;
 use records::CIGAR_TEXT;
 use refusals::MOST_SEGMENTS;
-
-// A table of starts is cleared from a place on.
-fn clear_starts(table: &mut [u32], from: usize)
-    requires { (from ≤ length table.old) × (length table.old ≤ most_starts) }
-    ensures { table.new ≡ sets table.old from (replicate (length table.old - from) 0) }
-{
-    let mut i = from;
-    while i < table.len() {
-        table[i] = 0;
-        i += 1;
-    }
-}
-
-// The table of letters is cleared from a place on.
-fn clear_letters(table: &mut [u8], from: usize)
-    requires { (from ≤ length table.old) × (length table.old ≤ most_starts) }
-    ensures { table.new ≡ sets table.old from (replicate (length table.old - from) 0) }
-{
-    let mut i = from;
-    while i < table.len() {
-        table[i] = 0;
-        i += 1;
-    }
-}
 
 // A number that passed 9.
 fn narrow(x: u64) -> u32
@@ -81,28 +55,29 @@ fn fill_text(
     letters: &mut [u8],
 )
     requires long { Long (tables genome.old transcript.old letters.old) }
-    requires text_value { tallied from (read_all (most_segments - from.count) text.now) ≡ tally.Sums to }
+    requires text_value { tallied from (read_all (most_segments - from.count) text.now) ≡ Ok to }
     requires bounded { Bounded from × SmallSums to }
     ensures { tables genome.new transcript.new letters.new ≡ fill (tables genome.old transcript.old letters.old) from (ordered forward (elements_in (read_all (most_segments - from.count) text.now))) }
 {
     let mut at = 0;
     let mut sums = from;
+    // `while let` was tried: after it no proof knows which of the two other arms was met.
     loop {
         match cigar::step_at(text, at) {
-            Step::Element(count, letter, next) => {
-                let after = reading::one_on(sums, letter, count);
+            Ok(Some(step)) => {
+                let after = reading::one_on(sums, step.letter, step.count);
                 let begin = turned(forward, from, to, sums, after);
                 let place = begin.count;
                 let on_genome = narrow(begin.genome);
                 let on_transcript = narrow(begin.transcript);
                 genome[place] = on_genome;
                 transcript[place] = on_transcript;
-                letters[place] = letter;
+                letters[place] = step.letter;
                 sums = after;
-                at = next;
+                at = step.next;
             }
-            Step::Refused(_) => return,
-            Step::End => return,
+            Ok(None) => return,
+            Err(_) => return,
         }
     }
 }
@@ -118,7 +93,7 @@ fn fill_first(
 )
     requires long { Long (tables genome.old transcript.old letters.old) }
     requires stands { Stands s.now 0 × SmallSums to }
-    requires s_value { tallied nothing (read_first (record_at s.now 0)) ≡ tally.Sums to }
+    requires s_value { tallied nothing (read_first (record_at s.now 0)) ≡ Ok to }
     ensures { tables genome.new transcript.new letters.new ≡ fill (tables genome.old transcript.old letters.old) nothing (ordered forward (elements_in (read_first (record_at s.now 0)))) }
 {
     let from = Sums {
@@ -145,7 +120,7 @@ fn fill_next(
 )
     requires long { Long (tables genome.old transcript.old letters.old) }
     requires cigar_text_in_bounds { (previous + cigar_text ≤ length s.now) × Stands s.now at × Beside (record_at s.now previous) (record_at s.now at) }
-    requires at_value { tallied (one_on from (between (record_at s.now previous) (record_at s.now at))) (read_next from.count (record_at s.now at)) ≡ tally.Sums to }
+    requires at_value { tallied (one_on from (between (record_at s.now previous) (record_at s.now at))) (read_next from.count (record_at s.now at)) ≡ Ok to }
     requires bounded { Bounded from × SmallSums to }
     ensures { tables genome.new transcript.new letters.new ≡ fill (tables genome.old transcript.old letters.old) from (next_elements forward from.count (record_at s.now previous) (record_at s.now at)) }
 {
@@ -168,11 +143,7 @@ fn number_of(forward: bool, before: usize, after: usize) -> u16
     requires { (before < most_records) × (after < most_records) }
     ensures { result ≡ numbered_by forward before after }
 {
-    if forward {
-        let number = before + 1;
-        return number as u16;
-    }
-    let number = after + 1;
+    let number = if forward { before + 1 } else { after + 1 };
     number as u16
 }
 
@@ -181,10 +152,8 @@ fn put_number(number: u16, from: usize, to: usize, exons: &mut [u16])
     requires { (to ≤ length exons.old) × (length exons.old ≤ most_segments) }
     ensures { exons.new ≡ sets exons.old from (replicate (to - from) number) }
 {
-    let mut i = from;
-    while i < to {
+    for i in from..to {
         exons[i] = number;
-        i += 1;
     }
 }
 
@@ -207,11 +176,11 @@ fn put_next(forward: bool, before: usize, after: usize, from: usize, to: usize, 
 fn fill_rest(
     forward: bool,
     s: &[u8],
-    previous: usize,
+    mut previous: usize,
     before: usize,
     left: usize,
-    at: usize,
-    from: Sums,
+    mut at: usize,
+    mut from: Sums,
     genome: &mut [u32],
     transcript: &mut [u32],
     letters: &mut [u8],
@@ -224,25 +193,25 @@ fn fill_rest(
     ensures letters_after { tables genome.new transcript.new letters.new ≡ fill (tables genome.old transcript.old letters.old) from (elements_past forward (genome_end_of (record_at s.now previous)) (exons_after from.count (records_from left s.now at))) }
     ensures exons_after { exons.new ≡ sets exons.old from.count (numbers_past forward before (exons_after from.count (records_from left s.now at))) }
 {
-    let mut p = previous;
-    let mut b = before;
-    let mut k = left;
-    let mut a = at;
-    let mut sums = from;
-    while k > 0 {
-        match reading::tally_next(s, p, a, sums) {
-            Tally::Sums(to) => {
-                fill_next(forward, s, p, a, sums, to, genome, transcript, letters);
-                let begin = sums.count;
-                let end = to.count;
-                put_next(forward, b, k, begin, end, exons);
-                sums = to;
-                p = a;
-                a = records::next_at(s, a);
-                b += 1;
-                k -= 1;
+    for done in 0..left {
+        match reading::tally_next(s, previous, at, from) {
+            Ok(to) => {
+                fill_next(
+                    forward, s, previous, at, from, to, genome, transcript, letters,
+                );
+                put_next(
+                    forward,
+                    before + done,
+                    left - done,
+                    from.count,
+                    to.count,
+                    exons,
+                );
+                from = to;
+                previous = at;
+                at = records::next_at(s, at);
             }
-            Tally::Refused(_) => return,
+            Err(_) => return,
         }
     }
 }
@@ -264,7 +233,7 @@ fn fill_all(
     ensures exons_after { exons.new ≡ sets exons.old 0 (numbers_all forward (exons_of (records_from count s.now 0))) }
 {
     match reading::tally_first(s) {
-        Tally::Sums(first) => {
+        Ok(first) => {
             fill_first(forward, s, first, genome, transcript, letters);
             let left = count - 1;
             let own = number_of(forward, 0, left);
@@ -275,7 +244,7 @@ fn fill_all(
                 forward, s, 0, 0, left, at, first, genome, transcript, letters, exons,
             );
         }
-        Tally::Refused(_) => return,
+        Err(_) => return,
     }
 }
 
@@ -290,9 +259,9 @@ fn finish(to: Sums, genome: &mut [u32], transcript: &mut [u32], letters: &mut [u
     genome[place] = on_genome;
     transcript[place] = on_transcript;
     let next = place + 1;
-    clear_starts(genome, next);
-    clear_starts(transcript, next);
-    clear_letters(letters, place);
+    genome[next..].fill(0);
+    transcript[next..].fill(0);
+    letters[place..].fill(0);
 }
 
 // The tables of records that passed every test, whose elements go to `to`, and their exon numbers, with 0 at the places that are not used.
@@ -309,7 +278,7 @@ pub fn write_tables(
     requires long { Long (tables genome.old transcript.old letters.old) }
     requires exons_len { length exons.old ≡ most_segments }
     requires ready { Ready count s.now × (count ≤ most_records) × SmallSums to }
-    requires s_value { tallied_all (exons_of (records_from count s.now 0)) ≡ tally.Sums to }
+    requires s_value { tallied_all (exons_of (records_from count s.now 0)) ≡ Ok to }
     ensures letters_after { tables genome.new transcript.new letters.new ≡ tables_of (elements_all forward (exons_of (records_from count s.now 0))) }
     ensures exons_after { exons.new ≡ padded most_segments (numbers_all forward (exons_of (records_from count s.now 0))) }
 {

@@ -22,10 +22,6 @@ pub record Bracket (entries : List ℕ) (n : ℕ) (p : ℤ) (low high : ℕ) : T
   pub passed : (k : ℕ) → k < low → ends_above entries p k ≡ false
   pub here : high + 1 < n → ends_above entries p high ≡ true
 
--- all segments
-pub bracket_all : {entries : List ℕ} {n : ℕ} {p : ℤ} {last : ℕ} → last + 1 ≡ n → Bracket entries n p 0 last
-bracket_all e = record { passed = λ k l. absurd (omega arith); here = λ l. absurd (omega arith) }
-
 module _ {entries : List ℕ} {n : ℕ} {p : ℤ} {low high : ℕ} (b : Bracket entries n p low high) where
   -- the middle's end is above p
   pub bracket_down : {middle : ℕ} → ends_above entries p middle ≡ true → Bracket entries n p low middle

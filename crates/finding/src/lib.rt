@@ -21,14 +21,7 @@ fn is_above(end: u32, p: i64) -> bool
     p < (end as i64)
 }
 
-// Whether the place p lies before a segment's end.
-fn is_before(p: u32, end: u32) -> bool
-    ensures { result ≡ ltb p end }
-{
-    p < end
-}
-
-// What `find` finds, by halves, each of which the processor has to guess.
+// What `find` finds, by halves, each of which the processor has to guess. `partition_point` was tried, and misses the speed: it takes a third more time at 10 segments.
 fn halved(starts: &[u32; MOST_STARTS], count: usize, p: u32) -> usize
     requires { (1 ≤ count) × (count ≤ most_segments) }
     ensures within { result < count }
@@ -38,7 +31,7 @@ fn halved(starts: &[u32; MOST_STARTS], count: usize, p: u32) -> usize
     let mut high = count - 1;
     while low < high {
         let middle = (low + high) / 2;
-        if is_before(p, starts[middle + 1]) {
+        if p < starts[middle + 1] {
             high = middle;
         } else {
             low = middle + 1;
@@ -70,16 +63,17 @@ fn farthest(
     later(p, c, later(p, b, later(p, a, low, first), second), third)
 }
 
-// What `find` finds, by quarters, as often as `size` segments need: three entries are asked for at once, so that none waits for another, and no answer is guessed.
-fn quartered(starts: &[u32; MOST_STARTS], count: usize, p: u32, size: usize) -> usize
-    requires le_count { (1 ≤ count) × (count ≤ size) }
-    requires size_le_most_segments { size ≤ most_segments }
+// What `find` finds, by quarters, as often as SIZE segments need: three entries are asked for at once, so that none waits for another, and no answer is guessed.
+fn quartered<const SIZE: usize>(starts: &[u32; MOST_STARTS], count: usize, p: u32) -> usize
+    requires le_count { (1 ≤ count) × (count ≤ SIZE) }
+    requires size_le_most_segments { SIZE ≤ most_segments }
     ensures within { result < count }
     ensures found { Rising starts.now count → result ≡ index_of starts.now count (pos p) }
 {
     let mut low = 0;
     let mut left = count;
-    let mut most = size;
+    let mut most = SIZE;
+    // Each round leaves half, so no range counts the rounds more plainly.
     while 1 < most {
         let half = left / 2;
         let rest = left - half;
@@ -104,7 +98,7 @@ fn quartered(starts: &[u32; MOST_STARTS], count: usize, p: u32, size: usize) -> 
     low
 }
 
-// What `find` finds of a place that is not before all, which is asked for before a table is known to rise, by the way that is the quickest for so many segments. The sizes stand where they are handed over: the compiler writes the rounds one after the other.
+// What `find` finds of a place that is not before all, which is asked for before a table is known to rise, by the way that is the quickest for so many segments. The sizes are known where it is compiled: the rounds are written one after the other.
 pub fn find_natural(starts: &[u32; MOST_STARTS], count: usize, p: u32) -> usize
     requires { (1 ≤ count) × (count ≤ most_segments) }
     ensures within { result < count }
@@ -114,9 +108,9 @@ pub fn find_natural(starts: &[u32; MOST_STARTS], count: usize, p: u32) -> usize
         return halved(starts, count, p);
     }
     if count <= SOME {
-        return quartered(starts, count, p, SOME);
+        return quartered::<SOME>(starts, count, p);
     }
-    quartered(starts, count, p, MOST_SEGMENTS)
+    quartered::<MOST_SEGMENTS>(starts, count, p)
 }
 
 // A place that is neither before all nor at the end or behind it, as a table has it.
@@ -150,12 +144,10 @@ pub fn find_from(starts: &[u32; MOST_STARTS], count: usize, from: usize, p: i64)
     ensures { result ≡ index_of starts.now count p }
 {
     let last = count - 1;
-    let mut i = from;
-    while i < last {
+    for i in from..last {
         if is_above(starts[i + 1], p) {
             return i;
         }
-        i += 1;
     }
-    i
+    last
 }

@@ -1,8 +1,9 @@
 -- Refusal 23: when a transcript that a host lends holds together, and what it then stands for. Assumes nothing.
 use Rattle.std.specs.Prelude.{ℕ, ◌+◌, Bool, false, ◌&&◌, ◌||◌, List, leb, pos, negsuc, nat_abs, get_or, if◌then◌else◌}
 use Rattle.std.specs.Int.Signed.{le_z}
-use Rattle.refusals.specs.Numbers.{most_records, most_segments, most_bases, not_together}
-use Rattle.refusals.specs.Outcome.{Outcome, refused}
+use Rattle.refusals.specs.Numbers.{most_records, most_segments, most_bases}
+use Rattle.refusals.specs.declared.Refusal.TheVariants.{NotTogether}
+use Rattle.refusals.specs.Outcome.{Outcome, Err}
 use Rattle.whole.specs.Whole.{eq_z}
 use Rattle.segments.specs.Tables.{Tables, tables, segments_hold, read}
 use Rattle.segments.specs.Exons.{read_numbers, numbers_hold}
@@ -109,4 +110,4 @@ source_of x =
 
 -- a question to what is lent: 23 where it does not hold together, before anything else and once a question, also in chains
 unfoldable pub checked : {A : Type 0} → Lent → (Source → Outcome A) → Outcome A
-checked x ask = if holds x then ask (source_of x) else refused not_together
+checked x ask = if holds x then ask (source_of x) else Err NotTogether

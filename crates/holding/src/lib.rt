@@ -20,6 +20,7 @@ pub fn natural(x: i32) -> u32
 }
 
 // Whether neither CDS bound is given, or both are and 0 <= start <= end <= length.
+#[tactic(auto, unfolding(crate::specs::Holding::cds_holds))]
 pub fn cds_holds(head: Head, length: u32) -> bool
     ensures { result ≡ cds_holds head length }
 {
@@ -90,40 +91,35 @@ fn totals_hold(first: u32, genome: u32, transcript: u32) -> bool
     ((first as u64) + (genome as u64) <= (MOST_BASES as u64)) & (transcript <= MOST_BASES)
 }
 
-// How many bases a transcript has, which is known only where the head's own tests pass.
-#[derive(Clone, Copy)]
-pub enum Bases {
-    Known(u32),
-    Unknown,
-}
-
-// Of records it has as many as the transcript's table says, of a length as many as that.
-pub fn bases_of(head: Head, transcript: &[u32; MOST_STARTS]) -> Bases
+// How many bases a transcript has, which is known only where the head's own tests pass: of records as many as the transcript's table says, of a length as many as that.
+#[tactic(auto, unfolding(crate::specs::Parts::bases_of))]
+pub fn bases_of(head: Head, transcript: &[u32; MOST_STARTS]) -> Option<u32>
     ensures { result ≡ bases_of head transcript.now }
 {
     let kind = head.kind;
     if kind == OF_RECORDS {
         if head_holds(head) {
             let count = segment_count(head);
-            return Bases::Known(transcript[count]);
+            return Some(transcript[count]);
         }
-        return Bases::Unknown;
+        return None;
     }
     if kind == OF_LENGTH {
         let length = head.length;
         if length < 0 {
-            return Bases::Unknown;
+            return None;
         }
         let bases = natural(length);
         if bases <= MOST_BASES {
-            return Bases::Known(bases);
+            return Some(bases);
         }
     }
-    Bases::Unknown
+    None
 }
 
 // Whether the tables of a right head hold. The segments are looked at before the totals: an entry that is at hand before that is woven into it at a cost. Counts stand
 // before the tables, as the compiler then hands the host's own pointers on without moving them.
+#[tactic(auto, unfolding(crate::specs::Parts::tables_hold))]
 pub fn tables_hold(
     count: usize,
     records: u16,

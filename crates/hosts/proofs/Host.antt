@@ -1,20 +1,23 @@
--- What a host sees. No judgment refuses with 0 (`refusals`), so that 0 tells that something was made; the memory that building wrote holds together and stands for it, and then every question is the mapper's. Assumes nothing.
+-- What a host sees. No refusal has the number 0, so that 0 tells that something was made; the memory that building wrote holds together and stands for it, and then every question is the mapper's. Assumes nothing.
 use Prim.Native.Nat.{ℕ, ◌+◌}
-use mathlib.Core.Bool.{Bool, true, false, ◌||◌, false≢true}
+use native.Mathlib.Omega.{arith}
+use mathlib.Core.Bool.{Bool, true, false, ◌||◌}
 use mathlib.Core.List.{List}
 use mathlib.Core.Path.{◌≡◌, refl, sym, ap, ◌∙◌, subst}
-use lib.Dec.{eqb}
+use lib.Dec.{eqb, ltb}
 use lib.IntN.{ℤ}
 use lib.ListN.{drop}
-use borrow.Author.Tests.{eqb-false}
-use Rattle.refusals.specs.Numbers.{no_genome, most_segments}
-use Rattle.refusals.specs.Outcome.{Outcome, answered, refused, Answered, and_then}
+use borrow.Author.Tests.{eqb-false, ltb-true}
+use Rattle.refusals.specs.Numbers.{number, most_segments}
+use Rattle.refusals.specs.declared.Refusal.{Refusal}
+use Rattle.refusals.specs.declared.Refusal.TheVariants.{NoRecords, NoStrand, TooMuch, BadBound, BadOrd, NotAdjacent, NoElement, BadCount, TooLong, NoSegment, HalfCds, BadCds, NotCoding, Outside, NOutside, COutside, TooWide, NoGenome, MissingEnd, NoRoom, NoCard, BadVersion, NotTogether, NoOperation, NoWord, NotSpanning, Falling, NoBase, NoLog}
+use Rattle.refusals.specs.Outcome.{Outcome, Ok, Err, Answered, and_then}
 use Rattle.refusals.specs.laws.Outcomes.{clash, same}
-use Rattle.refusals.specs.Refusing.{one_of, Only}
 use Rattle.whole.specs.laws.Whole.{by_test}
 use Rattle.segments.specs.Tables.{Tables, padded, tables_of}
 use Rattle.transcript.specs.Transcript.{Transcript, Source, Cds}
 use Rattle.transcript.specs.Transcript.Source.{aligned, length_only}
+use Rattle.transcript.specs.declared.Numbers.{Numbers}
 use Rattle.transcript.specs.Building.{numbers_of}
 use Rattle.holding.specs.Holding.{Lent, holds, source_of, checked}
 use Rattle.holding.specs.laws.Held.{checked_held}
@@ -28,8 +31,6 @@ use Rattle.card.specs.Card.{read_card, numbers_in}
 use Rattle.card.specs.Writing.{judge_read, judge_card}
 use Rattle.card.specs.laws.RoundTrips.{read_means}
 use Rattle.card.specs.laws.Taken.{card_sane}
-use Rattle.card.specs.declared.ReadCard.{ReadCard}
-use Rattle.card.specs.declared.ReadCard.TheVariants as read
 use Rattle.positions.specs.Positions.{Interval, NAsked, CAsked, GPosition, NPosition, CPosition, asks_n}
 use Rattle.positions.specs.Answers.{Mark, certain, uncertain, unmarked, Marked, Answer, chain}
 use Rattle.coding.specs.Coding.{map_c_to_n}
@@ -38,7 +39,6 @@ use Rattle.chaining.specs.Given.{given}
 use Rattle.mapper.specs.Asking.{ask_g_to_n, ask_n_to_g, ask_n_to_c, ask_c_to_n, ask_g_to_c, ask_c_to_g, ask_coding, ask_in_bounds}
 use Rattle.mapper.specs.Chains.{map_g_to_c, map_c_to_g}
 use Rattle.mapper.specs.laws.Marks.{c_fell, g_to_c_marked, c_to_g_marked}
-use Rattle.mapper.specs.laws.Refusing.{g_to_c_refusals, c_to_g_refusals, g_to_c_refuses, c_to_g_refuses}
 use Rattle.lending.specs.Lending.{head_at}
 use Rattle.taking.specs.Taking.{g_asked as asked, n_asked, c_asked}
 use Rattle.layout.specs.Layout.{g_laid, n_laid, c_laid, mark_number, laid, said_laid}
@@ -47,44 +47,72 @@ use Rattle.results.specs.Results.{built_number, built_head}
 use Rattle.worklist.specs.Worklist.{positions_of, never_falls, ask_steps, steps_laid}
 use Rattle.promises.specs.Bases.{Name, ExonNumbers}
 use Rattle.promises.specs.Demands.{ours, strict, made_of, Builds, Named, NamedByRecords, records_added, answer_up, Keeps}
-use Rattle.refusing.specs.Refusals.{building_refusals, card_refusals, length_refusals}
 use Rattle.hosts.specs.Host.{Way, of_records, of_card, judgment, input, told_building, written_by, Sees, HostSees, written_by_length, SeesLength, HostSeesLength, ToldName, Host2, place_up, told_up, KeepsTold, Host3}
-use Rattle.refusing.proofs.Refusals.{refusals}
 use Rattle.promises.proofs.Promises.{host_builds, demand_2_built, demand_3}
 
 -- ---- 0 is no refusal
 
-not_0 : (ks : List ℕ) (k : ℕ) → one_of 0 ks ≡ false → one_of k ks ≡ true → k ≡ 0 → ⊥
-not_0 ks k none h e = false≢true (sym none ∙ subst (λ (n : ℕ). one_of n ks ≡ true) e h)
+is_above : (k : Refusal) → ltb 0 (number k) ≡ true
+is_above NoRecords = refl
+is_above NoStrand = refl
+is_above TooMuch = refl
+is_above BadBound = refl
+is_above BadOrd = refl
+is_above NotAdjacent = refl
+is_above NoElement = refl
+is_above BadCount = refl
+is_above TooLong = refl
+is_above NoSegment = refl
+is_above HalfCds = refl
+is_above BadCds = refl
+is_above NotCoding = refl
+is_above Outside = refl
+is_above NOutside = refl
+is_above COutside = refl
+is_above TooWide = refl
+is_above NoGenome = refl
+is_above MissingEnd = refl
+is_above NoRoom = refl
+is_above NoCard = refl
+is_above BadVersion = refl
+is_above NotTogether = refl
+is_above NoOperation = refl
+is_above NoWord = refl
+is_above NotSpanning = refl
+is_above Falling = refl
+is_above NoBase = refl
+is_above NoLog = refl
 
-made_of_lem : (ks : List ℕ) (j : Outcome Made) → one_of 0 ks ≡ false → Only ks j → built_number (built_answer j) ≡ 0 → (m : Made) × (j ≡ answered m)
-made_of_lem ks (answered m) none h z = (m, refl)
-made_of_lem ks (refused k) none h z = absurd (not_0 ks k none h.only z)
+not_0 : (k : Refusal) → number k ≡ 0 → ⊥
+not_0 k e = let above = ltb-true 0 (number k) (is_above k) in omega (arith, above, e)
 
 -- an answer whose number is 0
-answered_at : {P : Type 0} (place : ℕ → P → Position) (ks : List ℕ) (a : Answer P) → one_of 0 ks ≡ false → Only ks a → (laid place a).number ≡ 0 → Answered a
-answered_at place ks (answered a) none h z = tt
-answered_at place ks (refused k) none h z = absurd (not_0 ks k none h.only z)
+answered_at : {P : Type 0} (place : ℕ → P → Position) (a : Answer P) → (laid place a).number ≡ 0 → Answered a
+answered_at place (Ok a) z = tt
+answered_at place (Err k) z = absurd (not_0 k z)
 
 -- ---- what was made
 
-way_made : (w : Way) → told_building w ≡ 0 → (m : Made) × (judgment w ≡ answered m)
-way_made (of_records n bytes) z = made_of_lem building_refusals (judge n bytes) refl (refusals.build n bytes) z
-way_made (of_card bytes) z = made_of_lem card_refusals (judge_card bytes) refl (refusals.build_card bytes) z
+way_made : (w : Way) → told_building w ≡ 0 → (m : Made) × (judgment w ≡ Ok m)
+way_made w = go (judgment w)
+  where
+    go : (j : Outcome Made) → built_number (built_answer j) ≡ 0 → (m : Made) × (j ≡ Ok m)
+    go (Ok m) z = (m, refl)
+    go (Err k) z = absurd (not_0 k z)
 
 -- a card that makes something reads as its numbers, beside the bytes behind them
-card_judged : (s : List ℕ) (m : Made) → judge_card s ≡ answered m → judge (numbers_in s) (drop records_at s) ≡ answered m
+card_judged : (s : List ℕ) (m : Made) → judge_card s ≡ Ok m → judge (numbers_in s) (drop records_at s) ≡ Ok m
 card_judged s m h = go (read_card s) refl h
   where
-    go : (r : ReadCard) → read_card s ≡ r → judge_read s r ≡ answered m → judge (numbers_in s) (drop records_at s) ≡ answered m
-    go (read.Card n) e h = rw (read_means s n e).1 at h
-    go (read.Refused k) e h = absurd (clash h)
+    go : (r : Outcome Numbers) → read_card s ≡ r → judge_read s r ≡ Ok m → judge (numbers_in s) (drop records_at s) ≡ Ok m
+    go (Ok n) e h = rw (read_means s n e).1 at h
+    go (Err k) e h = absurd (clash h)
 
-way_sane : (w : Way) (m : Made) → judgment w ≡ answered m → Sane m
+way_sane : (w : Way) (m : Made) → judgment w ≡ Ok m → Sane m
 way_sane (of_records n bytes) m h = judged_sane n bytes m h
 way_sane (of_card bytes) m h = card_sane bytes m h
 
-way_builds : (w : Way) (m : Made) → judgment w ≡ answered m → Builds (input w) (made_of m)
+way_builds : (w : Way) (m : Made) → judgment w ≡ Ok m → Builds (input w) (made_of m)
 way_builds (of_records n bytes) m h = host_builds n bytes m h
 way_builds (of_card bytes) m h = host_builds (numbers_in bytes) (drop records_at bytes) m (card_judged bytes m h)
 
@@ -97,8 +125,8 @@ module _ (x : Lent) (y : Source) (held : holds x ≡ true) (stands : source_of x
 -- a chain that begins with the ends of a g. interval
 chained : (s : Bool) (t : Transcript) (o : Outcome (Interval ℤ)) → chain asks_n (and_then o (ours.g_to_n s t)) (ours.n_to_c s t) ≡ and_then o (ours.g_to_c s t)
 unfolding map_g_to_c
-chained s t (answered i) = refl
-chained s t (refused k) = refl
+chained s t (Ok i) = refl
+chained s t (Err k) = refl
 
 sees : (x : Lent) (t : Transcript) → holds x ≡ true → source_of x ≡ aligned t → Sees ours x t
 unfolding ask_g_to_n ask_n_to_g ask_n_to_c ask_c_to_n ask_g_to_c ask_c_to_g ask_coding ask_in_bounds ask_steps map_c_to_g
@@ -128,11 +156,11 @@ module _ (w : Way) (head : List ℤ) (was : Tables) (exons : List ℕ) where
   memory = written_by w head was exons
 
   -- what building wrote is the head, the tables and the exon numbers of what it made
-  written_is : (m : Made) → judgment w ≡ answered m → memory ≡ lent_for m
+  written_is : (m : Made) → judgment w ≡ Ok m → memory ≡ lent_for m
   unfolding head_at
   written_is m h = ap (λ (j : Outcome Made). beside (head_at (built_head (built_answer j) head)) (tables_after j was) (exons_after j exons)) h
 
-  seen : (m : Made) → judgment w ≡ answered m → Sees ours memory (made_of m)
+  seen : (m : Made) → judgment w ≡ Ok m → Sees ours memory (made_of m)
   seen m h =
       let sane = way_sane w m h in
       rw (written_is m h) (sees (lent_for m) (made_of m) (built_holds m sane) (built_stands m sane))
@@ -166,18 +194,18 @@ sees_length x len c held stands = record {
     it : {A : Type 0} (ask : Source → Outcome A) → checked x ask ≡ ask (length_only len c)
     it = reached x (length_only len c) held stands
 
-    ended : (o : Answer NPosition) → ◌≡◌ {A = Answer GPosition} (chain asks_n o (λ (i : Interval NAsked). refused no_genome)) (and_then o (λ n. refused no_genome))
-    ended (answered n) = refl
-    ended (refused k) = refl
+    ended : (o : Answer NPosition) → ◌≡◌ {A = Answer GPosition} (chain asks_n o (λ (i : Interval NAsked). Err NoGenome)) (and_then o (λ n. Err NoGenome))
+    ended (Ok n) = refl
+    ended (Err k) = refl
 
 pub host_sees_length : HostSeesLength
 unfolding head_at
-host_sees_length len bits start end head was exons z = go (judge_length len bits start end) refl (refusals.build_length len bits start end) z
+host_sees_length len bits start end head was exons z = go (judge_length len bits start end) refl z
   where
-    go : (j : Outcome Measured) → judge_length len bits start end ≡ j → Only length_refusals j → built_number (length_answer j) ≡ 0
-        → (m : Measured) × (j ≡ answered m) × SeesLength (written_by_length j head was exons) m.bases m.coding
-    go (refused k) e only z = absurd (not_0 length_refusals k refl only.only z)
-    go (answered m) e only z =
+    go : (j : Outcome Measured) → judge_length len bits start end ≡ j → built_number (length_answer j) ≡ 0
+        → (m : Measured) × (j ≡ Ok m) × SeesLength (written_by_length j head was exons) m.bases m.coding
+    go (Err k) e z = absurd (not_0 k z)
+    go (Ok m) e z =
         let measures = measured_means len bits start end m e in
         (m, refl, sees_length (beside (length_head m) was exons) m.bases m.coding (measured_holds m was exons measures.small (measured_inside len bits start end m measures)) (measured_stands m was exons))
 
@@ -211,27 +239,27 @@ host_2 w head was exons t z builds =
 -- ---- demand 3
 
 -- an answer whose number is 0 is ours, answered
-there : {P : Type 0} (place : ℕ → P → Position) (ks : List ℕ) {a b : Answer P} → one_of 0 ks ≡ false → Only ks a → (laid place a).number ≡ 0 → a ≡ b → Answered b
-there place ks {a} none h z e = subst Answered e (answered_at place ks a none h z)
+there : {P : Type 0} (place : ℕ → P → Position) {a b : Answer P} → (laid place a).number ≡ 0 → a ≡ b → Answered b
+there place {a} z e = subst Answered e (answered_at place a z)
 
 -- the numbers of an answer that bears a mark of certainty
 up_laid : {P : Type 0} (place : ℕ → P → Position) → ((k n : ℕ) (a : P) → place (k + n) a ≡ place_up n (place k a)) → (n : ℕ) (gaps : Bool) (a : Marked P) → MarkedIf gaps a.mark
-    → laid place (answer_up n (answered a)) ≡ told_up n (laid place (answered a))
+    → laid place (answer_up n (Ok a)) ≡ told_up n (laid place (Ok a))
 up_laid {P} place moves n gaps a = go a.mark gaps
   where
     other_mark : (k l : ℕ) → k ≡ l → eqb k l ≡ false → ⊥
     other_mark k l e h = eqb-false k l h e
 
-    go : (m : Mark) (gaps : Bool) → MarkedIf gaps m → laid place (answer_up n (answered (record { mark = m; interval = a.interval }))) ≡ told_up n (laid place (answered (record { mark = m; interval = a.interval })))
+    go : (m : Mark) (gaps : Bool) → MarkedIf gaps m → laid place (answer_up n (Ok (record { mark = m; interval = a.interval }))) ≡ told_up n (laid place (Ok (record { mark = m; interval = a.interval })))
     go (certain e) gaps h = rw (moves e.from n a.interval.from, moves e.to n a.interval.to)
     go (uncertain e) gaps h = rw (moves e.from n a.interval.from, moves e.to n a.interval.to)
     go unmarked true h = absurd (other_mark 3 2 (ap mark_number h) refl)
     go unmarked false h = absurd (other_mark 3 1 (ap mark_number h) refl)
 
 up_told : {P : Type 0} (place : ℕ → P → Position) → ((k n : ℕ) (a : P) → place (k + n) a ≡ place_up n (place k a)) → (n : ℕ) (gaps : Bool) (o : Answer P) → Answered o
-    → ((a : Marked P) → o ≡ answered a → MarkedIf gaps a.mark) → laid place (answer_up n o) ≡ told_up n (laid place o)
-up_told place moves n gaps (answered a) ok marked = up_laid place moves n gaps a (marked a refl)
-up_told place moves n gaps (refused k) bad marked = absurd bad
+    → ((a : Marked P) → o ≡ Ok a → MarkedIf gaps a.mark) → laid place (answer_up n o) ≡ told_up n (laid place o)
+up_told place moves n gaps (Ok a) ok marked = up_laid place moves n gaps a (marked a refl)
+up_told place moves n gaps (Err k) bad marked = absurd bad
 
 chained_back : (t : Transcript) (q : Interval CAsked) → ask_c_to_g strict q (aligned t) ≡ map_c_to_g strict t q
 unfolding ask_c_to_g ask_c_to_n ask_n_to_g map_c_to_g
@@ -242,7 +270,7 @@ unfolding asked ask_g_to_c ask_g_to_n ask_n_to_c
 keeps_so n x y t u held stands r k = record {
   g_to_c = λ a b z.
       let is = reached x (aligned t) held stands (ask_g_to_c strict (asked a b 0)) ∙ chained strict t (given (asked a b 0)) in
-      let ok = there c_laid g_to_c_refusals refl (g_to_c_refuses x strict (asked a b 0)) z is in
+      let ok = there c_laid z is in
       r.g_to_c a b 0 strict
       ∙ ap (laid c_laid) (k.g_to_c (record { from = a; to = b }) ok)
       ∙ up_told c_laid (λ k n c. refl) n (g_fell t a || g_fell t b) _ ok (g_to_c_marked strict t (record { from = a; to = b }))
@@ -250,7 +278,7 @@ keeps_so n x y t u held stands r k = record {
   c_to_g = λ a o star b e starred z.
       let q = c_asked a o star b e starred in
       let is = reached x (aligned t) held stands (ask_c_to_g strict q) ∙ chained_back t q in
-      let ok = there g_laid c_to_g_refusals refl (c_to_g_refuses x strict q) z is in
+      let ok = there g_laid z is in
       r.c_to_g a o star b e starred strict
       ∙ ap (laid g_laid) (k.c_to_g q ok)
       ∙ up_told g_laid (λ k n g. refl) n (c_fell t t.coding q.from || c_fell t t.coding q.to) _ ok (c_to_g_marked strict t q)

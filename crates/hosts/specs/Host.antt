@@ -3,8 +3,9 @@
 --     HostSeesLength      and its answer about a length
 --     Host2, Host3        demands 2 and 3 in the numbers that the host is told
 use Rattle.std.specs.Prelude.{ℕ, ◌+◌, Bool, List, map, ◌≡◌, ℤ, if◌then◌else◌}
-use Rattle.refusals.specs.Numbers.{no_genome, falling}
-use Rattle.refusals.specs.Outcome.{Outcome, answered, refused, and_then, through}
+use Rattle.refusals.specs.Numbers.{number}
+use Rattle.refusals.specs.declared.Refusal.TheVariants.{NoGenome, Falling}
+use Rattle.refusals.specs.Outcome.{Outcome, Ok, Err, and_then, through}
 use Rattle.segments.specs.Tables.{Tables}
 use Rattle.transcript.specs.Transcript.{Transcript, Cds, genome_length}
 use Rattle.transcript.specs.Transcript.Cds.{cds}
@@ -70,9 +71,9 @@ pub record Sees (m : Mapper) (x : Lent) (t : Transcript) : Type 0 where
   pub c_to_n : (a o : ℤ) (star : Bool) (b u : ℤ) (starred s : Bool) → told_c_to_n x a o star b u starred s ≡ laid n_laid (m.c_to_n s t (c_asked a o star b u starred))
   pub c_to_g : (a o : ℤ) (star : Bool) (b u : ℤ) (starred s : Bool) → told_c_to_g x a o star b u starred s ≡ laid g_laid (m.c_to_g s t (c_asked a o star b u starred))
   pub in_bounds : (a b : ℤ) (missing : ℕ) → told_in_bounds x a b missing ≡ said_laid (through (lies_in_bounds t.first (genome_length t)) (given (asked a b missing)))
-  pub coding : told_coding x ≡ said_laid (answered (codes t.coding))
+  pub coding : told_coding x ≡ said_laid (Ok (codes t.coding))
   -- a worklist: the steps along the transcript, and in each slot what g. to n. tells of its position in strict mode; 33 for a list that falls, whose slots stay
-  pub steps : (list : List Slot) → told_steps x list ≡ steps_laid (if never_falls (positions_of list) then answered (steps_of (track_of t) (positions_of list)) else refused falling)
+  pub steps : (list : List Slot) → told_steps x list ≡ steps_laid (if never_falls (positions_of list) then Ok (steps_of (track_of t) (positions_of list)) else Err Falling)
   pub slots : (list : List Slot) → told_slots x list ≡ (if never_falls (positions_of list) then map (told_slot x) list else list)
 
 -- where building tells 0, a transcript builds from the input that the bytes lay out, and the host sees it
@@ -86,22 +87,22 @@ written_by_length j head was exons = record { head = head_at (built_head (length
 
 -- over x: 18 for g., and between n. and c. the rules of a length and a CDS
 pub record SeesLength (x : Lent) (len : ℕ) (c : Cds) : Type 0 where
-  pub g_to_n : (a b : ℤ) (missing : ℕ) (s : Bool) → told_g_to_n x a b missing s ≡ refusal no_genome
-  pub g_to_c : (a b : ℤ) (missing : ℕ) (s : Bool) → told_g_to_c x a b missing s ≡ refusal no_genome
-  pub n_to_g : (a o b u : ℤ) (s : Bool) → told_n_to_g x a o b u s ≡ refusal no_genome
+  pub g_to_n : (a b : ℤ) (missing : ℕ) (s : Bool) → told_g_to_n x a b missing s ≡ refusal (number NoGenome)
+  pub g_to_c : (a b : ℤ) (missing : ℕ) (s : Bool) → told_g_to_c x a b missing s ≡ refusal (number NoGenome)
+  pub n_to_g : (a o b u : ℤ) (s : Bool) → told_n_to_g x a o b u s ≡ refusal (number NoGenome)
   pub n_to_c : (a o b u : ℤ) (s : Bool) → told_n_to_c x a o b u s ≡ laid c_laid (map_n_to_c s len c (n_asked a o b u))
   pub c_to_n : (a o : ℤ) (star : Bool) (b u : ℤ) (starred s : Bool) → told_c_to_n x a o star b u starred s ≡ laid n_laid (map_c_to_n s len c (c_asked a o star b u starred))
   -- the first step's refusal comes first
-  pub c_to_g : (a o : ℤ) (star : Bool) (b u : ℤ) (starred s : Bool) → told_c_to_g x a o star b u starred s ≡ laid g_laid (and_then (map_c_to_n s len c (c_asked a o star b u starred)) (λ n. refused no_genome))
-  pub in_bounds : (a b : ℤ) (missing : ℕ) → told_in_bounds x a b missing ≡ said_laid (refused no_genome)
-  pub coding : told_coding x ≡ said_laid (answered (codes c))
-  pub steps : (list : List Slot) → told_steps x list ≡ steps_laid (refused no_genome)
+  pub c_to_g : (a o : ℤ) (star : Bool) (b u : ℤ) (starred s : Bool) → told_c_to_g x a o star b u starred s ≡ laid g_laid (and_then (map_c_to_n s len c (c_asked a o star b u starred)) (λ n. Err NoGenome))
+  pub in_bounds : (a b : ℤ) (missing : ℕ) → told_in_bounds x a b missing ≡ said_laid (Err NoGenome)
+  pub coding : told_coding x ≡ said_laid (Ok (codes c))
+  pub steps : (list : List Slot) → told_steps x list ≡ steps_laid (Err NoGenome)
   pub slots : (list : List Slot) → told_slots x list ≡ list
 
 -- where building from a length tells 0, it measured that length and that CDS, and the host sees them
 abbrev pub HostSeesLength : Type 0
 HostSeesLength = (len : ℤ) (bits : ℕ) (start end : ℤ) (head : List ℤ) (was : Tables) (exons : List ℕ) → built_number (length_answer (judge_length len bits start end)) ≡ 0
-    → (m : Measured) × (judge_length len bits start end ≡ answered m) × SeesLength (written_by_length (judge_length len bits start end) head was exons) m.bases m.coding
+    → (m : Measured) × (judge_length len bits start end ≡ Ok m) × SeesLength (written_by_length (judge_length len bits start end) head was exons) m.bases m.coding
 
 -- ---- demand 2
 

@@ -8,7 +8,7 @@ use std::io;
 use std::io::Read;
 
 // Reads until the buffer is full or the input ends, and says how many bytes were put at its front. The first read that fails ends it with that error;
-// what was read before stands at the front.
+// what was read before stands at the front. A `for` would count reads and not bytes, and std's `read_exact` says less of an input that ends first, so neither is plainer.
 pub fn read_full<R: Read>(input: &mut R, buffer: &mut [u8]) -> io::Result<usize>
     ensures within { IfOk result (λ n. n ≤ length buffer.new) }
     ensures bytes { IfOk result (λ n. Consumes (R.remaining input.old) (R.remaining input.new) (take n buffer.new)) }

@@ -1,33 +1,32 @@
--- Entries, one by one: whether all are such as a log holds.
---     one_passes, one_fails   by the test of the first of n entries
---     none_left               no entry
+-- Entries, one by one: whether those from a place on are all such as a log holds.
+--     rest_more    the entry at the place, and those behind it
+--     rest_none    no entry
 -- Assumes nothing.
-use mathlib.Core.Path.{◌≡◌}
-use mathlib.Core.Bool.{true, false, ◌&&◌}
-use mathlib.Core.List.{List}
-use Prim.Native.Nat.{ℕ, zero, suc, ◌+◌, ◌-◌, ◌<◌}
-use native.Mathlib.Omega.{arith}
+use Rattle.std.proofs.Common.{◌≡◌, true, Bool, ◌&&◌, List, ℕ, suc, ◌+◌, ◌-◌, ◌*◌, ◌<◌, ◌≤◌, arith}
 use Rattle.entries.specs.Layout.{entry_size}
 use Rattle.entries.specs.Entries.{entry_at}
 use Rattle.canonical.specs.Canonical.{canonical}
+use Rattle.journal.specs.Layout.{entries_at}
 use Rattle.journal.specs.Logs.{entries_from, all_canonical}
 
-pred : (n : ℕ) → suc n - 1 ≡ n
-pred n = omega arith
+-- where the i-th entry stands
+abbrev pub place : ℕ → ℕ
+place i = entries_at + entry_size * i
 
-first_of : (n : ℕ) (s : List ℕ) (at : ℕ) → 0 < n
-    → all_canonical (entries_from n s at) ≡ (canonical (entry_at s at) && all_canonical (entries_from (n - 1) s (at + entry_size)))
-unfolding entries_from all_canonical
-first_of zero s at h = absurd (omega arith)
-first_of (suc n) s at h = rw (pred n)
+-- whether the entries from the i-th on are canonical
+abbrev pub rest : ℕ → List ℕ → ℕ → Bool
+rest count s i = all_canonical (entries_from (count - i) s (place i))
 
-pub one_passes : (n : ℕ) (s : List ℕ) (at : ℕ) → 0 < n → canonical (entry_at s at) ≡ true
-    → all_canonical (entries_from n s at) ≡ all_canonical (entries_from (n - 1) s (at + entry_size))
-one_passes n s at h e = rw (first_of n s at h, e)
+module _ (count : ℕ) (s : List ℕ) (i : ℕ) where
+  pub rest_more : i < count → rest count s i ≡ (canonical (entry_at s (place i)) && rest count s (i + 1))
+  unfolding entries_from all_canonical
+  rest_more h =
+      let one : count - i ≡ suc (count - (i + 1)) = omega arith in
+      let next : place i + entry_size ≡ place (i + 1) = omega arith in
+      rw (one, next)
 
-pub one_fails : (n : ℕ) (s : List ℕ) (at : ℕ) → 0 < n → canonical (entry_at s at) ≡ false → all_canonical (entries_from n s at) ≡ false
-one_fails n s at h e = rw (first_of n s at h, e)
-
-pub none_left : (n : ℕ) (s : List ℕ) (at : ℕ) → n ≡ 0 → all_canonical (entries_from n s at) ≡ true
-unfolding entries_from all_canonical
-none_left n s at e = rw e
+  pub rest_none : count ≤ i → rest count s i ≡ true
+  unfolding entries_from all_canonical
+  rest_none h =
+      let none : count - i ≡ 0 = omega arith in
+      rw none

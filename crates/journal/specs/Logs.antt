@@ -1,18 +1,15 @@
 -- A log: what entries are written as, what bytes read as, and what an entry more is written as behind them. Assumes nothing.
 use Rattle.std.specs.Prelude.{ℕ, zero, suc, ◌+◌, ◌-◌, ◌/◌, ◌%◌, ◌≡◌, Bool, true, false, ◌&&◌, not, List, [], ◌∷◌, ◌++◌, eqb, ltb, length, get_or, if◌then◌else◌}
 use Rattle.std.proofs.lemmas.List.Edits.{sets}
-use Rattle.refusals.specs.Numbers.{too_much, no_room, no_log, most_log}
-use Rattle.refusals.specs.Outcome.{Outcome, answered, refused}
+use Rattle.refusals.specs.Numbers.{most_log}
+use Rattle.refusals.specs.declared.Refusal.TheVariants.{TooMuch, NoRoom, NoLog}
+use Rattle.refusals.specs.Outcome.{Outcome, Ok, Err}
 use Rattle.fields.specs.Fields.{le16, bytes16}
 use Rattle.journal.specs.Layout.{mark, version, version_at, entries_at}
 use Rattle.entries.specs.Layout.{entry_size}
 use Rattle.entries.specs.Entries.{entry_bytes, entry_at, EntryFits}
 use Rattle.canonical.specs.Canonical.{canonical}
 use Rattle.entries.specs.declared.Entry.{Entry}
-use Rattle.journal.specs.declared.ReadLog.{ReadLog}
-use Rattle.journal.specs.declared.ReadLog.TheVariants as read
-use Rattle.journal.specs.declared.Appended.{Appended}
-use Rattle.journal.specs.declared.Appended.TheVariants as appended
 
 -- ---- writing
 
@@ -59,44 +56,44 @@ all_canonical (e ∷ es) = canonical e && all_canonical es
 -- 3, then 35
 unfoldable pub read_log : List ℕ → Outcome (List Entry)
 read_log s =
-    if ltb most_log (length s) then refused too_much
-    else if not (is_headed s (length s)) then refused no_log
-    else if not (all_canonical (entries_in s)) then refused no_log
-    else answered (entries_in s)
+    if ltb most_log (length s) then Err TooMuch
+    else if not (is_headed s (length s)) then Err NoLog
+    else if not (all_canonical (entries_in s)) then Err NoLog
+    else Ok (entries_in s)
 
 -- what bytes in use hold: nothing, in a log that is not begun, or the entries that they read as
 pub data Holds : List ℕ → List Entry → Type 0 where
   not_begun : Holds [] []
-  begun : {s : List ℕ} {es : List Entry} → read_log s ≡ answered es → Holds s es
+  begun : {s : List ℕ} {es : List Entry} → read_log s ≡ Ok es → Holds s es
 
 -- what the code says of it: how many entries there are
-abbrev pub answer_of : Outcome (List Entry) → ReadLog
-answer_of (answered es) = read.Entries (length es)
-answer_of (refused k) = read.Refused k
+abbrev pub answer_of : Outcome (List Entry) → Outcome ℕ
+answer_of (Ok es) = Ok (length es)
+answer_of (Err k) = Err k
 
 -- ---- an entry more
 
 -- a text behind the bytes in use: 3, then 20
 abbrev pub fitted : ℕ → ℕ → List ℕ → Outcome (List ℕ)
 fitted room used text =
-    if ltb most_log (used + length text) then refused too_much
-    else if ltb room (used + length text) then refused no_room
-    else answered text
+    if ltb most_log (used + length text) then Err TooMuch
+    else if ltb room (used + length text) then Err NoRoom
+    else Ok text
 
 -- what is put behind the bytes in use: 35, then 3, then 20. A log that is not begun gets its header first
 unfoldable pub appending : List ℕ → ℕ → Entry → Outcome (List ℕ)
 appending s used e =
-    if ltb (length s) used then refused no_log
+    if ltb (length s) used then Err NoLog
     else if eqb used 0 then fitted (length s) 0 (header_bytes ++ entry_bytes e)
     else if is_headed s used then fitted (length s) used (entry_bytes e)
-    else refused no_log
+    else Err NoLog
 
 -- what the code says of it: how long the log is then
-abbrev pub appended_of : ℕ → Outcome (List ℕ) → Appended
-appended_of used (answered text) = appended.Length (used + length text)
-appended_of used (refused k) = appended.Refused k
+abbrev pub appended_of : ℕ → Outcome (List ℕ) → Outcome ℕ
+appended_of used (Ok text) = Ok (used + length text)
+appended_of used (Err k) = Err k
 
 -- the lent bytes afterwards: a refusal leaves them as they are
 abbrev pub log_after : List ℕ → ℕ → Outcome (List ℕ) → List ℕ
-log_after s used (answered text) = sets s used text
-log_after s used (refused k) = s
+log_after s used (Ok text) = sets s used text
+log_after s used (Err k) = s

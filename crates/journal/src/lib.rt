@@ -9,7 +9,7 @@ ghost use Rattle.entries.specs.Entries.{entry_bytes};
 ghost use Rattle.journal.specs.Logs.{header_bytes, is_marked, is_headed, entries_from, all_canonical, read_log, answer_of, fitted, appending, appended_of, log_after};
 
 use entries::{ENTRY_SIZE, Entry};
-use refusals::{MOST_LOG, NO_LOG, NO_ROOM, TOO_MUCH};
+use refusals::{MOST_LOG, Refusal};
 
 const VERSION: u32 = 1;
 
@@ -18,28 +18,13 @@ const VERSION_AT: usize = 3;
 // Where the entries begin.
 pub const ENTRIES_AT: usize = 5;
 
-// How many entries bytes are, or a refusal.
-#[derive(Clone, Copy)]
-pub enum ReadLog {
-    Entries(usize),
-    // 3 or 35.
-    Refused(u8),
-}
-
-// How many bytes a log has with one entry more, or a refusal.
-#[derive(Clone, Copy)]
-pub enum Appended {
-    Length(usize),
-    // 35, 3 or 20.
-    Refused(u8),
-}
+const MARK: &[u8] = b"QLG";
 
 // Whether bytes begin with the mark.
 fn is_marked(log: &[u8]) -> bool
-    requires { entries_at ≤ length log.now }
     ensures { result ≡ is_marked log.now }
 {
-    (log[0] == b'Q') & (log[1] == b'L') & (log[2] == b'G')
+    log.starts_with(MARK)
 }
 
 // Whether the first bytes have the mark, the version and the length of a log.
@@ -61,13 +46,8 @@ fn are_canonical(log: &[u8], count: usize) -> bool
     requires { entries_at + entry_size * count ≤ length log.now }
     ensures { result ≡ all_canonical (entries_from count log.now entries_at) }
 {
-    let mut left = count;
-    let mut at = ENTRIES_AT;
-    while left > 0 {
-        if canonical::is_canonical(entries::entry_at(log, at)) {
-            at += ENTRY_SIZE;
-            left -= 1;
-        } else {
+    for i in 0..count {
+        if !canonical::is_canonical(entries::entry_at(log, ENTRIES_AT + ENTRY_SIZE * i)) {
             return false;
         }
     }
@@ -75,21 +55,22 @@ fn are_canonical(log: &[u8], count: usize) -> bool
 }
 
 // How many entries bytes are, or a refusal.
-pub fn read_log(log: &[u8]) -> ReadLog
+#[tactic(auto, using(crate::specs::laws::LogTrips::from_length), unfolding(crate::specs::Logs::read_log))]
+pub fn read_log(log: &[u8]) -> Result<usize, Refusal>
     ensures { result ≡ answer_of (read_log log.now) }
 {
     let size = log.len();
     if MOST_LOG < size {
-        return ReadLog::Refused(TOO_MUCH);
+        return Err(Refusal::TooMuch);
     }
-    if is_headed(log, size) {
-        let count = (size - ENTRIES_AT) / ENTRY_SIZE;
-        if are_canonical(log, count) {
-            return ReadLog::Entries(count);
-        }
-        return ReadLog::Refused(NO_LOG);
+    if !is_headed(log, size) {
+        return Err(Refusal::NoLog);
     }
-    ReadLog::Refused(NO_LOG)
+    let count = (size - ENTRIES_AT) / ENTRY_SIZE;
+    if !are_canonical(log, count) {
+        return Err(Refusal::NoLog);
+    }
+    Ok(count)
 }
 
 // Writes the mark and the version at the front.
@@ -97,55 +78,54 @@ fn put_header(log: &mut [u8])
     requires { entries_at ≤ length log.old }
     ensures { log.new ≡ sets log.old 0 header_bytes }
 {
-    log[0] = b'Q';
-    log[1] = b'L';
-    log[2] = b'G';
+    log[..VERSION_AT].copy_from_slice(MARK);
     fields::put_u16(log, VERSION_AT, VERSION);
 }
 
 // The first entry, behind the header.
-fn put_first(log: &mut [u8], entry: Entry) -> Appended
+fn put_first(log: &mut [u8], entry: Entry) -> Result<usize, Refusal>
     ensures value { result ≡ appended_of 0 (fitted (length log.old) 0 (header_bytes ++ entry_bytes entry)) }
     ensures log_after { log.new ≡ log_after log.old 0 (fitted (length log.old) 0 (header_bytes ++ entry_bytes entry)) }
 {
     let size = ENTRIES_AT + ENTRY_SIZE;
     if log.len() < size {
-        return Appended::Refused(NO_ROOM);
+        return Err(Refusal::NoRoom);
     }
     put_header(log);
     entries::put_entry(log, ENTRIES_AT, entry);
-    Appended::Length(size)
+    Ok(size)
 }
 
 // An entry more, behind the bytes in use.
-fn put_next(log: &mut [u8], used: usize, entry: Entry) -> Appended
+fn put_next(log: &mut [u8], used: usize, entry: Entry) -> Result<usize, Refusal>
     ensures value { result ≡ appended_of used (fitted (length log.old) used (entry_bytes entry)) }
     ensures log_after { log.new ≡ log_after log.old used (fitted (length log.old) used (entry_bytes entry)) }
 {
     if MOST_LOG - ENTRY_SIZE < used {
-        return Appended::Refused(TOO_MUCH);
+        return Err(Refusal::TooMuch);
     }
     let size = used + ENTRY_SIZE;
     if log.len() < size {
-        return Appended::Refused(NO_ROOM);
+        return Err(Refusal::NoRoom);
     }
     entries::put_entry(log, used, entry);
-    Appended::Length(size)
+    Ok(size)
 }
 
 // Puts an entry behind the bytes in use, or refuses and leaves all bytes as they are.
-pub fn append(log: &mut [u8], used: usize, entry: Entry) -> Appended
+#[tactic(auto, unfolding(crate::specs::Logs::appending))]
+pub fn append(log: &mut [u8], used: usize, entry: Entry) -> Result<usize, Refusal>
     ensures value { result ≡ appended_of used (appending log.old used entry) }
     ensures log_after { log.new ≡ log_after log.old used (appending log.old used entry) }
 {
     if log.len() < used {
-        return Appended::Refused(NO_LOG);
+        return Err(Refusal::NoLog);
     }
     if used == 0 {
         return put_first(log, entry);
     }
-    if is_headed(log, used) {
-        return put_next(log, used, entry);
+    if !is_headed(log, used) {
+        return Err(Refusal::NoLog);
     }
-    Appended::Refused(NO_LOG)
+    put_next(log, used, entry)
 }

@@ -1,15 +1,14 @@
 -- Building's input: what a host's numbers and bytes, or a card's, stand for. Assumes nothing.
-use Rattle.std.specs.Prelude.{ℕ, List, ℤ}
+use Rattle.std.specs.Prelude.{ℕ, List, ℤ, Option}
 use Rattle.records.specs.Records.{Record, records_from}
 use Rattle.transcript.specs.Heads.{start_of, end_of}
-use Rattle.transcript.specs.declared.Bound.{Bound}
 use Rattle.transcript.specs.declared.Numbers.{Numbers}
 
 -- the strand, the CDS bounds, each given or not, and the records in genomic order
 pub record Input : Type 0 where
   pub strand : ℤ
-  pub start : Bound
-  pub end : Bound
+  pub start : Option ℤ
+  pub end : Option ℤ
   pub records : List Record
 
 -- the numbers that are handed over: the strand, the CDS bits, the CDS start and end, and how many records there are

@@ -8,44 +8,29 @@ ghost use Rattle.judging.specs.Input.{input_of};
 ghost use Rattle.judging.specs.Judging.{half_fault, range_fault, cds_fault, last_fault, judge_on, judge_input, judge, told_of};
 ghost use Rattle.reading.specs.Tallies.{Bounded, BoundedTally};
 
-use reading::{Sums, Tally};
+use reading::Sums;
 use records::ALT_START;
-use refusals::{
-    BAD_CDS, HALF_CDS, MOST_BASES, MOST_RECORDS, NO_CARD, NO_RECORDS, NO_SEGMENT, NO_STRAND,
-    NOT_TOGETHER, TOO_LONG, TOO_MUCH,
-};
-use transcript::{BOTH_BITS, Bound, Numbers};
+use refusals::{MOST_BASES, MOST_RECORDS, Refusal};
+use transcript::{BOTH_BITS, Numbers};
 
 // 11, where one bound is given and the other is not.
-pub fn half_fault(start: Bound, end: Bound) -> u8
+pub fn half_fault(start: Option<i32>, end: Option<i32>) -> Result<(), Refusal>
     ensures { result ≡ half_fault start end }
 {
-    match start {
-        Bound::Given(_) => match end {
-            Bound::Given(_) => 0,
-            Bound::Absent => HALF_CDS,
-        },
-        Bound::Absent => match end {
-            Bound::Given(_) => HALF_CDS,
-            Bound::Absent => 0,
-        },
+    match (start, end) {
+        (Some(_), None) | (None, Some(_)) => Err(Refusal::HalfCds),
+        (Some(_), Some(_)) | (None, None) => Ok(()),
     }
 }
 
 // 12, where not 0 <= start <= end <= last.
-fn range_fault(start: i64, end: i64, last: i64) -> u8
+fn range_fault(start: i64, end: i64, last: i64) -> Result<(), Refusal>
     ensures { result ≡ range_fault start end last }
 {
-    if start < 0 {
-        return BAD_CDS;
+    if start < 0 || end < start || last < end {
+        return Err(Refusal::BadCds);
     }
-    if end < start {
-        return BAD_CDS;
-    }
-    if last < end {
-        return BAD_CDS;
-    }
-    0
+    Ok(())
 }
 
 // A length that passed 9, as a signed number.
@@ -57,82 +42,61 @@ fn signed(n: u64) -> i64
 }
 
 // 12, where both bounds are given.
-pub fn cds_fault(start: Bound, end: Bound, last: u64) -> u8
+pub fn cds_fault(start: Option<i32>, end: Option<i32>, last: u64) -> Result<(), Refusal>
     requires { last ≤ most_bases }
     ensures { result ≡ cds_fault start end last }
 {
-    match start {
-        Bound::Given(s) => match end {
-            Bound::Given(e) => {
-                let from = s as i64;
-                let to = e as i64;
-                range_fault(from, to, signed(last))
-            }
-            Bound::Absent => 0,
-        },
-        Bound::Absent => 0,
+    match (start, end) {
+        (Some(from), Some(to)) => range_fault(i64::from(from), i64::from(to), signed(last)),
+        _ => Ok(()),
     }
 }
 
 // 10, 9 and 12.
-fn last_fault(start: Bound, end: Bound, first: u32, sums: Sums) -> u8
+fn last_fault(start: Option<i32>, end: Option<i32>, first: u32, sums: Sums) -> Result<(), Refusal>
     requires { Bounded sums }
     ensures { result ≡ last_fault start end sums.count first sums.genome sums.transcript }
 {
-    let n = sums.count;
-    if n == 0 {
-        return NO_SEGMENT;
+    if sums.count == 0 {
+        return Err(Refusal::NoSegment);
     }
     let length = sums.transcript;
     if length > MOST_BASES as u64 {
-        return TOO_LONG;
+        return Err(Refusal::TooLong);
     }
-    let last = first as u64 + sums.genome;
+    let last = u64::from(first) + sums.genome;
     if last > MOST_BASES as u64 {
-        return TOO_LONG;
+        return Err(Refusal::TooLong);
     }
     cds_fault(start, end, length)
 }
 
 // The records on a strand.
-fn judge_on(forward: bool, numbers: Numbers, s: &[u8]) -> Tally
+fn judge_on(forward: bool, numbers: Numbers, s: &[u8]) -> Result<Sums, Refusal>
     requires { (0 < numbers.count) × (exactly numbers.count s.now 0 ≡ true) }
     ensures { (result ≡ told_of (judge_on forward (input_of numbers s.now))) × BoundedTally result }
 {
     let count = numbers.count;
     if count > MOST_RECORDS {
-        return Tally::Refused(TOO_MUCH);
+        return Err(Refusal::TooMuch);
     }
-    let fault = records::records_fault(forward, count, s);
-    if fault != 0 {
-        return Tally::Refused(fault);
-    }
+    records::records_fault(forward, count, s)?;
     let start = transcript::start_of(numbers.cds, numbers.start);
     let end = transcript::end_of(numbers.cds, numbers.end);
-    let half = half_fault(start, end);
-    if half != 0 {
-        return Tally::Refused(half);
-    }
-    match reading::tally_all(count, s) {
-        Tally::Sums(sums) => {
-            let first = reading::bound(s, ALT_START);
-            let last = last_fault(start, end, first, sums);
-            if last != 0 {
-                return Tally::Refused(last);
-            }
-            Tally::Sums(sums)
-        }
-        Tally::Refused(k) => Tally::Refused(k),
-    }
+    half_fault(start, end)?;
+    let sums = reading::tally_all(count, s)?;
+    let first = reading::bound(s, ALT_START);
+    last_fault(start, end, first, sums)?;
+    Ok(sums)
 }
 
 // Building's own order: 1, 2, and the rest on a strand.
-fn judge_input(numbers: Numbers, s: &[u8]) -> Tally
+fn judge_input(numbers: Numbers, s: &[u8]) -> Result<Sums, Refusal>
     requires { exactly numbers.count s.now 0 ≡ true }
     ensures { (result ≡ told_of (judge_input (input_of numbers s.now))) × BoundedTally result }
 {
     if numbers.count == 0 {
-        return Tally::Refused(NO_RECORDS);
+        return Err(Refusal::NoRecords);
     }
     let strand = numbers.strand;
     if strand == 1 {
@@ -141,18 +105,18 @@ fn judge_input(numbers: Numbers, s: &[u8]) -> Tally
     if strand == -1 {
         return judge_on(false, numbers, s);
     }
-    Tally::Refused(NO_STRAND)
+    Err(Refusal::NoStrand)
 }
 
 // Building's refusal, or how many segments the records make and how far they go.
-pub fn judge(numbers: Numbers, records: &[u8]) -> Tally
+pub fn judge(numbers: Numbers, records: &[u8]) -> Result<Sums, Refusal>
     ensures { (result ≡ told_of (judge numbers records.now)) × BoundedTally result }
 {
     if numbers.cds > BOTH_BITS {
-        return Tally::Refused(NOT_TOGETHER);
+        return Err(Refusal::NotTogether);
     }
     if records::are_records(numbers.count, records) {
         return judge_input(numbers, records);
     }
-    Tally::Refused(NO_CARD)
+    Err(Refusal::NoCard)
 }

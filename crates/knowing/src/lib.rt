@@ -8,24 +8,22 @@ ghost use Rattle.holding.specs.Holding.{head_holds, lent, holds};
 ghost use Rattle.holding.specs.Parts.{tables_hold};
 ghost use Rattle.knowing.specs.Knowing.{NaturalBounds, alignment_of, coding_in, told_of, known_of};
 
-use holding::Bases;
-use refusals::{MOST_SEGMENTS, MOST_STARTS};
+use refusals::{MOST_SEGMENTS, MOST_STARTS, Refusal};
 use spots::Alignment;
 use transcript::{BOTH_GIVEN, Head, OF_RECORDS};
 
-// The CDS's start and end, or the word that there is none.
+// A CDS by its two bounds.
 #[derive(Clone, Copy)]
-pub enum Coding {
-    Cds(u32, u32),
-    Missing,
+pub struct Cds {
+    pub start: u32,
+    pub end: u32,
 }
 
-// A transcript that was built from records, one that is known by its length alone, or neither; and the CDS of the two.
+// A transcript that was built from records, or one that is known by its length alone; and the CDS of the two.
 #[derive(Clone, Copy)]
 pub enum Known {
-    Aligned(Alignment, Coding),
-    OfLength(u32, Coding),
-    Broken,
+    Aligned(Alignment, Option<Cds>),
+    OfLength(u32, Option<Cds>),
 }
 
 // How a transcript that was built from records lies on the genome.
@@ -46,7 +44,7 @@ pub fn alignment(head: Head) -> Alignment
 }
 
 // The CDS of a head that holds together.
-pub fn coding_of(head: Head) -> Coding
+pub fn coding_of(head: Head) -> Option<Cds>
     requires { NaturalBounds head }
     ensures { result ≡ coding_in head }
 {
@@ -54,30 +52,26 @@ pub fn coding_of(head: Head) -> Coding
     if bits == BOTH_GIVEN {
         let start = holding::natural(head.start);
         let end = holding::natural(head.end);
-        Coding::Cds(start, end)
-    } else {
-        Coding::Missing
+        return Some(Cds { start, end });
     }
+    None
 }
 
-// What the head tells of what is lent, before the tables are looked at: how a transcript lies if they hold, its length alone, or that it does not hold together whatever they are.
-pub fn told_of(head: Head, transcript: &[u32; MOST_STARTS]) -> Known
+// What the head tells of what is lent, before the tables are looked at: how a transcript lies if they hold, its length alone, or that it does not hold together whatever they are (23).
+#[tactic(auto, unfolding(crate::specs::Knowing::told_of))]
+pub fn told_of(head: Head, transcript: &[u32; MOST_STARTS]) -> Result<Known, Refusal>
     ensures { result ≡ told_of head transcript.now }
 {
-    match holding::bases_of(head, transcript) {
-        Bases::Known(bases) => {
-            if holding::cds_holds(head, bases) {
-                let cds = coding_of(head);
-                let kind = head.kind;
-                if kind == OF_RECORDS {
-                    return Known::Aligned(alignment(head), cds);
-                }
-                return Known::OfLength(holding::natural(head.length), cds);
-            }
-            Known::Broken
+    let bases = holding::bases_of(head, transcript).ok_or(Refusal::NotTogether)?;
+    if holding::cds_holds(head, bases) {
+        let cds = coding_of(head);
+        let kind = head.kind;
+        if kind == OF_RECORDS {
+            return Ok(Known::Aligned(alignment(head), cds));
         }
-        Bases::Unknown => Known::Broken,
+        return Ok(Known::OfLength(holding::natural(head.length), cds));
     }
+    Err(Refusal::NotTogether)
 }
 
 // Whether the tables of a transcript that lies so hold, which is all that is left to ask once the head has told.
@@ -96,25 +90,24 @@ pub fn tables_hold(
     )
 }
 
-// What is lent, known once.
+// What is lent, known once, or 23.
 pub fn known_of(
     head: Head,
     genome: &[u32; MOST_STARTS],
     transcript: &[u32; MOST_STARTS],
     letters: &[u8; MOST_SEGMENTS],
     exons: &[u16; MOST_SEGMENTS],
-) -> Known
+) -> Result<Known, Refusal>
     ensures { result ≡ known_of (lent head genome.now transcript.now letters.now exons.now) }
 {
-    match told_of(head, transcript) {
+    match told_of(head, transcript)? {
         Known::Aligned(at, cds) => {
             if tables_hold(at, genome, transcript, letters, exons) {
-                return Known::Aligned(at, cds);
+                return Ok(Known::Aligned(at, cds));
             }
-            Known::Broken
+            Err(Refusal::NotTogether)
         }
-        Known::OfLength(length, cds) => Known::OfLength(length, cds),
-        Known::Broken => Known::Broken,
+        Known::OfLength(length, cds) => Ok(Known::OfLength(length, cds)),
     }
 }
 
@@ -128,9 +121,5 @@ pub fn is_held(
 ) -> bool
     ensures { result ≡ holds (lent head genome.now transcript.now letters.now exons.now) }
 {
-    match known_of(head, genome, transcript, letters, exons) {
-        Known::Aligned(_, _) => true,
-        Known::OfLength(_, _) => true,
-        Known::Broken => false,
-    }
+    known_of(head, genome, transcript, letters, exons).is_ok()
 }

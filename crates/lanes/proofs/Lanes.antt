@@ -1,5 +1,5 @@
 -- Lanes that segments are taken into, one into each, and where a block of such segments begins. Assumes nothing.
-use Rattle.std.proofs.Common.{◌≡◌, ℕ, ◌+◌, ◌-◌, ◌<◌, ◌≤◌, Bool, true, cond, ◌&&◌, eqb, ltb, List, length, get_or, set, replicate, sym, refl, ap, ◌∙◌, arith, get_or-set_other, get_or-set_same, ltb-false, ltb-true, eqb-true}
+use Rattle.std.proofs.Common.{◌≡◌, ℕ, ◌+◌, ◌<◌, Bool, true, ◌&&◌, eqb, List, length, get_or, set, replicate, sym, refl, ap, ◌∙◌, arith, get_or-set_other, get_or-set_same, eqb-true}
 use mathlib.Core.Bool.{and-true, and_assoc}
 use lib.ListN.{get_or-replicate}
 use borrow.Author.Tests.{eqb-false}
@@ -60,13 +60,3 @@ module _ (k : ℕ) (f : ℕ → Bool) (first : ℕ) (before : List ℕ) where
         ∙ and_assoc (lanes_within k before) (all_below (from first f) (first + j)) (f (first + j))
         ∙ ap (λ (b : Bool). lanes_within k before && b) (from_more f first (first + j) (omega arith) refl refl ∙ ap (all_below (from first f)) (omega arith));
   }
-
-  pub taken_all : (lanes : List ℕ) (j : ℕ) → j ≤ 8 → 8 ≤ j → Taken k f first before lanes j → lanes_within k lanes ≡ (lanes_within k before && all_below (from first f) (first + 8))
-  taken_all lanes j few all taken = taken.told ∙ ap (λ (n : ℕ). lanes_within k before && all_below (from first f) (first + n)) (omega arith)
-
--- the next block begins where the others end, or is the last of n segments
-pub next_block : (n done first : ℕ) → 8 ≤ n → done < n → first ≡ cond (ltb done (n - 8)) done (n - 8) → (first ≤ done) × (first + 8 ≤ n) × (done < first + 8)
-next_block n done first many more is =
-    by_test (ltb done (n - 8))
-    (λ t. let l = ltb-true done (n - 8) t in let e : first ≡ done = rw t at is in (omega arith, omega arith, omega arith))
-    (λ t. let l = ltb-false done (n - 8) t in let e : first ≡ n - 8 = rw t at is in (omega arith, omega arith, omega arith))

@@ -1,5 +1,5 @@
 -- Numbers of no bits. Assumes nothing.
-use Rattle.std.proofs.Common.{◌≡◌, ℕ, ◌+◌, ◌%◌, ◌^◌, ◌<◌, eqb, arith, ltb-true, lt-ltb, eq-eqb, eqb-true}
+use Rattle.std.proofs.Common.{◌≡◌, ℕ, ◌+◌, ◌-◌, ◌%◌, ◌^◌, ◌<◌, eqb, arith, ltb-true, lt-ltb, eq-eqb, eqb-true}
 use Rattle.numbered.specs.laws.All.{equal_where}
 use Rattle.stepping.specs.Steps.{within}
 
@@ -12,9 +12,9 @@ none_is n =
     (λ h. eq-eqb n 0 (omega (arith, ltb-true n 1 h)))
 
 -- a difference that wraps has no bits where its two numbers are equal
-pub apart_is : (a b d : ℕ) → a < 2 ^ 32 → b < 2 ^ 32 → d < 2 ^ 32 → (d + b) % 2 ^ 32 ≡ a → within 0 d ≡ eqb a b
+pub apart_is : (a b : ℕ) → a < 2 ^ 32 → b < 2 ^ 32 → within 0 ((a + (2 ^ 32 - b)) % 2 ^ 32) ≡ eqb a b
 unfolding within
-apart_is a b d a< b< d< e =
+apart_is a b a< b< =
     equal_where _ _
-    (λ h. let l = ltb-true d 1 h in eq-eqb a b (omega arith))
-    (λ h. let q = eqb-true a b h in lt-ltb d 1 (omega arith))
+    (λ h. let l = ltb-true ((a + (2 ^ 32 - b)) % 2 ^ 32) 1 h in eq-eqb a b (omega arith))
+    (λ h. let q = eqb-true a b h in lt-ltb ((a + (2 ^ 32 - b)) % 2 ^ 32) 1 (omega arith))

@@ -1,6 +1,7 @@
 -- How the boundary lays its answers out: the words of include/txc.h. Assumes nothing.
 use Rattle.std.specs.Prelude.{ℕ, Bool, cond, pos}
-use Rattle.refusals.specs.Outcome.{Outcome, answered, refused}
+use Rattle.refusals.specs.Numbers.{number}
+use Rattle.refusals.specs.Outcome.{Outcome, Ok, Err}
 use Rattle.positions.specs.Positions.{GPosition, NPosition, CPosition}
 use Rattle.positions.specs.Answers as paper
 use Rattle.positions.specs.Answers.Mark.{certain, uncertain, unmarked}
@@ -35,9 +36,9 @@ refusal k = record { number = k; mark = 0; start = nowhere; end = nowhere }
 
 -- an answer of any kind of position
 abbrev pub laid : {P : Type 0} → (ℕ → P → Position) → paper.Answer P → Answer
-laid place (answered a) = record { number = 0; mark = mark_number a.mark; start = place (paper.exons_of a.mark).from a.interval.from; end = place (paper.exons_of a.mark).to a.interval.to }
-laid place (refused k) = refusal k
+laid place (Ok a) = record { number = 0; mark = mark_number a.mark; start = place (paper.exons_of a.mark).from a.interval.from; end = place (paper.exons_of a.mark).to a.interval.to }
+laid place (Err k) = refusal (number k)
 
 abbrev pub said_laid : Outcome Bool → Said
-said_laid (answered b) = record { number = 0; yes = star_of b }
-said_laid (refused k) = record { number = k; yes = 0 }
+said_laid (Ok b) = record { number = 0; yes = star_of b }
+said_laid (Err k) = record { number = number k; yes = 0 }

@@ -1,17 +1,18 @@
-// Answers as the host has them: a `#[repr(C)]` struct of numbers for each kind, all 0 but its number where it is a refusal.
-ghost use Rattle.std.specs.Prelude.{◌≡◌};
-ghost use Rattle.positions.specs.Answers.{once};
-ghost use Rattle.positions.specs.Paper.{paper_g, paper_n, paper_c, paper_n_plain, paper_c_plain, paper_said, paper_g_position, paper_n_position, paper_c_position};
+// Answers as the host has them: a `#[repr(C)]` struct of numbers for each kind, all 0 but its number where it is a refusal. Marks, stars and refusals are numbers here, since the C interface has them so.
+ghost use Rattle.std.specs.Prelude.{◌≡◌, ℕ};
+ghost use Rattle.refusals.specs.Numbers.{number};
+ghost use Rattle.refusals.specs.Outcome.{through};
+ghost use Rattle.positions.specs.Positions.{each, GPosition as PaperG, NPosition as PaperN, CPosition as PaperC};
+ghost use Rattle.positions.specs.Answers.{once, mark_of, unmarked};
+ghost use Rattle.positions.specs.Paper.{paper_marked, paper_unmarked, paper_g_position, paper_n_position, paper_c_position};
 ghost use Rattle.layout.specs.Layout.{star_of, g_laid, n_laid, c_laid, refusal, laid, said_laid};
 
-use positions::{
-    CAnswer, CInterval, CPlain, CPosition, Exons, GAnswer, GInterval, GPosition, NAnswer,
-    NInterval, NPlain, NPosition,
-};
+use positions::{CPosition, Exons, GPosition, Interval, NPosition, Plain};
+use refusals::Refusal;
 
 // `exon` is 0 where the mapping carries no exon's number.
 #[repr(C)]
-#[derive(Clone, Copy)]
+#[derive(Clone, Copy, PartialEq, Eq)]
 pub struct Position {
     pub base: i32,
     pub offset: i32,
@@ -21,7 +22,7 @@ pub struct Position {
 
 // `mark` is 1 for a certain answer, 2 for an uncertain one, 3 where it bears none.
 #[repr(C)]
-#[derive(Clone, Copy)]
+#[derive(Clone, Copy, PartialEq, Eq)]
 pub struct Answer {
     pub number: u32,
     pub mark: u32,
@@ -47,69 +48,107 @@ pub struct Length {
 pub fn star_number(star: bool) -> u32
     ensures { result ≡ star_of star }
 {
-    if star { 1 } else { 0 }
+    u32::from(star)
 }
 
-fn g_position(exon: u16, a: GPosition) -> Position
-    ensures { result ≡ g_laid exon (paper_g_position a) }
+// A position of any kind, laid out with its exon's number.
+pub trait Laid: Copy {
+    ghost use Rattle.layout.specs.declared.lay.Position.{Position};
+
+    ghost Paper: { Type 0 };
+
+    ghost says: { Self → Paper };
+
+    ghost place: { ℕ → Paper → Position };
+
+    fn lay_with(self, exon: u16) -> Position
+        ensures { result ≡ place exon (says self) };
+}
+
+impl Laid for GPosition {
+    ghost Paper = { PaperG };
+
+    ghost says = { paper_g_position };
+
+    ghost place = { g_laid };
+
+    fn lay_with(self, exon: u16) -> Position {
+        Position {
+            base: self.base,
+            offset: 0,
+            star: 0,
+            exon: u32::from(exon),
+        }
+    }
+}
+
+impl Laid for NPosition {
+    ghost Paper = { PaperN };
+
+    ghost says = { paper_n_position };
+
+    ghost place = { n_laid };
+
+    fn lay_with(self, exon: u16) -> Position {
+        Position {
+            base: self.base,
+            offset: self.offset,
+            star: 0,
+            exon: u32::from(exon),
+        }
+    }
+}
+
+impl Laid for CPosition {
+    ghost Paper = { PaperC };
+
+    ghost says = { paper_c_position };
+
+    ghost place = { c_laid };
+
+    fn lay_with(self, exon: u16) -> Position {
+        Position {
+            base: self.base,
+            offset: self.offset,
+            star: star_number(self.star),
+            exon: u32::from(exon),
+        }
+    }
+}
+
+// Nothing laid out: all is 0.
+pub fn blank() -> Answer
+    ensures { result ≡ refusal 0 }
 {
-    Position {
-        base: a.base,
+    let nowhere = Position {
+        base: 0,
         offset: 0,
         star: 0,
-        exon: exon as u32,
-    }
-}
-
-fn n_position(exon: u16, a: NPosition) -> Position
-    ensures { result ≡ n_laid exon (paper_n_position a) }
-{
-    Position {
-        base: a.base,
-        offset: a.offset,
-        star: 0,
-        exon: exon as u32,
-    }
-}
-
-fn c_position(exon: u16, a: CPosition) -> Position
-    ensures { result ≡ c_laid exon (paper_c_position a) }
-{
-    let star = star_number(a.star);
-    Position {
-        base: a.base,
-        offset: a.offset,
-        star,
-        exon: exon as u32,
+        exon: 0,
+    };
+    Answer {
+        number: 0,
+        mark: 0,
+        start: nowhere,
+        end: nowhere,
     }
 }
 
 // A refusal laid out: all but its number is 0.
-pub fn refusal_of(k: u8) -> Answer
-    ensures { result ≡ refusal k }
+pub fn refusal_of(k: Refusal) -> Answer
+    ensures { result ≡ refusal (number k) }
 {
     Answer {
-        number: k as u32,
-        mark: 0,
-        start: Position {
-            base: 0,
-            offset: 0,
-            star: 0,
-            exon: 0,
-        },
-        end: Position {
-            base: 0,
-            offset: 0,
-            star: 0,
-            exon: 0,
-        },
+        number: u32::from(k.number()),
+        ..blank()
     }
 }
 
-// A certain answer whose two ends are one position, as a base has it that is sure.
-fn twice(at: Position) -> Answer
-    ensures { result ≡ record { number = 0; mark = 1; start = at; end = at } }
+// A certain answer of one position, with its exon.
+pub fn lay_one<P: Laid>(exon: u16, a: P) -> Answer
+    ensures { result ≡ laid P.place (once exon (P.says a)) }
 {
+    let at = a.lay_with(exon);
     Answer {
         number: 0,
         mark: 1,
@@ -118,33 +157,12 @@ fn twice(at: Position) -> Answer
     }
 }
 
-// A certain g. answer of one position, with its exon.
-pub fn lay_one_g(exon: u16, a: GPosition) -> Answer
-    ensures { result ≡ laid g_laid (once exon (paper_g_position a)) }
-{
-    twice(g_position(exon, a))
-}
-
-// The same in n.
-pub fn lay_one_n(exon: u16, a: NPosition) -> Answer
-    ensures { result ≡ laid n_laid (once exon (paper_n_position a)) }
-{
-    twice(n_position(exon, a))
-}
-
-// The same in c.
-pub fn lay_one_c(exon: u16, a: CPosition) -> Answer
-    ensures { result ≡ laid c_laid (once exon (paper_c_position a)) }
-{
-    twice(c_position(exon, a))
-}
-
 // An interval laid out, with its mark's number and its exons.
-fn lay_g_interval(mark: u32, i: GInterval, exons: Exons) -> Answer
-    ensures { result ≡ record { number = 0; mark = mark; start = g_laid exons.from (paper_g_position i.from); end = g_laid exons.to (paper_g_position i.to) } }
+fn lay_interval<P: Laid>(mark: u32, exons: Exons, i: Interval<P>) -> Answer
+    ensures { result ≡ record { number = 0; mark = mark; start = P.place exons.from (P.says i.from); end = P.place exons.to (P.says i.to) } }
 {
-    let start = g_position(exons.from, i.from);
-    let end = g_position(exons.to, i.to);
+    let start = i.from.lay_with(exons.from);
+    let end = i.to.lay_with(exons.to);
     Answer {
         number: 0,
         mark,
@@ -153,88 +171,40 @@ fn lay_g_interval(mark: u32, i: GInterval, exons: Exons) -> Answer
     }
 }
 
-pub fn lay_g(a: GAnswer) -> Answer
-    ensures { result ≡ laid g_laid (paper_g a) }
+// An answer across the genome.
+pub fn lay<P: Laid>(a: positions::Answer<P>) -> Answer
+    ensures { result ≡ laid P.place (through (paper_marked P.says) a) }
 {
     match a {
-        GAnswer::Certain(i, exons) => lay_g_interval(1, i, exons),
-        GAnswer::Uncertain(i, exons) => lay_g_interval(2, i, exons),
-        GAnswer::Refused(k) => refusal_of(k),
+        Ok(m) => {
+            let mark = if m.certain { 1 } else { 2 };
+            lay_interval(mark, m.exons, m.interval)
+        }
+        Err(k) => refusal_of(k),
     }
 }
 
-fn lay_n_interval(mark: u32, i: NInterval, exons: Exons) -> Answer
-    ensures { result ≡ record { number = 0; mark = mark; start = n_laid exons.from (paper_n_position i.from); end = n_laid exons.to (paper_n_position i.to) } }
-{
-    let start = n_position(exons.from, i.from);
-    let end = n_position(exons.to, i.to);
-    Answer {
-        number: 0,
-        mark,
-        start,
-        end,
-    }
-}
-
-pub fn lay_n(a: NAnswer) -> Answer
-    ensures { result ≡ laid n_laid (paper_n a) }
+// An answer between n. and c., which bears no mark.
+pub fn lay_plain<P: Laid>(a: Plain<P>) -> Answer
+    ensures { result ≡ laid P.place (through (paper_unmarked P.says) a) }
 {
     match a {
-        NAnswer::Certain(i, exons) => lay_n_interval(1, i, exons),
-        NAnswer::Uncertain(i, exons) => lay_n_interval(2, i, exons),
-        NAnswer::Refused(k) => refusal_of(k),
+        Ok(i) => lay_interval(3, Exons { from: 0, to: 0 }, i),
+        Err(k) => refusal_of(k),
     }
 }
 
-fn lay_c_interval(mark: u32, i: CInterval, exons: Exons) -> Answer
-    ensures { result ≡ record { number = 0; mark = mark; start = c_laid exons.from (paper_c_position i.from); end = c_laid exons.to (paper_c_position i.to) } }
-{
-    let start = c_position(exons.from, i.from);
-    let end = c_position(exons.to, i.to);
-    Answer {
-        number: 0,
-        mark,
-        start,
-        end,
-    }
-}
-
-pub fn lay_c(a: CAnswer) -> Answer
-    ensures { result ≡ laid c_laid (paper_c a) }
+// A yes or a no.
+pub fn lay_said(a: Result<bool, Refusal>) -> Said
+    ensures { result ≡ said_laid a }
 {
     match a {
-        CAnswer::Certain(i, exons) => lay_c_interval(1, i, exons),
-        CAnswer::Uncertain(i, exons) => lay_c_interval(2, i, exons),
-        CAnswer::Refused(k) => refusal_of(k),
-    }
-}
-
-pub fn lay_n_plain(a: NPlain) -> Answer
-    ensures { result ≡ laid n_laid (paper_n_plain a) }
-{
-    match a {
-        NPlain::Told(i) => lay_n_interval(3, i, Exons { from: 0, to: 0 }),
-        NPlain::Refused(k) => refusal_of(k),
-    }
-}
-
-pub fn lay_c_plain(a: CPlain) -> Answer
-    ensures { result ≡ laid c_laid (paper_c_plain a) }
-{
-    match a {
-        CPlain::Told(i) => lay_c_interval(3, i, Exons { from: 0, to: 0 }),
-        CPlain::Refused(k) => refusal_of(k),
-    }
-}
-
-pub fn lay_said(a: positions::Said) -> Said
-    ensures { result ≡ said_laid (paper_said a) }
-{
-    match a {
-        positions::Said::Yes => Said { number: 0, yes: 1 },
-        positions::Said::No => Said { number: 0, yes: 0 },
-        positions::Said::Refused(k) => Said {
-            number: k as u32,
+        Ok(yes) => Said {
+            number: 0,
+            yes: star_number(yes),
+        },
+        Err(k) => Said {
+            number: u32::from(k.number()),
             yes: 0,
         },
     }

@@ -1,7 +1,7 @@
 // Whether the letters of lent tables are known, one of = D I M N X, and whether they are common, one of = M N X: each in one pass with no early way out, which is vectorised.
 #![tactic(auto)]
 
-ghost use Rattle.std.specs.Prelude.{◌≡◌, ◌≤◌, ◌&&◌, if◌then◌else◌, nat_le};
+ghost use Rattle.std.specs.Prelude.{◌≡◌, ℕ, ◌+◌, ◌≤◌, Bool, ◌&&◌, if◌then◌else◌, nat_le, slice_index};
 ghost use Rattle.refusals.specs.Numbers.{most_segments};
 ghost use Rattle.cigar.specs.Elements.{is_letter};
 ghost use Rattle.segments.specs.Tables.{all_below, known_at};
@@ -11,37 +11,61 @@ ghost use Rattle.letters.specs.Letters.{is_common, common_at};
 
 use refusals::MOST_SEGMENTS;
 
+// A test of one letter.
+trait Test {
+    ghost passes: { ℕ → Bool };
+
+    fn passes(letter: u8) -> bool
+        ensures { result ≡ passes letter };
+}
+
 // Whether the letter is one of = D I M N X.
-fn is_known(letter: u8) -> bool
-    ensures { result ≡ is_letter letter }
-{
-    (letter == b'=')
-        | (letter == b'D')
-        | (letter == b'I')
-        | (letter == b'M')
-        | (letter == b'N')
-        | (letter == b'X')
+struct Known;
+
+impl Test for Known {
+    ghost passes = { is_letter };
+
+    fn passes(letter: u8) -> bool {
+        (letter == b'=')
+            | (letter == b'D')
+            | (letter == b'I')
+            | (letter == b'M')
+            | (letter == b'N')
+            | (letter == b'X')
+    }
 }
 
 // Whether the letter is one of = M N X.
-fn is_common(letter: u8) -> bool
-    ensures { result ≡ is_common letter }
-{
-    (letter == b'=') | (letter == b'M') | (letter == b'N') | (letter == b'X')
+struct Common;
+
+impl Test for Common {
+    ghost passes = { is_common };
+
+    fn passes(letter: u8) -> bool {
+        (letter == b'=') | (letter == b'M') | (letter == b'N') | (letter == b'X')
+    }
 }
 
-// Whether the letters from one segment up to another are known.
-fn known_in(letters: &[u8; MOST_SEGMENTS], first: usize, to: usize) -> bool
+// Whether the letters from one segment up to another pass.
+fn all_in<T: Test>(letters: &[u8; MOST_SEGMENTS], first: usize, to: usize) -> bool
     requires { (first ≤ to) × (to ≤ most_segments) }
-    ensures { result ≡ all_below (from first (known_at letters.now)) to }
+    ensures { result ≡ all_below (from first (λ i. T.passes (slice_index letters.now i))) to }
 {
     let mut ok = true;
-    let mut i = first;
-    while i < to {
-        ok = ok & is_known(letters[i]);
-        i += 1;
+    for i in first..to {
+        ok = ok & T::passes(letters[i]);
     }
     ok
+}
+
+// Whether count letters pass, which are two blocks of one size: the last overlaps the first, or meets it.
+fn in_blocks<T: Test, const SIZE: usize>(letters: &[u8; MOST_SEGMENTS], count: usize) -> bool
+    requires { (SIZE ≤ count) × (count ≤ SIZE + SIZE) × (count ≤ most_segments) }
+    ensures { result ≡ all_below (λ i. T.passes (slice_index letters.now i)) count }
+{
+    let front = all_in::<T>(letters, 0, SIZE);
+    let back = all_in::<T>(letters, count - SIZE, count);
+    front & back
 }
 
 // Whether the first count letters are known. The compiler makes straight code of whole blocks, so the last block overlaps the others; below 64
@@ -51,45 +75,23 @@ pub fn all_known(letters: &[u8; MOST_SEGMENTS], count: usize) -> bool
     ensures { result ≡ all_below (known_at letters.now) count }
 {
     if count < 4 {
-        return known_in(letters, 0, count);
+        return all_in::<Known>(letters, 0, count);
     }
     if count < 8 {
-        let front = known_in(letters, 0, 4);
-        let back = known_in(letters, count - 4, count);
-        return front & back;
+        return in_blocks::<Known, 4>(letters, count);
     }
     if count < 16 {
-        let front = known_in(letters, 0, 8);
-        let back = known_in(letters, count - 8, count);
-        return front & back;
+        return in_blocks::<Known, 8>(letters, count);
     }
     if count < 32 {
-        let front = known_in(letters, 0, 16);
-        let back = known_in(letters, count - 16, count);
-        return front & back;
+        return in_blocks::<Known, 16>(letters, count);
     }
     if count < 64 {
-        let front = known_in(letters, 0, 32);
-        let back = known_in(letters, count - 32, count);
-        return front & back;
+        return in_blocks::<Known, 32>(letters, count);
     }
-    let front = known_in(letters, 0, count - count % 16);
-    let back = known_in(letters, count - 16, count);
+    let front = all_in::<Known>(letters, 0, count - count % 16);
+    let back = all_in::<Known>(letters, count - 16, count);
     front & back
-}
-
-// Whether the letters from one segment up to another are common.
-fn common_in(letters: &[u8; MOST_SEGMENTS], first: usize, to: usize) -> bool
-    requires { (first ≤ to) × (to ≤ most_segments) }
-    ensures { result ≡ all_below (from first (common_at letters.now)) to }
-{
-    let mut ok = true;
-    let mut i = first;
-    while i < to {
-        ok = ok & is_common(letters[i]);
-        i += 1;
-    }
-    ok
 }
 
 // 0 where the flag is true, else x.
@@ -103,7 +105,7 @@ fn unless_byte(flag: bool, x: u8) -> u8
 fn common_letter_on(bits: u8, letter: u8) -> u8
     ensures { within 1 result ≡ (within 1 bits && is_common letter) }
 {
-    let above = std::num::wrapping_sub_u8(letter, b'M');
+    let above = letter.wrapping_sub(b'M');
     bits | unless_byte((letter == b'=') | (letter == b'X'), above)
 }
 
@@ -113,10 +115,8 @@ fn many_common_in(letters: &[u8; MOST_SEGMENTS], first: usize, to: usize) -> boo
     ensures { result ≡ all_below (from first (common_at letters.now)) to }
 {
     let mut bits = 0;
-    let mut i = first;
-    while i < to {
+    for i in first..to {
         bits = common_letter_on(bits, letters[i]);
-        i += 1;
     }
     bits < 2
 }
@@ -130,19 +130,13 @@ pub fn all_common(letters: &[u8; MOST_SEGMENTS], count: usize) -> bool
         return false;
     }
     if count < 16 {
-        let front = common_in(letters, 0, 8);
-        let back = common_in(letters, count - 8, count);
-        return front & back;
+        return in_blocks::<Common, 8>(letters, count);
     }
     if count < 32 {
-        let front = common_in(letters, 0, 16);
-        let back = common_in(letters, count - 16, count);
-        return front & back;
+        return in_blocks::<Common, 16>(letters, count);
     }
     if count < 64 {
-        let front = common_in(letters, 0, 32);
-        let back = common_in(letters, count - 32, count);
-        return front & back;
+        return in_blocks::<Common, 32>(letters, count);
     }
     if many_common_in(letters, count - 16, count) {
         return many_common_in(letters, 0, count - count % 16);

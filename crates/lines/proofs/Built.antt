@@ -7,7 +7,7 @@ use native.Mathlib.Omega.{arith}
 use lib.ListN.{length}
 use mir.Syntax.{w32}
 use mir.Val.{SFits}
-use Rattle.refusals.specs.Outcome.{answered}
+use Rattle.refusals.specs.Outcome.{Ok}
 use Rattle.segments.specs.Tables.{Tables, Holds, read, tables_of}
 use Rattle.segments.specs.laws.Made.{made_hold, made_read}
 use Rattle.judging.specs.Judging.{Made, elements_made}
@@ -25,5 +25,5 @@ module _ (m : Made) {a : Tables} {n : ℕ} (tables_are : a ≡ tables_of (elemen
   pub made_holds : Sane m → Holds a n
   made_holds s = rw (tables_are, count_is) (made_hold (elements_made m) s.letters)
 
-  pub made_listed : {forward : Bool} → forward ≡ m.forward → listing_text forward (read a n) ≡ judgment_text (answered m)
+  pub made_listed : {forward : Bool} → forward ≡ m.forward → listing_text forward (read a n) ≡ judgment_text (Ok m)
   made_listed e = rw (tables_are, count_is, e, made_read (elements_made m))

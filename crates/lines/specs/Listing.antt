@@ -1,6 +1,7 @@
 -- The listing of a transcript, and what stands in its place where a card is refused: bytes, each line ended by a newline. Assumes nothing.
 use Rattle.std.specs.Prelude.{ℕ, ◌+◌, Bool, List, [], ◌∷◌, ◌++◌, length, if◌then◌else◌}
-use Rattle.refusals.specs.Outcome.{Outcome, answered, refused}
+use Rattle.refusals.specs.Numbers.{number}
+use Rattle.refusals.specs.Outcome.{Outcome, Ok, Err}
 use Rattle.cigar.specs.Elements.{Element, genome, transcript, total}
 use Rattle.spelling.specs.Write.{decimal}
 use Rattle.judging.specs.Judging.{Made, elements_made}
@@ -41,5 +42,5 @@ refusal_text k = 114 ∷ 101 ∷ 102 ∷ 117 ∷ 115 ∷ 101 ∷ 100 ∷ (number
 
 -- what is written of building's judgment
 abbrev pub judgment_text : Outcome Made → List ℕ
-judgment_text (refused k) = refusal_text k
-judgment_text (answered m) = listing_text m.forward (elements_made m)
+judgment_text (Err k) = refusal_text (number k)
+judgment_text (Ok m) = listing_text m.forward (elements_made m)

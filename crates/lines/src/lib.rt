@@ -4,7 +4,7 @@
 ghost use Rattle.std.specs.Prelude.{◌≡◌, true, ◌+◌, ◌*◌, ◌-◌, ◌≤◌, ◌<◌, max, length, get_or, pos, nat_abs};
 ghost use Rattle.std.specs.Int.Signed.{le_z};
 ghost use Rattle.whole.specs.Whole.{eq_z};
-ghost use Rattle.refusals.specs.Numbers.{most_segments};
+ghost use Rattle.refusals.specs.Numbers.{number, most_segments};
 ghost use Rattle.lines.specs.Listing.{number_text, numbers_text, sign_of, listing_header, listing_text, refusal_text, judgment_text};
 ghost use Rattle.lines.specs.Tables.{line_at, lines_from};
 ghost use Rattle.cigar.specs.Lent.{at_front};
@@ -14,8 +14,7 @@ ghost use Rattle.card.specs.Putting.{Put};
 ghost use Rattle.card.specs.Writing.{judge_card};
 ghost use Rattle.lines.specs.Lengths.{most_number, most_numbers, most_header, most_line, most_listing, most_refusal};
 
-use refusals::{MOST_SEGMENTS, MOST_STARTS};
-use transcript::Built;
+use refusals::{MOST_SEGMENTS, MOST_STARTS, Refusal};
 
 // The most bytes of a header and of a line, whose numbers have ten digits at most, and of a listing: 71,719.
 const MOST_HEADER: usize = 39;
@@ -25,6 +24,7 @@ const MOST_LINE: usize = 35;
 pub const MOST_LISTING: usize = MOST_HEADER + MOST_LINE * MOST_SEGMENTS;
 
 // A space and a number. Returns the place after it.
+#[tactic(auto, using(crate::specs::Lengths::number_short))]
 fn put_number(buffer: &mut [u8], at: usize, n: u32) -> usize
     requires { at + most_number ≤ length buffer.old }
     ensures put { Put buffer.old buffer.new at result (number_text n) }
@@ -47,32 +47,14 @@ fn put_numbers(buffer: &mut [u8], at: usize, a: u32, b: u32, c: u32) -> usize
     end + 1
 }
 
-// How far a start is above the one before it, or 0.
-fn step(from: u32, to: u32) -> u32
-    ensures { result ≡ to - from }
-{
-    if from <= to {
-        return to - from;
-    }
-    0
-}
-
-// The larger of two steps.
-fn larger(a: u32, b: u32) -> u32
-    ensures { result ≡ max a b }
-{
-    if a <= b { b } else { a }
-}
-
 // The count of segment i.
 fn count_at(genome: &[u32; MOST_STARTS], transcript: &[u32; MOST_STARTS], i: usize) -> u32
     requires { i < most_segments }
     ensures { result ≡ max (get_or genome.now (i + 1) 0 - get_or genome.now i 0) (get_or transcript.now (i + 1) 0 - get_or transcript.now i 0) }
 {
-    let next = i + 1;
-    let along_genome = step(genome[i], genome[next]);
-    let along_transcript = step(transcript[i], transcript[next]);
-    larger(along_genome, along_transcript)
+    let along_genome = genome[i + 1].saturating_sub(genome[i]);
+    let along_transcript = transcript[i + 1].saturating_sub(transcript[i]);
+    along_genome.max(along_transcript)
 }
 
 // The line of segment i. Returns the place after it.
@@ -107,10 +89,8 @@ fn put_lines(
     ensures within { result ≤ from + most_line * count }
 {
     let mut at = from;
-    let mut i = 0;
-    while i < count {
+    for i in 0..count {
         at = put_line(buffer, at, genome, transcript, letters, i);
-        i += 1;
     }
     at
 }
@@ -159,31 +139,22 @@ fn put_listing(
 }
 
 // The line of a refusal, at the front. Returns its length.
-pub fn put_refusal(buffer: &mut [u8], number: u8) -> usize
+pub fn put_refusal(buffer: &mut [u8], refusal: Refusal) -> usize
     requires { most_refusal ≤ length buffer.old }
-    ensures put { Put buffer.old buffer.new 0 result (refusal_text number) }
+    ensures put { Put buffer.old buffer.new 0 result (refusal_text (number refusal)) }
     ensures within { result ≤ most_refusal }
 {
-    buffer[0] = b'r';
-    buffer[1] = b'e';
-    buffer[2] = b'f';
-    buffer[3] = b'u';
-    buffer[4] = b's';
-    buffer[5] = b'e';
-    buffer[6] = b'd';
-    let last = put_number(buffer, 7, number as u32);
+    buffer[..7].copy_from_slice(b"refused");
+    let last = put_number(buffer, 7, u32::from(refusal.number()));
     buffer[last] = b'\n';
     last + 1
 }
 
 // Whether a strand is 1.
-fn is_plus(strand: i64) -> bool
+fn is_plus(strand: i32) -> bool
     ensures { result ≡ eq_z strand (pos 1) }
 {
-    if strand == 1 {
-        return true;
-    }
-    false
+    strand == 1
 }
 
 // A head's count of segments.
@@ -212,11 +183,11 @@ pub fn list_card(
     ensures exons_after { exons.new ≡ exons_after (judge_card card.now) exons.old }
 {
     match card::build_card(card, genome, transcript, letters, exons) {
-        Built::Transcript(head) => {
-            let forward = is_plus(head.strand as i64);
+        Ok(head) => {
+            let forward = is_plus(head.strand);
             let count = count_in(head.count);
             put_listing(buffer, forward, count, genome, transcript, letters)
         }
-        Built::Refused(k) => put_refusal(buffer, k),
+        Err(refusal) => put_refusal(buffer, refusal),
     }
 }

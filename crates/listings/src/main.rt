@@ -35,6 +35,7 @@ fn list_all(
     ensures err { OnErr result (LeavesAfterSome (cards_in cards.now) (tables genome.old transcript.old letters.old) exons.old text.old (tables genome.new transcript.new letters.new) exons.new text.new) }
 {
     let mut at = 0;
+    // A card's size leads to the next card, so no range or chain goes over them.
     while SIZE <= cards.len() - at {
         let from = at + SIZE;
         let size = fields::u32_at(cards, at) as usize;

@@ -1,5 +1,5 @@
 -- A base by itself, start and end of its interval alike: where it lies inside, both its ends are answered by its spot. And what is known of one that is sought before its tables were looked at. Assumes nothing.
-use Rattle.std.specs.Prelude.{ℕ, true, List, ◌≡◌, ℤ, get_or}
+use Rattle.std.specs.Prelude.{ℕ, true, List, ◌≡◌, ℤ, Option, Some, None, get_or}
 use Rattle.whole.specs.Whole.{Within}
 use Rattle.segments.specs.Places.{Spot, unsurely, stop_of}
 use Rattle.segments.specs.Exons.{exon_found, exon_chosen}
@@ -8,7 +8,7 @@ use Rattle.positions.specs.Answers.{Answer, certain, ends}
 use Rattle.spots.specs.Mapping.{inside}
 use Rattle.spots.specs.Aligned.{number_by, Numbers, n_end_at, n_joined, g_end_at, g_joined}
 use Rattle.spots.specs.declared.Alignment.{Alignment}
-use Rattle.lone.specs.declared.Sought as code
+use Rattle.lone.specs.declared.Sought.{Sought}
 
 -- ---- what a sure one is answered with: its one spot's position at both ends, with one exon, certain, or 17
 
@@ -49,6 +49,6 @@ pub record Seen (starts : List ℕ) (n : ℕ) (p : ℤ) (number : ℕ) : Type 0 
   pub numbers : Numbers starts n p number
 
 -- it is this place, where it was seen
-abbrev pub SoughtAt : List ℕ → ℕ → ℤ → code.Sought → Type 0
-SoughtAt starts n p (code.TheVariants.Inside q number) = (q.0 ≡ p) × Seen starts n q.0 number
-SoughtAt starts n p code.TheVariants.Other = Unit
+abbrev pub SoughtAt : List ℕ → ℕ → ℤ → Option Sought → Type 0
+SoughtAt starts n p (Some s) = (s.place.0 ≡ p) × Seen starts n s.place.0 s.number
+SoughtAt starts n p None = Unit

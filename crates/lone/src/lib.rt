@@ -15,20 +15,21 @@ ghost use Rattle.spots.specs.Aligned.{aligned_by, number_by, Aligns, InSegment, 
 ghost use Rattle.lone.specs.Lone.{n_beside, g_beside, SoughtAt};
 
 use numbering::Place;
-use positions::{Exons, GAnswer, NAnswer, fitting};
-use refusals::{MOST_SEGMENTS, MOST_STARTS};
+use positions::{Answer, Exons, GPosition, NPosition, fitting};
+use refusals::{MOST_SEGMENTS, MOST_STARTS, Refusal};
 use segments::{Edge, End, Spot, exons};
 use spots::Alignment;
 
-// A base by itself, sought before its tables were looked at: its place, which lies inside, and the number of the segment that it lies in if they hold. What it is answered with follows from that; any other question goes the long way.
+// A base by itself, sought before its tables were looked at: its place, which lies inside, and the number of the segment that it lies in if they hold. What it is answered with follows from that.
 #[derive(Clone, Copy)]
-pub enum Sought {
-    Inside(Place, usize),
-    Other,
+pub struct Sought {
+    pub place: Place,
+    pub number: usize,
 }
 
-// A place of the first count segments of a table of starts, sought.
-pub fn seek(starts: &[u32; MOST_STARTS], count: usize, p: Place) -> Sought
+// A place of the first count segments of a table of starts, sought; one that lies outside is none, since its question goes the long way.
+#[tactic(auto, unfolding(spots::specs::Mapping::inside))]
+pub fn seek(starts: &[u32; MOST_STARTS], count: usize, p: Place) -> Option<Sought>
     requires { (1 ≤ count) × (count ≤ most_segments) × Within 36 p.0 }
     ensures { SoughtAt starts.now count p.0 result }
 {
@@ -36,13 +37,14 @@ pub fn seek(starts: &[u32; MOST_STARTS], count: usize, p: Place) -> Sought
     if spots::is_inside(true, len, p) {
         let z = p.0;
         let number = finding::find_natural(starts, count, finding::natural(z, len));
-        return Sought::Inside(p, number);
+        return Some(Sought { place: p, number });
     }
-    Sought::Other
+    None
 }
 
 // The n. interval of one place, by its spot as an interval's start, whose exon has this number, as the end's has: a sure one is numbered once.
-fn n_of_one(forward: bool, len: u32, number: u16, start: Spot) -> NAnswer
+#[tactic(auto, using(positions::specs::laws::Reading::marked_both, crate::specs::laws::Once::one_joined))]
+fn n_of_one(forward: bool, len: u32, number: u16, start: Spot) -> Answer<NPosition>
     requires { Small 37 start }
     ensures { paper_n result ≡ n_joined forward len (record { from = number; to = number }) (spot_said start) (stop_of (spot_said start)) }
 {
@@ -52,7 +54,7 @@ fn n_of_one(forward: bool, len: u32, number: u16, start: Spot) -> NAnswer
     };
     if start.sure {
         let end = spots::n_of_spot(forward, len, start);
-        return fitting::n_marked(true, both, fitting::n_both(end, end));
+        return fitting::marked(true, both, fitting::both(end, end));
     }
     spots::n_answer(forward, len, both, start, segments::stop_of(start))
 }
@@ -79,7 +81,7 @@ pub fn beside_n(
     exons: &[u16; MOST_SEGMENTS],
     place: Place,
     number: usize,
-) -> NAnswer
+) -> Answer<NPosition>
     requires { Within 37 place.0 × (number < at.count) × (at.count ≤ most_segments) }
     ensures { paper_n result ≡ n_beside at transcript.now exons.now place.0 number }
 {
@@ -98,7 +100,7 @@ pub fn one_to_n(
     exons: &[u16; MOST_SEGMENTS],
     g: i32,
     strict: bool,
-) -> NAnswer
+) -> Answer<NPosition>
     requires { Aligns at (tables genome.now transcript.now letters.now) }
     ensures { paper_n result ≡ map_g_to_n strict (aligned_by at (tables genome.now transcript.now letters.now) exons.now) (record { from = g; to = g }) }
 {
@@ -110,7 +112,7 @@ pub fn one_to_n(
         let exon = exons::found(exons, count, spots::behind(at), start);
         return n_of_one(forward, spots::last(transcript, count), exon, start);
     }
-    NAnswer::Refused(refusals::OUTSIDE)
+    Err(Refusal::Outside)
 }
 
 // The same in strict mode, by the number of the segment that holds the base, which is at hand.
@@ -122,7 +124,7 @@ pub fn one_to_n_at(
     exons: &[u16; MOST_SEGMENTS],
     number: usize,
     g: i32,
-) -> NAnswer
+) -> Answer<NPosition>
     requires aligns { Aligns at (tables genome.now transcript.now letters.now) }
     requires in_segment { InSegment at genome.now number g }
     ensures { paper_n result ≡ map_g_to_n true (aligned_by at (tables genome.now transcript.now letters.now) exons.now) (record { from = g; to = g }) }
@@ -143,11 +145,17 @@ pub fn one_to_n_at(
         let exon = exons::found(exons, count, spots::behind(at), start);
         return n_of_one(forward, spots::last(transcript, count), exon, start);
     }
-    NAnswer::Refused(refusals::OUTSIDE)
+    Err(Refusal::Outside)
 }
 
 // The g. interval of two positions with one number, by its spot as an interval's start, and their offsets o and u.
-fn g_of_start(at: Alignment, exons: &[u16; MOST_SEGMENTS], start: Spot, o: i32, u: i32) -> GAnswer
+fn g_of_start(
+    at: Alignment,
+    exons: &[u16; MOST_SEGMENTS],
+    start: Spot,
+    o: i32,
+    u: i32,
+) -> Answer<GPosition>
     requires { Small 37 start × (start.number < at.count) × (at.count ≤ most_segments) }
     ensures { paper_g result ≡ g_joined at.forward at.first (record { from = exon_chosen at.forward (number_by at exons.now) (spot_said start); to = exon_chosen at.forward (number_by at exons.now) (spot_said start) }) (spot_said start) (stop_of (spot_said start)) o u }
 {
@@ -175,7 +183,7 @@ pub fn beside_g(
     place: Place,
     number: usize,
     offset: i32,
-) -> GAnswer
+) -> Answer<GPosition>
     requires { Within 37 place.0 × (number < at.count) × (at.count ≤ most_segments) }
     ensures { paper_g result ≡ g_beside at exons.now place.0 number offset }
 {
@@ -194,7 +202,7 @@ pub fn g_of_one(
     o: i32,
     u: i32,
     strict: bool,
-) -> GAnswer
+) -> Answer<GPosition>
     requires { Aligns at (tables genome.now transcript.now letters.now) }
     ensures { paper_g result ≡ fitting g_fits (g_of_ends strict (aligned_by at (tables genome.now transcript.now letters.now) exons.now) (record { base = base; offset = o }) (record { base = base; offset = u })) }
 {
@@ -206,5 +214,5 @@ pub fn g_of_one(
         let start = spots::spot_of_n(at, genome, transcript, letters, p, End::Start);
         return g_of_start(at, exons, start, o, u);
     }
-    GAnswer::Refused(refusals::OUTSIDE)
+    Err(Refusal::Outside)
 }

@@ -3,12 +3,12 @@
 
 ghost use Rattle.std.specs.Prelude.{◌≡◌};
 ghost use Rattle.holding.specs.Holding.{lent, checked};
-ghost use Rattle.positions.specs.Paper.{paper_g_question, paper_n_question, paper_c_question, paper_g, paper_n, paper_c, paper_n_plain, paper_c_plain, paper_said};
+ghost use Rattle.positions.specs.Paper.{paper_n_question, paper_c_question, paper_g, paper_n, paper_c, paper_n_plain, paper_c_plain};
 ghost use Rattle.mapper.specs.Asking.{ask_g_to_n, ask_n_to_g, ask_n_to_c, ask_c_to_n, ask_g_to_c, ask_c_to_g, ask_coding, ask_in_bounds};
 
 use knowing::Known;
-use positions::{CAnswer, CPlain, CQuestion, GAnswer, GQuestion, NAnswer, NPlain, NQuestion, Said};
-use refusals::{MOST_SEGMENTS, MOST_STARTS, NO_GENOME, NOT_TOGETHER};
+use positions::{Answer, CPosition, CQuestion, GPosition, GQuestion, NPosition, NQuestion, Plain};
+use refusals::{MOST_SEGMENTS, MOST_STARTS, Refusal};
 use transcript::Head;
 
 // g. to n.: 23, 18, 19, 14, 17.
@@ -20,15 +20,14 @@ pub fn g_to_n(
     exons: &[u16; MOST_SEGMENTS],
     q: GQuestion,
     strict: bool,
-) -> NAnswer
-    ensures { paper_n result ≡ checked (lent head genome.now transcript.now letters.now exons.now) (ask_g_to_n strict (paper_g_question q)) }
+) -> Answer<NPosition>
+    ensures { paper_n result ≡ checked (lent head genome.now transcript.now letters.now exons.now) (ask_g_to_n strict q) }
 {
-    match knowing::known_of(head, genome, transcript, letters, exons) {
+    match knowing::known_of(head, genome, transcript, letters, exons)? {
         Known::Aligned(at, _) => chaining::g_to_n(
             at, genome, transcript, letters, exons, q, strict,
         ),
-        Known::OfLength(_, _) => NAnswer::Refused(NO_GENOME),
-        Known::Broken => NAnswer::Refused(NOT_TOGETHER),
+        Known::OfLength(_, _) => Err(Refusal::NoGenome),
     }
 }
 
@@ -41,13 +40,12 @@ pub fn n_to_g(
     exons: &[u16; MOST_SEGMENTS],
     q: NQuestion,
     strict: bool,
-) -> GAnswer
+) -> Answer<GPosition>
     ensures { paper_g result ≡ checked (lent head genome.now transcript.now letters.now exons.now) (ask_n_to_g strict (paper_n_question q)) }
 {
-    match knowing::known_of(head, genome, transcript, letters, exons) {
+    match knowing::known_of(head, genome, transcript, letters, exons)? {
         Known::Aligned(at, _) => places::to_g(at, genome, transcript, letters, exons, q, strict),
-        Known::OfLength(_, _) => GAnswer::Refused(NO_GENOME),
-        Known::Broken => GAnswer::Refused(NOT_TOGETHER),
+        Known::OfLength(_, _) => Err(Refusal::NoGenome),
     }
 }
 
@@ -60,16 +58,14 @@ pub fn n_to_c(
     exons: &[u16; MOST_SEGMENTS],
     q: NQuestion,
     strict: bool,
-) -> CPlain
+) -> Plain<CPosition>
     ensures { paper_c_plain result ≡ checked (lent head genome.now transcript.now letters.now exons.now) (ask_n_to_c strict (paper_n_question q)) }
 {
-    match knowing::known_of(head, genome, transcript, letters, exons) {
+    match knowing::known_of(head, genome, transcript, letters, exons)? {
         Known::Aligned(at, cds) => {
-            let count = at.count;
-            chaining::n_to_c(spots::last(transcript, count), cds, q, strict)
+            chaining::n_to_c(spots::last(transcript, at.count), cds, q, strict)
         }
         Known::OfLength(length, cds) => chaining::n_to_c(length, cds, q, strict),
-        Known::Broken => CPlain::Refused(NOT_TOGETHER),
     }
 }
 
@@ -82,16 +78,14 @@ pub fn c_to_n(
     exons: &[u16; MOST_SEGMENTS],
     q: CQuestion,
     strict: bool,
-) -> NPlain
+) -> Plain<NPosition>
     ensures { paper_n_plain result ≡ checked (lent head genome.now transcript.now letters.now exons.now) (ask_c_to_n strict (paper_c_question q)) }
 {
-    match knowing::known_of(head, genome, transcript, letters, exons) {
+    match knowing::known_of(head, genome, transcript, letters, exons)? {
         Known::Aligned(at, cds) => {
-            let count = at.count;
-            chaining::c_to_n(spots::last(transcript, count), cds, q, strict)
+            chaining::c_to_n(spots::last(transcript, at.count), cds, q, strict)
         }
         Known::OfLength(length, cds) => chaining::c_to_n(length, cds, q, strict),
-        Known::Broken => NPlain::Refused(NOT_TOGETHER),
     }
 }
 
@@ -104,18 +98,16 @@ pub fn g_to_c(
     exons: &[u16; MOST_SEGMENTS],
     q: GQuestion,
     strict: bool,
-) -> CAnswer
-    ensures { paper_c result ≡ checked (lent head genome.now transcript.now letters.now exons.now) (ask_g_to_c strict (paper_g_question q)) }
+) -> Answer<CPosition>
+    ensures { paper_c result ≡ checked (lent head genome.now transcript.now letters.now exons.now) (ask_g_to_c strict q) }
 {
-    match knowing::known_of(head, genome, transcript, letters, exons) {
+    match knowing::known_of(head, genome, transcript, letters, exons)? {
         Known::Aligned(at, cds) => {
-            let count = at.count;
-            let length = spots::last(transcript, count);
+            let length = spots::last(transcript, at.count);
             let n = chaining::g_to_n(at, genome, transcript, letters, exons, q, strict);
             chaining::then_n_to_c(n, length, cds, strict)
         }
-        Known::OfLength(_, _) => CAnswer::Refused(NO_GENOME),
-        Known::Broken => CAnswer::Refused(NOT_TOGETHER),
+        Known::OfLength(_, _) => Err(Refusal::NoGenome),
     }
 }
 
@@ -128,20 +120,18 @@ pub fn c_to_g(
     exons: &[u16; MOST_SEGMENTS],
     q: CQuestion,
     strict: bool,
-) -> GAnswer
+) -> Answer<GPosition>
     ensures { paper_g result ≡ checked (lent head genome.now transcript.now letters.now exons.now) (ask_c_to_g strict (paper_c_question q)) }
 {
-    match knowing::known_of(head, genome, transcript, letters, exons) {
+    match knowing::known_of(head, genome, transcript, letters, exons)? {
         Known::Aligned(at, cds) => {
-            let count = at.count;
-            let length = spots::last(transcript, count);
+            let length = spots::last(transcript, at.count);
             let n = chaining::c_to_n(length, cds, q, strict);
             chaining::then_n_to_g(n, at, genome, transcript, letters, exons, strict)
         }
         Known::OfLength(length, cds) => chaining::then_no_genome(chaining::c_to_n(
             length, cds, q, strict,
         )),
-        Known::Broken => GAnswer::Refused(NOT_TOGETHER),
     }
 }
 
@@ -152,13 +142,13 @@ pub fn is_coding_transcript(
     transcript: &[u32; MOST_STARTS],
     letters: &[u8; MOST_SEGMENTS],
     exons: &[u16; MOST_SEGMENTS],
-) -> Said
-    ensures { paper_said result ≡ checked (lent head genome.now transcript.now letters.now exons.now) ask_coding }
+) -> Result<bool, Refusal>
+    ensures { result ≡ checked (lent head genome.now transcript.now letters.now exons.now) ask_coding }
 {
-    match knowing::known_of(head, genome, transcript, letters, exons) {
-        Known::Aligned(_, cds) => chaining::is_coding(cds),
-        Known::OfLength(_, cds) => chaining::is_coding(cds),
-        Known::Broken => Said::Refused(NOT_TOGETHER),
+    // One or-pattern for both arms was tried, and its proof did not close.
+    match knowing::known_of(head, genome, transcript, letters, exons)? {
+        Known::Aligned(_, cds) => Ok(chaining::is_coding(cds)),
+        Known::OfLength(_, cds) => Ok(chaining::is_coding(cds)),
     }
 }
 
@@ -170,12 +160,11 @@ pub fn is_g_interval_in_bounds(
     letters: &[u8; MOST_SEGMENTS],
     exons: &[u16; MOST_SEGMENTS],
     q: GQuestion,
-) -> Said
-    ensures { paper_said result ≡ checked (lent head genome.now transcript.now letters.now exons.now) (ask_in_bounds (paper_g_question q)) }
+) -> Result<bool, Refusal>
+    ensures { result ≡ checked (lent head genome.now transcript.now letters.now exons.now) (ask_in_bounds q) }
 {
-    match knowing::known_of(head, genome, transcript, letters, exons) {
+    match knowing::known_of(head, genome, transcript, letters, exons)? {
         Known::Aligned(at, _) => chaining::is_in_bounds(at, genome, q),
-        Known::OfLength(_, _) => Said::Refused(NO_GENOME),
-        Known::Broken => Said::Refused(NOT_TOGETHER),
+        Known::OfLength(_, _) => Err(Refusal::NoGenome),
     }
 }

@@ -3,7 +3,7 @@
 // early way out, and is vectorised; where none is above, both ends decide. From which of two neighbours a step is taken is a matter of the strand: the loop is told by two numbers, 0 and 1.
 #![tactic(auto)]
 
-ghost use Rattle.std.specs.Prelude.{◌≡◌, ◌+◌, ◌-◌, ◌<◌, ◌≤◌, ◌&&◌, if◌then◌else◌, ◌==◌};
+ghost use Rattle.std.specs.Prelude.{◌≡◌, ◌+◌, ◌<◌, ◌≤◌, ◌&&◌, if◌then◌else◌, ◌==◌};
 ghost use Rattle.refusals.specs.Numbers.{most_segments};
 ghost use Rattle.segments.specs.Tables.{all_below};
 ghost use Rattle.segments.specs.Exons.{first_number, numbers_hold};
@@ -19,13 +19,6 @@ fn most_after(letter: u8) -> u16
     if letter == b'N' { 1 } else { 0 }
 }
 
-// How far a step is above the most.
-fn above(step: u16, most: u16) -> u16
-    ensures { result ≡ step - most }
-{
-    if most < step { step - most } else { 0 }
-}
-
 // The bits of two numbers together.
 fn with_bits(a: u16, b: u16) -> u16
     ensures { (result == 0) ≡ (a == 0 && b == 0) }
@@ -37,9 +30,9 @@ fn with_bits(a: u16, b: u16) -> u16
 fn step_on(wrong: u16, letter: u8, low: u16, high: u16) -> u16
     ensures { (result == 0) ≡ (wrong == 0 && stepped letter low high) }
 {
-    let step = std::num::wrapping_sub_u16(high, low);
+    let step = high.wrapping_sub(low);
     let most = most_after(letter);
-    with_bits(wrong, above(step, most))
+    with_bits(wrong, step.saturating_sub(most))
 }
 
 // What is above in the steps after the segments from one up to another.
@@ -55,10 +48,8 @@ fn steps_in(
     ensures { (result == 0) ≡ all_below (from first (stepped_at letters.now exons.now low high)) to }
 {
     let mut wrong = 0;
-    let mut i = first;
-    while i < to {
+    for i in first..to {
         wrong = step_on(wrong, letters[i], exons[i + low], exons[i + high]);
-        i += 1;
     }
     wrong
 }
@@ -68,7 +59,7 @@ fn steps_in(
 fn is_stepped(letter: u8, low: u16, high: u16) -> bool
     ensures { result ≡ stepped letter low high }
 {
-    let step = std::num::wrapping_sub_u16(high, low);
+    let step = high.wrapping_sub(low);
     let most = most_after(letter);
     (step | most) == most
 }
@@ -86,12 +77,26 @@ fn stepped_in(
     ensures { result ≡ all_below (from first (stepped_at letters.now exons.now low high)) to }
 {
     let mut ok = true;
-    let mut i = first;
-    while i < to {
+    for i in first..to {
         ok = ok & is_stepped(letters[i], exons[i + low], exons[i + high]);
-        i += 1;
     }
     ok
+}
+
+// Whether as many steps are no more than they may be as two blocks of one size have: the last overlaps the first, or meets it.
+fn in_blocks<const SIZE: usize>(
+    letters: &[u8; MOST_SEGMENTS],
+    exons: &[u16; MOST_SEGMENTS],
+    low: usize,
+    high: usize,
+    to: usize,
+) -> bool
+    requires { (low ≤ 1) × (high ≤ 1) × (SIZE ≤ to) × (to ≤ SIZE + SIZE) × (to < most_segments) }
+    ensures { result ≡ all_below (stepped_at letters.now exons.now low high) to }
+{
+    let front = steps_in(letters, exons, low, high, 0, SIZE);
+    let back = steps_in(letters, exons, low, high, to - SIZE, to);
+    with_bits(front, back) == 0
 }
 
 // Whether so many steps from the first segment on are no more than they may be. The compiler makes straight code of whole blocks, so the last block overlaps the others; from 16 to 31
@@ -111,18 +116,14 @@ fn steps_hold(
             if to < 4 {
                 return steps_in(letters, exons, low, high, 0, to) == 0;
             }
-            let front = steps_in(letters, exons, low, high, 0, 4);
-            let back = steps_in(letters, exons, low, high, to - 4, to);
-            return with_bits(front, back) == 0;
+            return in_blocks::<4>(letters, exons, low, high, to);
         }
         let front = stepped_in(letters, exons, low, high, 0, 8);
         let back = stepped_in(letters, exons, low, high, to - 8, to);
         return front & back;
     }
     if to < 32 {
-        let front = steps_in(letters, exons, low, high, 0, 16);
-        let back = steps_in(letters, exons, low, high, to - 16, to);
-        return with_bits(front, back) == 0;
+        return in_blocks::<16>(letters, exons, low, high, to);
     }
     let front = steps_in(letters, exons, low, high, 0, to - to % 16);
     let back = steps_in(letters, exons, low, high, to - 16, to);

@@ -1,6 +1,6 @@
 -- Each refusal of the table's rows occurs: for each number of a row an input that is refused with it, in the row's order. With `refusals` of `refusing` the rows are exact. Assumes nothing.
 use Rattle.std.specs.Prelude.{ℕ, List, [], ◌∷◌, ◌++◌, map, ◌≡◌, ℤ, pos, negsuc, length, replicate, drop}
-use Rattle.refusals.specs.Outcome.{refused}
+use Rattle.refusals.specs.Outcome.{Err}
 use Rattle.cigar.specs.Elements.{letter_d, letter_m}
 use Rattle.cigar.specs.Read.{read_text}
 use Rattle.spelling.specs.Write.{writing}
@@ -21,7 +21,7 @@ many = replicate 2049 letter_m
 
 -- too many segments; `S`; `99999999999M`
 abbrev pub ReadCigarOccurs : Type 0
-ReadCigarOccurs = map read_text (many ∷ (letter_s ∷ []) ∷ (nines ++ (letter_m ∷ [])) ∷ []) ≡ map refused reading_refusals
+ReadCigarOccurs = map read_text (many ∷ (letter_s ∷ []) ∷ (nines ++ (letter_m ∷ [])) ∷ []) ≡ map Err reading_refusals
 
 -- too many elements; `S`; a count below 0; no room for one byte
 abbrev pub WriteCigarOccurs : Type 0
@@ -30,11 +30,11 @@ WriteCigarOccurs =
     ∷ writing 1 (pos 1 ∷ []) (letter_s ∷ []) 9
     ∷ writing 1 (negsuc 0 ∷ []) (letter_m ∷ []) 9
     ∷ writing 1 (pos 1 ∷ []) (letter_m ∷ []) 0
-    ∷ [] ≡ map refused writing_refusals
+    ∷ [] ≡ map Err writing_refusals
 
 -- a clipped base; too many words; no room for one
 abbrev pub ReadBamOccurs : Type 0
-ReadBamOccurs = read_words (4 ∷ []) 9 9 ∷ read_words (replicate 2049 0) 9 9 ∷ read_words (0 ∷ []) 9 0 ∷ [] ≡ map refused reading_words_refusals
+ReadBamOccurs = read_words (4 ∷ []) 9 9 ∷ read_words (replicate 2049 0) 9 9 ∷ read_words (0 ∷ []) 9 0 ∷ [] ≡ map Err reading_words_refusals
 
 -- `S`; a count below 0; too many elements; no room for one
 abbrev pub WriteBamOccurs : Type 0
@@ -43,7 +43,7 @@ WriteBamOccurs =
     ∷ write_words 1 (negsuc 0 ∷ []) (letter_m ∷ []) 9
     ∷ write_words 2049 [] (replicate 2048 letter_m) 9
     ∷ write_words 1 (pos 1 ∷ []) (letter_m ∷ []) 0
-    ∷ [] ≡ map refused writing_words_refusals
+    ∷ [] ≡ map Err writing_words_refusals
 
 -- ---- building
 
@@ -80,7 +80,7 @@ samples =
     ∷ []
 
 abbrev pub BuildOccurs : Type 0
-BuildOccurs = map (λ (x : Handed). judge x.0 x.1) samples ≡ map refused building_refusals
+BuildOccurs = map (λ (x : Handed). judge x.0 x.1) samples ≡ map Err building_refusals
 
 -- a length below 0; one above the largest; one CDS bit; a CDS end above the length; bits above 3
 abbrev pub BuildLengthOccurs : Type 0
@@ -90,13 +90,13 @@ BuildLengthOccurs =
     ∷ judge_length (pos 18) 2 (pos 0) (pos 15)
     ∷ judge_length (pos 18) 3 (pos 3) (pos 19)
     ∷ judge_length (pos 18) 4 (pos 0) (pos 0)
-    ∷ [] ≡ map refused length_refusals
+    ∷ [] ≡ map Err length_refusals
 
 -- ---- cards
 
 -- A, for which there is no room; and what building refuses
 abbrev pub WriteCardOccurs : Type 0
-WriteCardOccurs = map (λ (x : Handed). card_writing x.0 x.1 0) (handed 3 (pos 3) (pos 15) rows_a ∷ samples) ≡ map refused card_writing_refusals
+WriteCardOccurs = map (λ (x : Handed). card_writing x.0 x.1 0) (handed 3 (pos 3) (pos 15) rows_a ∷ samples) ≡ map Err card_writing_refusals
 
 -- the card of what is handed over
 abbrev card : Handed → List ℕ
@@ -104,4 +104,4 @@ card x = card_text (input_of x.0 x.1)
 
 -- no record; no byte; version 2; and what building refuses once the strand is known
 abbrev pub BuildCardOccurs : Type 0
-BuildCardOccurs = map judge_card (card (plain []) ∷ [] ∷ (mark ++ (2 ∷ 0 ∷ [])) ∷ map card (drop 4 samples)) ≡ map refused card_refusals
+BuildCardOccurs = map judge_card (card (plain []) ∷ [] ∷ (mark ++ (2 ∷ 0 ∷ [])) ∷ map card (drop 4 samples)) ≡ map Err card_refusals

@@ -6,19 +6,19 @@ ghost use Rattle.refusals.specs.Numbers.{most_segments};
 ghost use Rattle.segments.specs.Tables.{tables};
 ghost use Rattle.segments.specs.Paper.{spot_said};
 ghost use Rattle.positions.specs.Answers.{g_fits, fitting};
-ghost use Rattle.positions.specs.Paper.{paper_n_asked, paper_n_question, paper_exons, paper_g, paper_n};
+ghost use Rattle.positions.specs.Paper.{paper_n_asked, paper_n_question, paper_g, paper_n};
 ghost use Rattle.spots.specs.Mapping.{found_exons, chosen_exons, map_g_to_n, g_of_ends, map_n_to_g, lies_in_bounds};
 ghost use Rattle.spots.specs.Aligned.{aligned_by, number_by, Aligns};
 
-use positions::{Exons, GAnswer, NAnswer, NAsked, NQuestion};
-use refusals::{MOST_SEGMENTS, MOST_STARTS};
+use positions::{Answer, Exons, GPosition, NAsked, NPosition, NQuestion};
+use refusals::{MOST_SEGMENTS, MOST_STARTS, Refusal};
 use segments::{End, Spot, exons};
 use spots::Alignment;
 
 // The exon numbers of an interval's two spots of the transcript: on strand -1 they change places, as start and end do.
 fn found_exons(at: Alignment, exons: &[u16; MOST_SEGMENTS], a: Spot, b: Spot) -> Exons
     requires { (a.number < at.count) × (b.number < at.count) × (at.count ≤ most_segments) }
-    ensures { paper_exons result ≡ found_exons at.forward (number_by at exons.now) (spot_said a) (spot_said b) }
+    ensures { result ≡ found_exons at.forward (number_by at exons.now) (spot_said a) (spot_said b) }
 {
     let forward = at.forward;
     let count = at.count;
@@ -41,7 +41,7 @@ fn found_exons(at: Alignment, exons: &[u16; MOST_SEGMENTS], a: Spot, b: Spot) ->
 // The exon numbers of an interval's two spots of the genome.
 fn chosen_exons(at: Alignment, exons: &[u16; MOST_SEGMENTS], a: Spot, b: Spot) -> Exons
     requires { (a.number < at.count) × (b.number < at.count) × (at.count ≤ most_segments) }
-    ensures { paper_exons result ≡ chosen_exons at.forward (number_by at exons.now) (spot_said a) (spot_said b) }
+    ensures { result ≡ chosen_exons at.forward (number_by at exons.now) (spot_said a) (spot_said b) }
 {
     let forward = at.forward;
     let count = at.count;
@@ -61,7 +61,7 @@ pub fn to_n(
     from: i32,
     to: i32,
     strict: bool,
-) -> NAnswer
+) -> Answer<NPosition>
     requires { Aligns at (tables genome.now transcript.now letters.now) }
     ensures { paper_n result ≡ map_g_to_n strict (aligned_by at (tables genome.now transcript.now letters.now) exons.now) (record { from = from; to = to }) }
 {
@@ -78,7 +78,7 @@ pub fn to_n(
         let numbers = found_exons(at, exons, a, b);
         return spots::n_answer(forward, spots::last(transcript, count), numbers, a, b);
     }
-    NAnswer::Refused(refusals::OUTSIDE)
+    Err(Refusal::Outside)
 }
 
 // n. to g. of two positions in genomic order.
@@ -91,7 +91,7 @@ fn g_of_ends(
     a: NAsked,
     b: NAsked,
     strict: bool,
-) -> GAnswer
+) -> Answer<GPosition>
     requires { Aligns at (tables genome.now transcript.now letters.now) }
     ensures { paper_g result ≡ fitting g_fits (g_of_ends strict (aligned_by at (tables genome.now transcript.now letters.now) exons.now) (paper_n_asked a) (paper_n_asked b)) }
 {
@@ -113,10 +113,11 @@ fn g_of_ends(
         let numbers = chosen_exons(at, exons, start, stop);
         return spots::g_answer(forward, at.first, numbers, start, stop, a.offset, b.offset);
     }
-    GAnswer::Refused(refusals::OUTSIDE)
+    Err(Refusal::Outside)
 }
 
 // n. to g.: 14, then 17. On strand -1 start and end change places.
+#[tactic(auto, unfolding(spots::specs::Mapping::map_n_to_g))]
 pub fn to_g(
     at: Alignment,
     genome: &[u32; MOST_STARTS],
@@ -125,7 +126,7 @@ pub fn to_g(
     exons: &[u16; MOST_SEGMENTS],
     q: NQuestion,
     strict: bool,
-) -> GAnswer
+) -> Answer<GPosition>
     requires { Aligns at (tables genome.now transcript.now letters.now) }
     ensures { paper_g result ≡ map_n_to_g strict (aligned_by at (tables genome.now transcript.now letters.now) exons.now) (paper_n_question q) }
 {

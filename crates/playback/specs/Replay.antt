@@ -1,7 +1,7 @@
 -- A log replayed on a transcript that is lent: which answers differ, and what is written of them. Assumes nothing.
-use Rattle.std.specs.Prelude.{ℕ, ◌+◌, Bool, not, ◌&&◌, List, [], ◌∷◌, ◌++◌, eqb, ltb, length, if◌then◌else◌}
-use Rattle.refusals.specs.Numbers.{no_room}
-use Rattle.refusals.specs.Outcome.{Outcome, answered, refused, and_then, through}
+use Rattle.std.specs.Prelude.{ℕ, ◌+◌, Bool, false, not, ◌&&◌, ◌||◌, List, [], ◌∷◌, ◌++◌, eqb, ltb, length, if◌then◌else◌}
+use Rattle.refusals.specs.declared.Refusal.TheVariants.{NoRoom}
+use Rattle.refusals.specs.Outcome.{Outcome, Ok, Err, and_then, through}
 use Rattle.whole.specs.Whole.{eq_z}
 use Rattle.transcript.specs.Transcript.{Source}
 use Rattle.holding.specs.Holding.{Lent, checked}
@@ -34,6 +34,11 @@ indices_from x i (e ∷ es) = index_if (differs x e) i ++ indices_from x (i + 1)
 abbrev pub differing : Lent → List Entry → List ℕ
 differing x es = indices_from x 0 es
 
+-- k is one of the indices
+abbrev pub is_listed : ℕ → List ℕ → Bool
+is_listed k [] = false
+is_listed k (i ∷ is) = eqb k i || is_listed k is
+
 -- ---- what is written
 
 -- a line for each index, then the total
@@ -46,7 +51,7 @@ replayed x log = checked x (λ (s : Source). through (λ (es : List Entry). repl
 
 -- 20 where a text is longer than the buffer
 abbrev pub roomed : ℕ → List ℕ → Outcome (List ℕ)
-roomed room text = if ltb room (length text) then refused no_room else answered text
+roomed room text = if ltb room (length text) then Err NoRoom else Ok text
 
 -- the text of a log, for a buffer of that many bytes: 23, 3, 35, 20
 unfoldable pub replaying : Lent → List ℕ → ℕ → Outcome (List ℕ)

@@ -8,15 +8,14 @@ ghost use Rattle.entries.specs.Layout.{entry_size};
 ghost use Rattle.entries.specs.Entries.{entry_at};
 ghost use Rattle.journal.specs.Logs.{entries_from};
 ghost use Rattle.playback.specs.Lines.{lines_of, most_entries};
-ghost use Rattle.playback.specs.Replay.{same_position, same_answer, differs, differing, roomed, replay_text};
+ghost use Rattle.playback.specs.Replay.{same_answer, differs, differing, roomed, replay_text};
 
 use crate::text;
 use entries::ENTRY_SIZE;
 use journal::ENTRIES_AT;
 use layout::lay;
-use layout::lay::{Answer, Position};
-use refusals::{MOST_SEGMENTS, MOST_STARTS, NO_ROOM};
-use spelling::Written;
+use layout::lay::Answer;
+use refusals::{MOST_SEGMENTS, MOST_STARTS, Refusal};
 use transcript::Head;
 
 // How many entries differ, and how many bytes the lines of their indices take.
@@ -26,20 +25,11 @@ pub struct Measured {
     pub size: usize,
 }
 
-// Whether two positions are the same, the exon's number too.
-fn is_same_position(a: Position, b: Position) -> bool
-    ensures { result ≡ same_position a b }
-{
-    (a.base == b.base) & (a.offset == b.offset) & (a.star == b.star) & (a.exon == b.exon)
-}
-
-// Whether two answers are the same, refusals too.
+// Whether two answers are the same, refusals and the exons' numbers too.
 fn is_same(a: Answer, b: Answer) -> bool
     ensures { result ≡ same_answer a b }
 {
-    let start = is_same_position(a.start, b.start);
-    let end = is_same_position(a.end, b.end);
-    (a.number == b.number) & (a.mark == b.mark) & start & end
+    a == b
 }
 
 // Whether the entry at a place has another answer than is said now.
@@ -56,13 +46,8 @@ fn differs_at<'a>(
     ensures { result ≡ differs (lent head genome.now transcript.now letters.now exons.now) (entry_at log.now at) }
 {
     let entry = entries::entry_at(log, at);
-    let question = entry.question;
-    let answer = entry.answer;
-    let said = asking::ask(head, genome, transcript, letters, exons, question);
-    if is_same(answer, said) {
-        return false;
-    }
-    true
+    let said = asking::ask(head, genome, transcript, letters, exons, entry.question);
+    !is_same(entry.answer, said)
 }
 
 // How many entries differ, and how long their lines are.
@@ -81,13 +66,11 @@ fn measure<'a>(
 {
     let mut total = 0;
     let mut size = 0;
-    let mut i = 0;
-    while i < count {
+    for i in 0..count {
         let at = ENTRIES_AT + ENTRY_SIZE * i;
         let differ = differs_at(head, genome, transcript, letters, exons, log, at);
         total += lay::star_number(differ);
         size += text::len_if(differ, i as u32);
-        i += 1;
     }
     Measured { total, size }
 }
@@ -108,12 +91,10 @@ fn put_lines<'a>(
     ensures { Put buffer.old buffer.new 0 result (lines_of (differing (lent head genome.now transcript.now letters.now exons.now) (entries_from count log.now entries_at))) }
 {
     let mut end = 0;
-    let mut index = 0;
-    while index < count {
+    for index in 0..count {
         let at = ENTRIES_AT + ENTRY_SIZE * index;
         let differ = differs_at(head, genome, transcript, letters, exons, log, at);
         end = text::put_if(buffer, end, differ, index as u32);
-        index += 1;
     }
     end
 }
@@ -128,7 +109,7 @@ pub fn list<'a>(
     log: &'a [u8],
     count: usize,
     buffer: &mut [u8],
-) -> Written
+) -> Result<usize, Refusal>
     requires { (count ≤ most_entries) × (entries_at + entry_size * count ≤ length log.now) }
     ensures value { result ≡ written_answer (roomed (length buffer.old) (replay_text (differing (lent head genome.now transcript.now letters.now exons.now) (entries_from count log.now entries_at)))) }
     ensures buffer_after { buffer.new ≡ buffer_after buffer.old (roomed (length buffer.old) (replay_text (differing (lent head genome.now transcript.now letters.now exons.now) (entries_from count log.now entries_at)))) }
@@ -137,9 +118,9 @@ pub fn list<'a>(
     let total = lines.total;
     let size = lines.size + text::line_len(total);
     if buffer.len() < size {
-        return Written::Refused(NO_ROOM);
+        return Err(Refusal::NoRoom);
     }
     let end = put_lines(head, genome, transcript, letters, exons, log, count, buffer);
     text::put_line(buffer, end, total);
-    Written::Text(size)
+    Ok(size)
 }

@@ -6,9 +6,7 @@ ghost use Rattle.spelling.specs.Write.{written_answer, buffer_after};
 ghost use Rattle.holding.specs.Holding.{lent};
 ghost use Rattle.playback.specs.Replay.{replaying};
 
-use journal::ReadLog;
-use refusals::{MOST_SEGMENTS, MOST_STARTS, NOT_TOGETHER};
-use spelling::Written;
+use refusals::{MOST_SEGMENTS, MOST_STARTS, Refusal};
 use transcript::Head;
 
 pub mod differing;
@@ -24,18 +22,13 @@ pub fn replay<'a>(
     exons: &'a [u16; MOST_SEGMENTS],
     log: &'a [u8],
     buffer: &mut [u8],
-) -> Written
+) -> Result<usize, Refusal>
     ensures value { result ≡ written_answer (replaying (lent head genome.now transcript.now letters.now exons.now) log.now (length buffer.old)) }
     ensures buffer_after { buffer.new ≡ buffer_after buffer.old (replaying (lent head genome.now transcript.now letters.now exons.now) log.now (length buffer.old)) }
 {
-    if knowing::is_held(head, genome, transcript, letters, exons) {
-        match journal::read_log(log) {
-            ReadLog::Entries(count) => {
-                differing::list(head, genome, transcript, letters, exons, log, count, buffer)
-            }
-            ReadLog::Refused(k) => Written::Refused(k),
-        }
-    } else {
-        Written::Refused(NOT_TOGETHER)
+    if !knowing::is_held(head, genome, transcript, letters, exons) {
+        return Err(Refusal::NotTogether);
     }
+    let count = journal::read_log(log)?;
+    differing::list(head, genome, transcript, letters, exons, log, count, buffer)
 }

@@ -1,6 +1,6 @@
 -- Where an input's card ends, by what the code says of it.
 -- Assumes nothing.
-use mathlib.Core.Path.{◌≡◌, ap}
+use mathlib.Core.Path.{◌≡◌}
 use mathlib.Core.List.{List}
 use Prim.Native.Nat.{ℕ, ◌+◌, ◌-◌, ◌≤◌}
 use native.Mathlib.Omega.{arith}
@@ -8,19 +8,18 @@ use borrow.Author.Tests.{ltb-false}
 use lib.Dec.{ltb}
 use lib.ListN.{length}
 use Rattle.refusals.specs.Numbers.{most_card}
-use Rattle.refusals.specs.Outcome.{Outcome, answered, refused}
+use Rattle.refusals.specs.Outcome.{Ok}
 use Rattle.refusals.specs.laws.Outcomes.{clash, same}
 use Rattle.whole.specs.laws.Whole.{by_test}
 use Rattle.fields.specs.Fields.{le32}
-use Rattle.playing.specs.Played.{size_bytes, card_end, card_end_answer}
-use Rattle.playing.specs.declared.CardEnd.TheVariants as end
+use Rattle.playing.specs.Played.{size_bytes, card_end}
 
 pub record Ends (s : List ℕ) (to : ℕ) : Type 0 where
-  pub outcome : card_end s ≡ answered to
+  pub outcome : card_end s ≡ Ok to
   pub after : size_bytes ≤ to
   pub within : to ≤ length s
 
-inside : (s : List ℕ) (to : ℕ) → card_end s ≡ answered to → (size_bytes ≤ to) × (to ≤ length s)
+inside : (s : List ℕ) (to : ℕ) → card_end s ≡ Ok to → (size_bytes ≤ to) × (to ≤ length s)
 unfolding card_end
 inside s to e =
     by_test (ltb (length s) size_bytes)
@@ -33,16 +32,5 @@ inside s to e =
     let at : size_bytes + le32 s 0 ≡ to = same (simp (a, b, d) at e) in
     (omega arith, omega (arith, ltb-false (length s) size_bytes a, ltb-false (length s - size_bytes) (le32 s 0) d)))))
 
-pub ends : (s : List ℕ) (to : ℕ) → card_end_answer (card_end s) ≡ end.At to → Ends s to
-ends s to e = let o = go (card_end s) e in record { outcome = o; after = (inside s to o).0; within = (inside s to o).1 }
-  where
-    go : (o : Outcome ℕ) → card_end_answer o ≡ end.At to → o ≡ answered to
-    go (answered n) q = let is : n ≡ to = cc in ap answered is
-    go (refused k) q = let z : ◌≡◌ {A = ℕ} 0 1 = cc in absurd (omega arith)
-
-pub cut : (s : List ℕ) (k : ℕ) → card_end_answer (card_end s) ≡ end.Refused k → card_end s ≡ refused k
-cut s k e = go (card_end s) e
-  where
-    go : (o : Outcome ℕ) → card_end_answer o ≡ end.Refused k → o ≡ refused k
-    go (answered n) q = let z : ◌≡◌ {A = ℕ} 0 1 = cc in absurd (omega arith)
-    go (refused l) q = let is : l ≡ k = cc in ap refused is
+pub ends : (s : List ℕ) (to : ℕ) → card_end s ≡ Ok to → Ends s to
+ends s to e = record { outcome = e; after = (inside s to e).0; within = (inside s to e).1 }

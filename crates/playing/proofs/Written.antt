@@ -2,14 +2,14 @@
 --     text_is, refused_is   by the answer of writing
 --     lent_made             what a card's building left is what it made
 -- Assumes nothing.
+use Rattle.refusals.specs.declared.Refusal.{Refusal}
 use mathlib.Core.Path.{◌≡◌, refl, ap, ap₂, ◌∙◌}
 use mathlib.Core.List.{List}
 use Prim.Native.Nat.{ℕ}
 use native.Mathlib.Omega.{arith}
 use lib.ListN.{length}
-use Rattle.refusals.specs.Outcome.{Outcome, answered, refused}
+use Rattle.refusals.specs.Outcome.{Outcome, Ok, Err}
 use Rattle.spelling.specs.Write.{written_answer}
-use Rattle.spelling.specs.declared.Written.TheVariants as written
 use Rattle.segments.specs.Tables.{Tables, tables}
 use Rattle.transcript.specs.declared.Head.{Head}
 use Rattle.holding.specs.Holding.{lent}
@@ -22,16 +22,16 @@ use Rattle.playing.specs.Played.{lent_by}
 
 pub record IsText (o : Outcome (List ℕ)) (n : ℕ) : Type 0 where
   pub text : List ℕ
-  pub outcome : o ≡ answered text
+  pub outcome : o ≡ Ok text
   pub size : n ≡ length text
 
-pub text_is : (o : Outcome (List ℕ)) (n : ℕ) → written_answer o ≡ written.Text n → IsText o n
-text_is (answered text) n e = record { text = text; outcome = refl; size = cc }
-text_is (refused k) n e = let z : ◌≡◌ {A = ℕ} 0 1 = cc in absurd (omega arith)
+pub text_is : (o : Outcome (List ℕ)) (n : ℕ) → written_answer o ≡ Ok n → IsText o n
+text_is (Ok text) n e = record { text = text; outcome = refl; size = cc }
+text_is (Err k) n e = let z : ◌≡◌ {A = ℕ} 0 1 = cc in absurd (omega arith)
 
-pub refused_is : (o : Outcome (List ℕ)) (k : ℕ) → written_answer o ≡ written.Refused k → o ≡ refused k
-refused_is (answered text) k e = let z : ◌≡◌ {A = ℕ} 0 1 = cc in absurd (omega arith)
-refused_is (refused l) k e = let is : l ≡ k = cc in ap refused is
+pub refused_is : (o : Outcome (List ℕ)) (k : Refusal) → written_answer o ≡ Err k → o ≡ Err k
+refused_is (Ok text) k e = let z : ◌≡◌ {A = ℕ} 0 1 = cc in absurd (omega arith)
+refused_is (Err l) k e = let is : l ≡ k = cc in ap Err is
 
 -- ---- by what building left
 

@@ -1,7 +1,8 @@
 -- A log replayed on the transcript that a card makes, and the two as one input of bytes. Assumes nothing.
 use Rattle.std.specs.Prelude.{ℕ, ◌+◌, ◌-◌, List, ltb, length, take, drop, if◌then◌else◌}
-use Rattle.refusals.specs.Numbers.{too_much, no_card, most_segments, most_card}
-use Rattle.refusals.specs.Outcome.{Outcome, answered, refused, and_then}
+use Rattle.refusals.specs.Numbers.{number, most_segments, most_card}
+use Rattle.refusals.specs.declared.Refusal.TheVariants.{TooMuch, NoCard}
+use Rattle.refusals.specs.Outcome.{Outcome, Ok, Err, and_then}
 use Rattle.fields.specs.Fields.{le32}
 use Rattle.segments.specs.Tables.{padded, tables_of}
 use Rattle.transcript.specs.Building.{numbers_of}
@@ -11,8 +12,6 @@ use Rattle.building.specs.Afterwards.{head_of}
 use Rattle.card.specs.Writing.{judge_card}
 use Rattle.lines.specs.Listing.{refusal_text}
 use Rattle.playback.specs.Replay.{replayed}
-use Rattle.playing.specs.declared.CardEnd.{CardEnd}
-use Rattle.playing.specs.declared.CardEnd.TheVariants as end
 
 -- what building leaves of what it made: a head beside its tables and exon numbers
 abbrev pub lent_by : Made → Lent
@@ -24,8 +23,8 @@ played card log = and_then (judge_card card) (λ (m : Made). replayed (lent_by m
 
 -- the lines, or the line of a refusal
 abbrev pub played_text : Outcome (List ℕ) → List ℕ
-played_text (answered text) = text
-played_text (refused k) = refusal_text k
+played_text (Ok text) = text
+played_text (Err k) = refusal_text (number k)
 
 -- ---- the two as one input: the card's size, a number of 32 bits, the card, the log
 
@@ -35,14 +34,10 @@ size_bytes = 4
 -- where the card ends: 3 where its size is above the largest, 21 where it is cut off
 unfoldable pub card_end : List ℕ → Outcome ℕ
 card_end s =
-    if ltb (length s) size_bytes then refused no_card
-    else if ltb most_card (le32 s 0) then refused too_much
-    else if ltb (length s - size_bytes) (le32 s 0) then refused no_card
-    else answered (size_bytes + le32 s 0)
-
-abbrev pub card_end_answer : Outcome ℕ → CardEnd
-card_end_answer (answered to) = end.At to
-card_end_answer (refused k) = end.Refused k
+    if ltb (length s) size_bytes then Err NoCard
+    else if ltb most_card (le32 s 0) then Err TooMuch
+    else if ltb (length s - size_bytes) (le32 s 0) then Err NoCard
+    else Ok (size_bytes + le32 s 0)
 
 -- the card of an input whose card ends there
 abbrev pub card_to : List ℕ → ℕ → List ℕ

@@ -7,21 +7,12 @@ ghost use Rattle.segments.specs.Tables.{tables};
 ghost use Rattle.building.specs.Afterwards.{tables_after, exons_after};
 ghost use Rattle.card.specs.Writing.{judge_card};
 ghost use Rattle.playback.specs.Lines.{most_replay};
-ghost use Rattle.playing.specs.Played.{played, played_text, card_end, card_end_answer, input_made, input_played};
+ghost use Rattle.playing.specs.Played.{played, played_text, card_end, input_made, input_played};
 
-use refusals::{MOST_CARD, MOST_SEGMENTS, MOST_STARTS, NO_CARD, TOO_MUCH};
-use spelling::Written;
-use transcript::Built;
+use refusals::{MOST_CARD, MOST_SEGMENTS, MOST_STARTS, Refusal};
 
 // A card's size is a number of 32 bits.
 pub const SIZE: usize = 4;
-
-// Where the card of an input ends, or 3 or 21.
-#[derive(Clone, Copy)]
-pub enum CardEnd {
-    At(usize),
-    Refused(u8),
-}
 
 // What a log is replayed as on the transcript that a card makes, at the front of a buffer that has room for any: the lines, or the line of a refusal,
 // the card's own before the log's. The tables are left as building leaves them. Returns the text's length.
@@ -42,31 +33,31 @@ pub fn play(
     ensures exons_after { exons.new ≡ exons_after (judge_card card.now) exons.old }
 {
     match card::build_card(card, genome, transcript, letters, exons) {
-        Built::Transcript(head) => {
+        Ok(head) => {
             match playback::replay(head, genome, transcript, letters, exons, log, text) {
-                Written::Text(n) => n,
-                Written::Refused(k) => lines::put_refusal(text, k),
+                Ok(n) => n,
+                Err(k) => lines::put_refusal(text, k),
             }
         }
-        Built::Refused(k) => lines::put_refusal(text, k),
+        Err(k) => lines::put_refusal(text, k),
     }
 }
 
 // Where the card of an input ends: 3 where its size is above the largest, 21 where it is cut off.
-fn card_end(input: &[u8]) -> CardEnd
-    ensures { result ≡ card_end_answer (card_end input.now) }
+fn card_end(input: &[u8]) -> Result<usize, Refusal>
+    ensures { result ≡ card_end input.now }
 {
     if input.len() < SIZE {
-        return CardEnd::Refused(NO_CARD);
+        return Err(Refusal::NoCard);
     }
     let size = fields::u32_at(input, 0) as usize;
     if MOST_CARD < size {
-        return CardEnd::Refused(TOO_MUCH);
+        return Err(Refusal::TooMuch);
     }
     if input.len() - SIZE < size {
-        return CardEnd::Refused(NO_CARD);
+        return Err(Refusal::NoCard);
     }
-    CardEnd::At(SIZE + size)
+    Ok(SIZE + size)
 }
 
 // An input is a card with its size before it, and behind it a log: what `play` makes of the two.
@@ -86,7 +77,7 @@ pub fn play_input(
     ensures exons_after { exons.new ≡ exons_after (input_made input.now) exons.old }
 {
     match card_end(input) {
-        CardEnd::At(to) => play(
+        Ok(to) => play(
             &input[SIZE..to],
             &input[to..],
             genome,
@@ -95,6 +86,6 @@ pub fn play_input(
             exons,
             text,
         ),
-        CardEnd::Refused(k) => lines::put_refusal(text, k),
+        Err(k) => lines::put_refusal(text, k),
     }
 }

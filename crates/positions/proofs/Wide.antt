@@ -1,14 +1,17 @@
 -- The test for 17 that the code makes, as the test of the definitions. Assumes nothing.
-use mathlib.Core.Path.{◌≡◌, ap, ◌∙◌}
-use mathlib.Core.Bool.{true, false}
+use Rattle.std.specs.Prelude.{Option, Some, None, is_some, if◌then◌else◌}
+use Rattle.std.specs.Option.{ok_or}
+use Rattle.refusals.specs.declared.Refusal.TheVariants.{TooWide}
+use Rattle.refusals.specs.Outcome.{Ok, Err}
+use mathlib.Core.Path.{◌≡◌, refl, ap}
+use mathlib.Core.Bool.{true}
 use native.Mathlib.Omega.{arith}
 use lib.IntN.{ℤ, pos, negsuc}
 use mir.Syntax.{w32}
-use mir.Val.{SFits, to_z, of_z}
-use Rattle.whole.specs.laws.Whole.{read}
+use mir.Val.{SFits}
 use Rattle.whole.specs.Fits.{fit_of, fits}
 use Rattle.whole.specs.laws.Fits.{number_is}
-use Rattle.whole.specs.declared.Fit.TheVariants.{Number, TooWide}
+use Rattle.positions.specs.Answers.{if_fits}
 use Rattle.positions.specs.laws.Fits.{fits_by}
 
 -- a number of 32 bits passes
@@ -16,14 +19,11 @@ pub fits_yes : (z : ℤ) → SFits w32 z → fits z ≡ true
 fits_yes (pos n) h = fits_by (pos n) (omega (arith, h.sfits)) (omega arith)
 fits_yes (negsuc n) h = fits_by (negsuc n) (omega arith) (omega (arith, h.sfits))
 
--- the number that the code's test gave back: what the machine reads from its bits is the number that was tested, which passes
-pub fit_number : (z x : ℤ) → fit_of z ≡ Number x → (to_z w32 (of_z w32 x) ≡ z) × (fits z ≡ true)
+-- what the code's test gives, or 17, is the number that was tested where it passes, and else 17
+pub fit_or : (z : ℤ) → ok_or (fit_of z) TooWide ≡ if_fits fits z
 unfolding fits
-fit_number z x h =
-    let is = number_is z x h in
-    (ap (λ (y : ℤ). to_z w32 (of_z w32 y)) is.0 ∙ read is.1, simp h)
-
--- a number that the code's test threw out does not pass
-pub fit_wide : (z : ℤ) → fit_of z ≡ TooWide → fits z ≡ false
-unfolding fits
-fit_wide z h = simp h
+fit_or z = go (fit_of z) (λ x h. (number_is z x h).0)
+  where
+    go : (o : Option ℤ) → ((x : ℤ) → o ≡ Some x → x ≡ z) → ok_or o TooWide ≡ (if is_some o then Ok z else Err TooWide)
+    go (Some x) h = ap (λ (y : ℤ). Ok y) (h x refl)
+    go None h = refl

@@ -1,7 +1,7 @@
 -- What a mapping is answered with: an interval with its mark, or the number of a refusal; and refusal 17. Assumes nothing.
 use Rattle.std.specs.Prelude.{ℕ, Bool, true, cond, ◌&&◌, ◌≡◌, if◌then◌else◌}
-use Rattle.refusals.specs.Numbers.{too_wide}
-use Rattle.refusals.specs.Outcome.{Outcome, answered, refused, and_then, through, both}
+use Rattle.refusals.specs.declared.Refusal.TheVariants.{TooWide}
+use Rattle.refusals.specs.Outcome.{Outcome, Ok, Err, and_then, through, both}
 use Rattle.whole.specs.Fits.{fits}
 use Rattle.positions.specs.Positions.{Interval, each, GPosition, NPosition, CPosition}
 
@@ -28,17 +28,17 @@ abbrev pub Answer : Type 0 → Type 0
 Answer P = Outcome (Marked P)
 
 abbrev pub certainly : {P : Type 0} → Interval ℕ → Interval P → Answer P
-certainly exons i = answered (record { mark = certain exons; interval = i })
+certainly exons i = Ok (record { mark = certain exons; interval = i })
 
 -- a certain answer whose two ends are one position, with its exon
 abbrev pub once : {P : Type 0} → ℕ → P → Answer P
 once exon a = certainly (record { from = exon; to = exon }) (record { from = a; to = a })
 
 abbrev pub uncertainly : {P : Type 0} → Interval ℕ → Interval P → Answer P
-uncertainly exons i = answered (record { mark = uncertain exons; interval = i })
+uncertainly exons i = Ok (record { mark = uncertain exons; interval = i })
 
 abbrev pub plainly : {P : Type 0} → Interval P → Answer P
-plainly i = answered (record { mark = unmarked; interval = i })
+plainly i = Ok (record { mark = unmarked; interval = i })
 
 -- two ends together: the first one's refusal counts first
 abbrev pub ends : {P : Type 0} → Mark → Outcome P → Outcome P → Answer P
@@ -77,7 +77,7 @@ c_fits a = fits a.base.0 && fits a.offset
 
 -- this where it fits, and else 17
 abbrev pub if_fits : {A : Type 0} → (A → Bool) → A → Outcome A
-if_fits fit a = if fit a then answered a else refused too_wide
+if_fits fit a = if fit a then Ok a else Err TooWide
 
 -- an answer of which each number fits, and else 17
 abbrev pub fitting : {P : Type 0} → (P → Bool) → Answer P → Answer P

@@ -1,10 +1,15 @@
 -- Positions on the genome (g.), on the transcript (n.) and on the coding sequence (c.), as they are asked and as they are answered, and intervals of them. Assumes nothing.
-use Rattle.std.specs.Prelude.{ℤ}
+use Rattle.std.specs.Prelude.{ℤ, Option}
 use Rattle.numbering.specs.declared.CNumber.{CNumber}
+use Rattle.positions.specs.declared.Interval as code
 
-pub record Interval (P : Type 0) : Type 0 where
-  pub from : P
-  pub to : P
+-- an interval by its two ends
+abbrev pub Interval : Type 0 → Type 0
+Interval P = code.Interval P
+
+-- the interval between two ends
+abbrev pub between : {P : Type 0} → P → P → Interval P
+between a b = record { from = a; to = b }
 
 -- both ends put another way
 abbrev pub each : {P Q : Type 0} → (P → Q) → Interval P → Interval Q
@@ -13,9 +18,8 @@ each f i = record { from = f i.from; to = f i.to }
 -- ---- asked
 
 -- an end of a g. interval: a number, or none
-pub data GAsked : Type 0 where
-  at : ℤ → GAsked
-  missing : GAsked
+abbrev pub GAsked : Type 0
+GAsked = Option ℤ
 
 -- an n. number with an intron offset, 0 for none
 pub record NAsked : Type 0 where

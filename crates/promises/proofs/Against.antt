@@ -1,4 +1,5 @@
 -- What the promises shut out: a mapper that refuses everything, one that always says n.1, one that on strand -1 does not exchange the ends, and one that always says exon 1, whatever else they answer. Assumes nothing.
+use Rattle.refusals.specs.declared.Refusal.{Refusal}
 use Rattle.std.specs.Prelude.{if◌then◌else◌}
 use Prim.Native.Nat.{ℕ}
 use native.Mathlib.Omega.{arith}
@@ -7,7 +8,8 @@ use mathlib.Core.List.{List}
 use mathlib.Core.Path.{◌≡◌, sym, ap, ◌∙◌}
 use lib.IntN.{ℤ, pos}
 use lib.ListN.{get_or}
-use Rattle.refusals.specs.Outcome.{answered, refused, through}
+use Rattle.refusals.specs.declared.Refusal.TheVariants.{NoRecords}
+use Rattle.refusals.specs.Outcome.{Ok, Err, through}
 use Rattle.whole.specs.laws.Whole.{order}
 use Rattle.whole.specs.Fits.{fit_of, fits}
 use Rattle.numbering.specs.Numbers.{n_of_place, place_of_n}
@@ -27,12 +29,12 @@ use Rattle.promises.proofs.Examples.{input_a, all_build, second, of_a}
 
 -- where an answer starts
 abbrev start_n : Answer NPosition → ℤ
-start_n (answered a) = a.interval.from.base
-start_n (refused k) = pos 0
+start_n (Ok a) = a.interval.from.base
+start_n (Err k) = pos 0
 
 abbrev start_g : Answer GPosition → ℤ
-start_g (answered a) = a.interval.from.base
-start_g (refused k) = pos 0
+start_g (Ok a) = a.interval.from.base
+start_g (Err k) = pos 0
 
 -- A g.12 is n.2
 second_is_2 : (m : Mapper) → Demand2Built m → (b : Answer NPosition) → ((strict : Bool) (t : Transcript) (i : Interval ℤ) → start_n (m.g_to_n strict t i) ≡ start_n b) → start_n b ≡ pos 2
@@ -40,9 +42,9 @@ unfolding second build total
 second_is_2 m d b always = sym (always _ _ _) ∙ ap start_n ((d input_a A all_build.0).named.exon_base 1 (second A of_a)).g_to_n
 
 -- it refuses everything, with whatever numbers
-pub refusing_fails : (m : Mapper) → ((strict : Bool) (t : Transcript) (i : Interval ℤ) → (k : ℕ) × (m.g_to_n strict t i ≡ refused k)) → Demand2Built m → ⊥
+pub refusing_fails : (m : Mapper) → ((strict : Bool) (t : Transcript) (i : Interval ℤ) → (k : Refusal) × (m.g_to_n strict t i ≡ Err k)) → Demand2Built m → ⊥
 refusing_fails m refuses d =
-    let h = second_is_2 m d (refused 0) (λ strict t i. ap start_n (refuses strict t i).1) in
+    let h = second_is_2 m d (Err NoRecords) (λ strict t i. ap start_n (refuses strict t i).1) in
     omega order
 
 -- it always says n.1, with whatever exon numbers
@@ -68,19 +70,19 @@ answer_n e = cc
 pub unexchanged_n_fails : (m : Mapper) → ((strict : Bool) (t : Transcript) (i : Interval ℤ) → m.g_to_n strict t i ≡ exchanged_in t.forward (map_g_to_n strict t i)) → TableOfPlaces m → ⊥
 unfolding kind_of genome transcript total entries_from first_below index_of spot_in nearer map_by_tables map_place n_of_place inside turned n_of_spot fit_of fits whole_n map_g_to_n parts_of elements_after elements_of first_start build
 unexchanged_n_fails m turns h =
-    let row = ap (λ (l : List Reply). get_or l 22 (in_n (refused 0))) h in
+    let row = ap (λ (l : List Reply). get_or l 22 (in_n (Err NoRecords))) h in
     let start : pos 18 ≡ pos 1 = ap start_n (sym (turns _ _ _) ∙ answer_n row) in
     omega order
 
 -- the exon number of an answer's end, and 1 where it refuses
 abbrev end_exon : Answer NPosition → ℕ
-end_exon (answered a) = (exons_of a.mark).to
-end_exon (refused k) = 1
+end_exon (Ok a) = (exons_of a.mark).to
+end_exon (Err k) = 1
 
 -- it always says exon 1: the end of row 22 lies in exon 2
 pub exon_1_fails : (m : Mapper) → ((strict : Bool) (t : Transcript) (i : Interval ℤ) → end_exon (m.g_to_n strict t i) ≡ 1) → TableOfPlaces m → ⊥
 exon_1_fails m says h =
-    let row = ap (λ (l : List Reply). get_or l 22 (in_n (refused 0))) h in
+    let row = ap (λ (l : List Reply). get_or l 22 (in_n (Err NoRecords))) h in
     let number : ◌≡◌ {A = ℕ} 1 2 = sym (says _ _ _) ∙ ap end_exon (answer_n row) in
     omega arith
 
@@ -88,7 +90,7 @@ exon_1_fails m says h =
 pub unexchanged_g_fails : (m : Mapper) → ((strict : Bool) (t : Transcript) (i : Interval NAsked) → m.n_to_g strict t i ≡ map_n_to_g strict t (exchanged t.forward i)) → TableOfPlaces m → ⊥
 unfolding kind_of genome transcript total entries_from first_below index_of spot_in nearer map_by_tables map_place place_of_n inside turned g_of_spot fit_of fits g_of_ends map_n_to_g parts_of elements_after elements_of first_start build
 unexchanged_g_fails m turns h =
-    let row = ap (λ (l : List Reply). get_or l 23 (in_g (refused 0))) h in
+    let row = ap (λ (l : List Reply). get_or l 23 (in_g (Err NoRecords))) h in
     let start : pos 33 ≡ pos 11 = ap start_g (sym (turns _ _ _) ∙ answer row) in
     omega order
   where

@@ -9,7 +9,7 @@ use lib.IntN.{ℤ, pos, negsuc, nat_abs, ◌+ℤ◌}
 use lib.ListN.{length}
 use lib.Signed.{lt_z}
 use Rattle.refusals.specs.Numbers.{most_segments, most_text}
-use Rattle.refusals.specs.Outcome.{Outcome, answered, refused, Answered, through}
+use Rattle.refusals.specs.Outcome.{Outcome, Ok, Err, Answered, through, no_fault}
 use Rattle.refusals.specs.laws.Outcomes.{clash, same}
 use Rattle.whole.specs.Whole.{eq_z}
 use Rattle.whole.specs.laws.Whole.{by_test, order}
@@ -54,19 +54,19 @@ next_is used r =
     (λ u. rw (t, u) (reads_alike r.cigar (most_segments - (used + 1)) most_segments (omega arith) false 0)))
 
 -- a record's reading is the CIGAR's own, and what follows it is those after it
-one_more : (r : Record) (rs : List Record) (p : Reading) (next : ℕ → Exons) (xs : List Exon) → (Answered p → read_text r.cigar ≡ p) → ((n : ℕ) (ys : List Exon) → next n ≡ answered ys → ys ≡ map exon_in rs)
-    → followed_by r p next ≡ answered xs → xs ≡ map exon_in (r ∷ rs)
+one_more : (r : Record) (rs : List Record) (p : Reading) (next : ℕ → Exons) (xs : List Exon) → (Answered p → read_text r.cigar ≡ p) → ((n : ℕ) (ys : List Exon) → next n ≡ Ok ys → ys ≡ map exon_in rs)
+    → followed_by r p next ≡ Ok xs → xs ≡ map exon_in (r ∷ rs)
 one_more r rs p next xs is follows h =
     let s = split r p next xs h in
     let own : cigar_of r ≡ s.own = ap elements_in (is (subst Answered (sym s.was_read) tt) ∙ s.was_read) in
     s.is ∙ rw (own, follows (length s.own) s.rest s.others)
 
-after_are : (used : ℕ) (rs : List Record) (xs : List Exon) → exons_after used rs ≡ answered xs → xs ≡ map exon_in rs
+after_are : (used : ℕ) (rs : List Record) (xs : List Exon) → exons_after used rs ≡ Ok xs → xs ≡ map exon_in rs
 unfolding exons_after
 after_are used [] xs h = sym (same h)
 after_are used (r ∷ rs) xs h = one_more r rs (read_next used r) (λ n. exons_after (used + 1 + n) rs) xs (next_is used r) (λ n. after_are (used + 1 + n) rs) h
 
-exons_are : (rs : List Record) (xs : List Exon) → exons_of rs ≡ answered xs → xs ≡ map exon_in rs
+exons_are : (rs : List Record) (xs : List Exon) → exons_of rs ≡ Ok xs → xs ≡ map exon_in rs
 unfolding exons_of read_first read_text
 exons_are [] xs h = sym (same h)
 exons_are (r ∷ rs) xs h = one_more r rs (read_first r) (λ n. exons_after n rs) xs (λ ok. refl) (λ n. after_are n rs) h
@@ -90,7 +90,7 @@ whole_after : (p : Record) (rs : List Record) → Ordered p rs → AllWhole rs
 whole_after p [] o = tt
 whole_after p (r ∷ rs) (b, o) = (b.start_whole, whole_after r rs o)
 
-all_whole : (forward : Bool) (rs : List Record) → faults forward rs ≡ 0 → AllWhole rs
+all_whole : (forward : Bool) (rs : List Record) → faults forward rs ≡ no_fault → AllWhole rs
 unfolding faults
 all_whole forward [] f = tt
 all_whole forward (r ∷ rs) f =
@@ -139,6 +139,6 @@ built_from x t h = go (judge_input x) refl h
           stands = built_stands m s;
         }
 
-    go : (j : Outcome Made) → judge_input x ≡ j → through made_of j ≡ answered t → From x t
-    go (refused k) judged h = absurd (clash h)
-    go (answered m) judged h = subst (From x) (same h) (made_from m (records_mean x m judged))
+    go : (j : Outcome Made) → judge_input x ≡ j → through made_of j ≡ Ok t → From x t
+    go (Err k) judged h = absurd (clash h)
+    go (Ok m) judged h = subst (From x) (same h) (made_from m (records_mean x m judged))

@@ -4,7 +4,7 @@ use mathlib.Core.Bool.{Bool, true, cond}
 use mathlib.Core.List.{List, ◌∷◌, ◌++◌}
 use mathlib.Core.Path.{◌≡◌, refl}
 use lib.ListN.{length}
-use Rattle.refusals.specs.Outcome.{answered, refused, Answered}
+use Rattle.refusals.specs.Outcome.{Ok, Err, Answered}
 use Rattle.cigar.specs.Elements.{Element}
 use Rattle.transcript.specs.Transcript.{Transcript, Cds, transcript_length}
 use Rattle.transcript.specs.Transcript.Cds.{no_cds, cds}
@@ -27,8 +27,8 @@ unfolding map_g_to_c map_c_to_g map_c_to_n map_n_to_c c_of_interval
 uncoded n t u e = record { g_to_c = λ i. nothing (map_g_to_n true t i); c_to_g = λ i. rw e (λ bad. absurd bad) }
   where
     nothing : {P : Type 0} (a : Answer NPosition) → Answered (chain asks_n a (map_n_to_c true (transcript_length t) t.coding)) → P
-    nothing (answered x) = rw e (λ bad. absurd bad)
-    nothing (refused k) = λ bad. absurd bad
+    nothing (Ok x) = rw e (λ bad. absurd bad)
+    nothing (Err k) = λ bad. absurd bad
 
 -- over elements
 module _ (forward : Bool) (first : ℕ) (xs ys zs : List Element) (numbers all_numbers : List ℕ) (count all_count : ℕ) (s e : ℕ) where

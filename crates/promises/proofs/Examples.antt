@@ -1,4 +1,5 @@
 -- The promises are about something: document 01's transcripts build from records, and A and B, and both with an exon added at each end, meet every premise. Assumes nothing.
+use Rattle.std.specs.Prelude.{Some, None}
 use Prim.Native.Nat.{ℕ}
 use native.Mathlib.Omega.{arith}
 use mathlib.Core.Bool.{true, false}
@@ -16,7 +17,6 @@ use Rattle.transcript.specs.Building.{Exon, parts_of, elements_after, elements_o
 use Rattle.reading.specs.Reading.{spanning, read_first, read_next, exons_after, exons_of}
 use Rattle.judging.specs.Input.{Input}
 use Rattle.judging.specs.Judging.{last_fault, range_fault, judge_on, judge_input}
-use Rattle.transcript.specs.declared.Bound.TheVariants.{Given, Absent}
 use Rattle.promises.specs.Bases.{Matched, InIntron, is_match, next_matches, by_elements}
 use Rattle.promises.specs.Demands.{ours, Builds, Named, FromNearest, BasesNamed, bases_of, Lengthens, Keeps}
 use Rattle.promises.specs.Table.{digit, A, B, ins, del, A+, ending, lone, spliced, spliced_1, hollow, hollow_1, led, led_1}
@@ -39,10 +39,10 @@ abbrev amid4_m : ℕ → List ℕ
 amid4_m letter = digit 4 ∷ letter_m ∷ digit 2 ∷ letter ∷ digit 4 ∷ letter_m ∷ []
 
 abbrev input : ℤ → ℕ → ℕ → List Record → Input
-input strand s e rs = record { strand = strand; start = Given (pos s); end = Given (pos e); records = rs }
+input strand s e rs = record { strand = strand; start = Some (pos s); end = Some (pos e); records = rs }
 
 abbrev uncoded : ℤ → List Record → Input
-uncoded strand rs = record { strand = strand; start = Absent; end = Absent; records = rs }
+uncoded strand rs = record { strand = strand; start = None; end = None; records = rs }
 
 abbrev pub input_a : Input
 input_a = input (pos 1) 3 15 (row 10 20 0 10 0 10_m ∷ row 25 33 10 18 1 (of_m 8) ∷ [])

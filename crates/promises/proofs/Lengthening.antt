@@ -8,7 +8,7 @@ use lib.IntN.{ℤ, pos, ◌+ℤ◌, ◌-ℤ◌}
 use lib.ListN.{length}
 use lib.Signed.{le_z, lt_z}
 use Rattle.refusals.specs.Numbers.{most_bases}
-use Rattle.refusals.specs.Outcome.{Outcome, answered, refused, Answered, through}
+use Rattle.refusals.specs.Outcome.{Outcome, Ok, Err, Answered, through}
 use Rattle.refusals.specs.laws.Outcomes.{clash, same}
 use Rattle.whole.specs.laws.Whole.{by_test, both, both_of, order, sum, dif, neither}
 use Rattle.whole.specs.Fits.{fits}
@@ -61,7 +61,7 @@ by_place z o = record { base = n_of_place z; offset = o }
 
 -- 17 of an n. interval, and the second step of g. to c.
 abbrev onward : Transcript → Mark → NPosition → NPosition → Answer CPosition
-onward t m a b = chain asks_n (fitting n_fits (answered (record { mark = m; interval = record { from = a; to = b } }))) (map_n_to_c true (transcript_length t) t.coding)
+onward t m a b = chain asks_n (fitting n_fits (Ok (record { mark = m; interval = record { from = a; to = b } }))) (map_n_to_c true (transcript_length t) t.coding)
 
 -- ---- numbers moved up
 
@@ -72,15 +72,15 @@ mark_up_lem n false exons = refl
 
 -- 17 does not look at them, and neither does a step that bears no mark
 fitting_up : (n : ℕ) (a : Answer GPosition) → fitting g_fits (answer_up n a) ≡ answer_up n (fitting g_fits a)
-fitting_up n (answered a) = by_test (g_fits a.interval.from && g_fits a.interval.to) (λ f. rw f) (λ f. rw f)
-fitting_up n (refused k) = refl
+fitting_up n (Ok a) = by_test (g_fits a.interval.from && g_fits a.interval.to) (λ f. rw f) (λ f. rw f)
+fitting_up n (Err k) = refl
 
 plain_up : {P : Type 0} (n : ℕ) (m : Mark) (fit : P → Bool) (i : Interval P) → through (after (mark_up n m)) (fitting fit (plainly i)) ≡ answer_up n (through (after m) (fitting fit (plainly i)))
 plain_up n m fit i = by_test (fit i.from && fit i.to) (λ f. rw (f, row_plain m, row_plain (mark_up n m))) (λ f. rw f)
 
 after_up : {P : Type 0} (n : ℕ) (a : Answer P) → through (after unmarked) (answer_up n a) ≡ answer_up n (through (after unmarked) a)
-after_up n (answered a) = refl
-after_up n (refused k) = refl
+after_up n (Ok a) = refl
+after_up n (Err k) = refl
 
 -- ---- the shorter and the longer, with their exon numbers and record counts
 
@@ -245,7 +245,7 @@ module _ (forward : Bool) (first : ℕ) (xs ys zs : List Element) (numbers all_n
     -- ---- c. to g.
 
     -- one end of the first step: where the shorter answers, so does the longer, as many numbers further on
-    end_kept : (c : CAsked) (a : NPosition) → n_position true len s e c ≡ answered a → (n_position true (transcript_length long) (s + up) (e + up) c ≡ answered (raised up a)) × Below len a
+    end_kept : (c : CAsked) (a : NPosition) → n_position true len s e c ≡ Ok a → (n_position true (transcript_length long) (s + up) (e + up) c ≡ Ok (raised up a)) × Below len a
     unfolding n_position
     end_kept c a =
         let n = n_of_c (pos s) (pos e) c.base in
@@ -319,9 +319,9 @@ module _ (forward : Bool) (first : ℕ) (xs ys zs : List Element) (numbers all_n
     where
       go : (a : Outcome NPosition) → n_position true len s e i.from ≡ a → (b : Outcome NPosition) → n_position true len s e i.to ≡ b
           → Answered (chain asks_n (ends unmarked a b) (map_n_to_g true short)) → map_c_to_g true long i ≡ answer_up more (chain asks_n (ends unmarked a b) (map_n_to_g true short))
-      go (answered a) from (answered b) to ok =
+      go (Ok a) from (Ok b) to ok =
           let (from_long, a_in) = end_kept small i.from a from in
           let (to_long, b_in) = end_kept small i.to b to in
           rw (from_long, to_long, n_to_g_kept more higher a b a_in b_in) (after_up more (map_n_to_g true short (record { from = asks_n a; to = asks_n b })))
-      go (answered a) from (refused k) to bad = absurd bad
-      go (refused k) from b to bad = absurd bad
+      go (Ok a) from (Err k) to bad = absurd bad
+      go (Err k) from b to bad = absurd bad

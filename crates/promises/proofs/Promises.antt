@@ -1,4 +1,5 @@
 -- The promises kept: demand 2 and demand 3 hold of the definitions, from whatever input a transcript builds. Assumes nothing.
+use Rattle.std.specs.Prelude.{Some, None, Option}
 use Prim.Native.Nat.{ℕ, ◌+◌, ◌<◌}
 use native.Mathlib.Omega.{arith}
 use mathlib.Core.Bool.{Bool, true, false, cond}
@@ -7,7 +8,7 @@ use mathlib.Core.Path.{◌≡◌, refl, sym, ap, ◌∙◌, subst}
 use lib.Dec.{ltb}
 use lib.IntN.{ℤ, pos, negsuc, nat_abs, ◌+ℤ◌}
 use lib.ListN.{length, length-map}
-use Rattle.refusals.specs.Outcome.{answered, through}
+use Rattle.refusals.specs.Outcome.{Ok, through}
 use Rattle.refusals.specs.laws.Outcomes.{clash}
 use Rattle.whole.specs.Whole.{eq_z}
 use Rattle.whole.specs.laws.Whole.{by_test, order}
@@ -21,8 +22,6 @@ use Rattle.judging.specs.Judging.{Made, cds_of, judge}
 use Rattle.judging.specs.laws.Accepted.{InOrder, CdsPass}
 use Rattle.transcript.specs.Heads.{both_bits}
 use Rattle.transcript.specs.declared.Numbers.{Numbers}
-use Rattle.transcript.specs.declared.Bound.{Bound}
-use Rattle.transcript.specs.declared.Bound.TheVariants.{Given, Absent}
 use Rattle.promises.specs.Demands.{Mapper, ours, made_of, Builds, bases_of, added_upstream, moved_up, KeptOfRecord, kept, Lengthens, records_upstream, records_added, Keeps, Demand2, Demand2Built, BuiltSpans, Demand3, Demand3Narrow}
 use Rattle.promises.specs.Bases.{by_elements}
 use Rattle.promises.proofs.InRange.{InRange, held_in_range}
@@ -33,7 +32,7 @@ use Rattle.promises.proofs.Demand2.{bases_named}
 use Rattle.promises.proofs.Demand3.{cds_up, lengthened, lengthened_keeps}
 
 -- what is handed over and not refused builds from the records that it lays out
-pub host_builds : (n : Numbers) (bytes : List ℕ) (made : Made) → judge n bytes ≡ answered made → Builds (input_of n bytes) (made_of made)
+pub host_builds : (n : Numbers) (bytes : List ℕ) (made : Made) → judge n bytes ≡ Ok made → Builds (input_of n bytes) (made_of made)
 unfolding judge
 host_builds n bytes made =
     by_test (ltb both_bits n.cds)
@@ -72,10 +71,10 @@ abs_up : (a : ℤ) (n : ℕ) → a ≡ pos (nat_abs a) → nat_abs (a +ℤ pos n
 abs_up (pos m) n h = refl
 abs_up (negsuc m) n h = absurd (omega order)
 
-cds_moved : (start end : Bound) (n len : ℕ) → CdsPass start end len → cds_of (moved_up n start) (moved_up n end) ≡ cds_up n (cds_of start end)
-cds_moved (Given a) (Given b) n len h = rw (abs_up a n h.start_is, abs_up b n h.end_is)
-cds_moved (Given a) Absent n len h = refl
-cds_moved Absent end n len h = refl
+cds_moved : (start end : Option ℤ) (n len : ℕ) → CdsPass start end len → cds_of (moved_up n start) (moved_up n end) ≡ cds_up n (cds_of start end)
+cds_moved (Some a) (Some b) n len h = rw (abs_up a n h.start_is, abs_up b n h.end_is)
+cds_moved (Some a) None n len h = refl
+cds_moved None end n len h = refl
 
 added_is : (forward : Bool) (left right : List Record) → added_upstream forward left right ≡ cond forward (exon_bases (map exon_in left)) (exon_bases (map exon_in right))
 added_is true left right = omega (arith, bases_are left)

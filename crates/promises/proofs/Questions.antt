@@ -1,4 +1,5 @@
 -- In strict mode 14, 15 and 16 leave only numbers that fit: what g. to n. maps lies within the genome, so that the place that it gives and its offset are no larger than the transcript and the genome; and a number that 15 or 16 lets pass lies in the transcript. Assumes nothing.
+use Rattle.refusals.specs.declared.Refusal.{Refusal}
 use Prim.Native.Nat.{ℕ, ◌+◌, ◌≤◌, ◌<◌}
 use native.Mathlib.Omega.{arith}
 use mathlib.Core.Bool.{Bool, true, false, ◌&&◌, false≢true}
@@ -6,8 +7,9 @@ use mathlib.Core.List.{List}
 use mathlib.Core.Path.{◌≡◌, refl, sym, ◌∙◌, subst}
 use lib.IntN.{ℤ, pos, ◌+ℤ◌, ◌-ℤ◌}
 use lib.Signed.{le_z}
-use Rattle.refusals.specs.Numbers.{most_bases, not_coding, outside, n_outside, c_outside, too_wide, no_genome, missing_end, not_together}
-use Rattle.refusals.specs.Outcome.{Outcome, answered, refused, and_then}
+use Rattle.refusals.specs.Numbers.{most_bases}
+use Rattle.refusals.specs.declared.Refusal.TheVariants.{NotCoding, Outside, NOutside, COutside, TooWide, NoGenome, MissingEnd, NotTogether}
+use Rattle.refusals.specs.Outcome.{Outcome, Ok, Err, and_then}
 use Rattle.refusals.specs.Refusing.{one_of, Only}
 use Rattle.refusals.specs.laws.Outcomes.{clash}
 use Rattle.refusals.specs.laws.Refusing.{only_then}
@@ -43,14 +45,14 @@ use Rattle.promises.proofs.InRange.{InRange, SourceInRange, held_source}
 -- ---- 17
 
 -- what fits is answered
-fits_only : (ks : List ℕ) {P : Type 0} (fit : P → Bool) (a : Marked P) → (fit a.interval.from && fit a.interval.to) ≡ true → Only ks (fitting fit (answered a))
-fits_only ks fit a h = only_if ks (fit a.interval.from && fit a.interval.to) too_wide (answered a) (record { only = tt }) (λ e. absurd (false≢true (sym e ∙ h)))
+fits_only : (ks : List Refusal) {P : Type 0} (fit : P → Bool) (a : Marked P) → (fit a.interval.from && fit a.interval.to) ≡ true → Only ks (fitting fit (Ok a))
+fits_only ks fit a h = only_if ks (fit a.interval.from && fit a.interval.to) TooWide (Ok a) (record { only = tt }) (λ e. absurd (false≢true (sym e ∙ h)))
 
 -- and what is answered fits
-answer_fits : {P : Type 0} (fit : P → Bool) (o : Answer P) (a : Marked P) → fitting fit o ≡ answered a → (fit a.interval.from && fit a.interval.to) ≡ true
+answer_fits : {P : Type 0} (fit : P → Bool) (o : Answer P) (a : Marked P) → fitting fit o ≡ Ok a → (fit a.interval.from && fit a.interval.to) ≡ true
 answer_fits {P} fit o a e =
     let test = fit a.interval.from && fit a.interval.to in
-    let h = subst (λ (b : Answer P). fitting fit b ≡ answered a) (fitting_is fit o a e) e in
+    let h = subst (λ (b : Answer P). fitting fit b ≡ Ok a) (fitting_is fit o a e) e in
     by_test test (λ t. t) (λ t. absurd (clash (rw t at h)))
 
 -- ---- g. to n.
@@ -85,7 +87,7 @@ module _ (t : Transcript) (in_range : InRange t) where
       (number_fits len _ in_range.transcript_small (near_turned t.forward len _ (near_place genome transcript even t.elements p e t.forward p_in)))
       (within_fits (genome_length t) _ (omega (arith, in_range.genome_small)) (signed_within t.forward (genome_length t) _ (near_offset genome transcript t.elements p e t.forward p_in))))
 
-  g_to_n_only : (ks : List ℕ) → one_of outside ks ≡ true → (i : Interval ℤ) → Only ks (map_g_to_n true t i)
+  g_to_n_only : (ks : List Refusal) → one_of Outside ks ≡ true → (i : Interval ℤ) → Only ks (map_g_to_n true t i)
   unfolding map_g_to_n whole_n
   g_to_n_only ks o i =
       let span = genome_length t in
@@ -103,19 +105,19 @@ module _ (t : Transcript) (in_range : InRange t) where
       fitting_spot a b h k = either (λ (x : Spot). n_fits (n_of_spot t x) ≡ true) t.forward a b h k
 
   -- the offsets of what is answered
-  offsets_fit : (o : Outcome (Interval ℤ)) (a : Marked NPosition) → and_then o (map_g_to_n true t) ≡ answered a → (fits a.interval.from.offset ≡ true) × (fits a.interval.to.offset ≡ true)
+  offsets_fit : (o : Outcome (Interval ℤ)) (a : Marked NPosition) → and_then o (map_g_to_n true t) ≡ Ok a → (fits a.interval.from.offset ≡ true) × (fits a.interval.to.offset ≡ true)
   unfolding map_g_to_n
-  offsets_fit (answered i) a e =
+  offsets_fit (Ok i) a e =
       let from = a.interval.from in
       let to = a.interval.to in
       let (h, k) = both (n_fits from) (n_fits to) (answer_fits n_fits (whole_n true t i) a e) in
       ((both (fits from.base) (fits from.offset) h).1, (both (fits to.base) (fits to.offset) k).1)
-  offsets_fit (refused k) a e = absurd (clash e)
+  offsets_fit (Err k) a e = absurd (clash e)
 
 -- ---- n. to c., and back
 
-module _ (ks : List ℕ) (no_cds_in : one_of not_coding ks ≡ true) (len : ℕ) (small : len ≤ most_bases) where
-  n_to_c_only : one_of n_outside ks ≡ true → (c : Cds) → CdsInside c len → (i : Interval NAsked) → fits i.from.offset ≡ true → fits i.to.offset ≡ true → Only ks (map_n_to_c true len c i)
+module _ (ks : List Refusal) (no_cds_in : one_of NotCoding ks ≡ true) (len : ℕ) (small : len ≤ most_bases) where
+  n_to_c_only : one_of NOutside ks ≡ true → (c : Cds) → CdsInside c len → (i : Interval NAsked) → fits i.from.offset ≡ true → fits i.to.offset ≡ true → Only ks (map_n_to_c true len c i)
   unfolding map_n_to_c c_of_interval c_position
   n_to_c_only o no_cds inside i h k = record { only = no_cds_in }
   n_to_c_only o (cds s e) (ordered, within) i h k =
@@ -131,18 +133,18 @@ module _ (ks : List ℕ) (no_cds_in : one_of not_coding ks ≡ true) (len : ℕ)
       c_fits_lem : (a : NAsked) → beyond true len a.base ≡ false → fits a.offset ≡ true → c_fits (c_position s e a) ≡ true
       c_fits_lem a b f = both_of (number a.base (beyond_means len a.base b)) f
 
-  n_position_only : one_of c_outside ks ≡ true → (s e : ℕ) (a : CAsked) → fits a.offset ≡ true → Only ks (n_position true len s e a)
+  n_position_only : one_of COutside ks ≡ true → (s e : ℕ) (a : CAsked) → fits a.offset ≡ true → Only ks (n_position true len s e a)
   unfolding n_position
   n_position_only o s e a h =
       let n = n_of_c (pos s) (pos e) a.base in
       by_test (beyond true len n)
       (λ t. rw t (record { only = o }))
-      (λ t. rw t (only_if ks (fits n && fits a.offset) too_wide _ (record { only = tt }) (λ f. absurd (false≢true (sym f ∙ both_of (number n (beyond_means len n t)) h)))))
+      (λ t. rw t (only_if ks (fits n && fits a.offset) TooWide _ (record { only = tt }) (λ f. absurd (false≢true (sym f ∙ both_of (number n (beyond_means len n t)) h)))))
     where
       number : (n : ℤ) → (r : ℕ) × (n ≡ pos (r + 1)) × (r < len) → fits n ≡ true
       number n (r, is, r_in) = rw is (fits_by (pos (r + 1)) (omega arith) (omega arith))
 
-  c_to_n_only : one_of c_outside ks ≡ true → (c : Cds) (i : Interval CAsked) → fits i.from.offset ≡ true → fits i.to.offset ≡ true → Only ks (map_c_to_n true len c i)
+  c_to_n_only : one_of COutside ks ≡ true → (c : Cds) (i : Interval CAsked) → fits i.from.offset ≡ true → fits i.to.offset ≡ true → Only ks (map_c_to_n true len c i)
   unfolding map_c_to_n
   c_to_n_only o no_cds i h k = record { only = no_cds_in }
   c_to_n_only o (cds s e) i h k = only_ends ks unmarked _ _ (n_position_only o s e i.from h) (n_position_only o s e i.to k)
@@ -150,7 +152,7 @@ module _ (ks : List ℕ) (no_cds_in : one_of not_coding ks ≡ true) (len : ℕ)
 -- ---- the questions
 
 -- of what is lent, where a question to what is in range gives only these
-lent_only : (ks : List ℕ) → one_of not_together ks ≡ true → {A : Type 0} (x : Lent) (ask : Source → Outcome A) → ((y : Source) → SourceInRange y → Only ks (ask y)) → Only ks (checked x ask)
+lent_only : (ks : List Refusal) → one_of NotTogether ks ≡ true → {A : Type 0} (x : Lent) (ask : Source → Outcome A) → ((y : Source) → SourceInRange y → Only ks (ask y)) → Only ks (checked x ask)
 unfolding checked
 lent_only ks r x ask o = by_test (holds x) (λ h. rw h (o (source_of x) (held_source x h))) (λ h. rw h (record { only = r }))
 
@@ -159,12 +161,12 @@ length_in_range : (y : Source) → SourceInRange y → (length_of y ≤ most_bas
 length_in_range (aligned t) r = (r.transcript_small, r.cds_inside)
 length_in_range (length_only n c) r = r
 
-ask_g_to_n_lem : (ks : List ℕ) → one_of outside ks ≡ true → one_of missing_end ks ≡ true → one_of no_genome ks ≡ true → (q : Interval GAsked) (y : Source) → SourceInRange y → Only ks (ask_g_to_n true q y)
+ask_g_to_n_lem : (ks : List Refusal) → one_of Outside ks ≡ true → one_of MissingEnd ks ≡ true → one_of NoGenome ks ≡ true → (q : Interval GAsked) (y : Source) → SourceInRange y → Only ks (ask_g_to_n true q y)
 unfolding ask_g_to_n
 ask_g_to_n_lem ks o m g q (aligned t) r = only_then ks (given q) (map_g_to_n true t) (given_only ks m q) (λ i e. g_to_n_only t r ks o i)
 ask_g_to_n_lem ks o m g q (length_only n c) r = record { only = g }
 
-ask_n_to_c_lem : (ks : List ℕ) → one_of not_coding ks ≡ true → one_of n_outside ks ≡ true → (q : Interval NAsked) → fits q.from.offset ≡ true → fits q.to.offset ≡ true → (y : Source) → SourceInRange y → Only ks (ask_n_to_c true q y)
+ask_n_to_c_lem : (ks : List Refusal) → one_of NotCoding ks ≡ true → one_of NOutside ks ≡ true → (q : Interval NAsked) → fits q.from.offset ≡ true → fits q.to.offset ≡ true → (y : Source) → SourceInRange y → Only ks (ask_n_to_c true q y)
 unfolding ask_n_to_c
 ask_n_to_c_lem ks d o q h k y r = let (small, inside) = length_in_range y r in n_to_c_only ks d (length_of y) small o (coding_of y) inside q h k
 
@@ -173,7 +175,7 @@ ask_g_to_c_lem : (q : Interval GAsked) (y : Source) → SourceInRange y → Only
 unfolding ask_g_to_c ask_g_to_n
 ask_g_to_c_lem q y r = only_chain strict_g_to_c asks_n (ask_g_to_n true q y) (λ (i : Interval NAsked). ask_n_to_c true i y) (ask_g_to_n_lem strict_g_to_c refl refl refl q y r) (second y r)
   where
-    second : (y : Source) → SourceInRange y → (a : Marked NPosition) → ask_g_to_n true q y ≡ answered a → Only strict_g_to_c (ask_n_to_c true (each asks_n a.interval) y)
+    second : (y : Source) → SourceInRange y → (a : Marked NPosition) → ask_g_to_n true q y ≡ Ok a → Only strict_g_to_c (ask_n_to_c true (each asks_n a.interval) y)
     second (aligned t) r a e = let (h, k) = offsets_fit t r (given q) a e in ask_n_to_c_lem strict_g_to_c refl refl (each asks_n a.interval) h k (aligned t) r
     second (length_only n c) r a e = absurd (clash e)
 

@@ -7,14 +7,14 @@ use mathlib.Core.Path.{◌≡◌, refl, ap}
 use lib.Dec.{ltb, eqb}
 use borrow.Author.Tests.{eqb-false, ne_eqb}
 use Rattle.refusals.specs.Numbers.{most_count}
-use Rattle.refusals.specs.Outcome.{answered, refused, Answered}
+use Rattle.refusals.specs.Outcome.{Ok, Err, Answered}
 use Rattle.whole.specs.laws.Whole.{by_test}
 use Rattle.cigar.specs.Elements.{Element, is_letter}
 use Rattle.cigar.specs.Text.{Reading, is_digit, count_of, element, before, taken, read_from}
 
 rest_read : (e : Element) (r : Reading) → Answered (before e r) → Answered r
-rest_read e (answered es) ok = ok
-rest_read e (refused k) ok = ok
+rest_read e (Ok es) ok = ok
+rest_read e (Err k) ok = ok
 
 module _ (room more : ℕ) (enough : room ≤ more) where
   taken_alike : (e : Element) (r r' : Reading) → (Answered r → r' ≡ r) → Answered (taken room e r) → taken more e r' ≡ taken room e r

@@ -2,8 +2,8 @@
 --     Demand2, Demand2Built    each base of an exon, and of an intron between exons, has its HGVS name and its exon number and comes back from the name: of what holds together, and of what builds
 --     BuiltSpans                 what builds spans its records' bounds
 --     Demand3, Demand3Narrow   records added at the ends change no answer but for the exon numbers, which move up by the records added upstream; the same where records span their bounds, of bases alone
-use Rattle.std.specs.Prelude.{ℕ, ◌+◌, ◌<◌, Bool, true, false, List, [], ◌∷◌, ◌++◌, map, ◌≡◌, ℤ, pos, ◌+ℤ◌, length, ◌≤ℤ◌, ◌<ℤ◌}
-use Rattle.refusals.specs.Outcome.{Outcome, answered, Answered, through}
+use Rattle.std.specs.Prelude.{ℕ, ◌+◌, ◌<◌, Bool, true, false, List, [], ◌∷◌, ◌++◌, map, ◌≡◌, ℤ, pos, ◌+ℤ◌, length, ◌≤ℤ◌, ◌<ℤ◌, Some, None, Option}
+use Rattle.refusals.specs.Outcome.{Outcome, Ok, Answered, through}
 use Rattle.whole.specs.Whole.{eq_z}
 use Rattle.cigar.specs.Elements.{Element, genome, transcript, total}
 use Rattle.cigar.specs.Text.{elements_in}
@@ -15,8 +15,6 @@ use Rattle.transcript.specs.Transcript.Source.{aligned}
 use Rattle.transcript.specs.Building.{build}
 use Rattle.judging.specs.Input.{Input}
 use Rattle.judging.specs.Judging.{Made, judge_input}
-use Rattle.transcript.specs.declared.Bound.{Bound}
-use Rattle.transcript.specs.declared.Bound.TheVariants.{Given, Absent}
 use Rattle.holding.specs.Holding.{Lent, holds, source_of}
 use Rattle.positions.specs.Positions.{Interval, each, NAsked, CAsked, GPosition, NPosition, CPosition, asks_n, asks_c}
 use Rattle.positions.specs.Answers.{Mark, certain, uncertain, unmarked, Marked, Answer, certainly}
@@ -62,7 +60,7 @@ building x = through made_of (judge_input x)
 
 -- the transcript t is built from the input x
 abbrev pub Builds : Input → Transcript → Type 0
-Builds x t = building x ≡ answered t
+Builds x t = building x ≡ Ok t
 
 -- ---- demand 2
 
@@ -185,9 +183,9 @@ added_upstream true left right = bases_of left
 added_upstream false left right = bases_of right
 
 -- a CDS bound, moved up
-abbrev pub moved_up : ℕ → Bound → Bound
-moved_up n (Given z) = Given (z +ℤ pos n)
-moved_up n Absent = Absent
+abbrev pub moved_up : ℕ → Option ℤ → Option ℤ
+moved_up n (Some z) = Some (z +ℤ pos n)
+moved_up n None = None
 
 -- what stays of a record when its transcript is lengthened: its genome bounds and its CIGAR
 pub record KeptOfRecord : Type 0 where

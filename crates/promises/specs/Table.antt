@@ -1,7 +1,7 @@
 -- The table of places: P1 to P15 of document 01 and rows beside them, as one statement over one list. A row is a question with the answer that is due. Assumes nothing.
-use Rattle.std.specs.Prelude.{ℕ, ◌+◌, Bool, true, false, List, [], ◌∷◌, map, ◌≡◌, ℤ, pos, neg_ℤ, drop}
-use Rattle.refusals.specs.Numbers.{not_coding, outside, n_outside, c_outside, too_wide, no_genome, missing_end, not_spanning}
-use Rattle.refusals.specs.Outcome.{Outcome, answered, refused}
+use Rattle.std.specs.Prelude.{ℕ, ◌+◌, Bool, true, false, List, [], ◌∷◌, map, ◌≡◌, ℤ, pos, neg_ℤ, drop, Some, None}
+use Rattle.refusals.specs.declared.Refusal.TheVariants.{NotCoding, Outside, NOutside, COutside, TooWide, NoGenome, MissingEnd, NotSpanning}
+use Rattle.refusals.specs.Outcome.{Outcome, Ok, Err}
 use Rattle.sequences.specs.Alleles.{prefix_len, changed_of}
 use Rattle.numbering.specs.Numbers.{plain_c, star_c}
 use Rattle.numbering.specs.declared.CNumber.{CNumber}
@@ -13,11 +13,10 @@ use Rattle.transcript.specs.Transcript.{Transcript, Source}
 use Rattle.transcript.specs.Transcript.Cds.{no_cds, cds}
 use Rattle.transcript.specs.Transcript.Source.{aligned, length_only}
 use Rattle.transcript.specs.Building.{Exon, build}
-use Rattle.positions.specs.Positions.{Interval, each, GAsked, at, missing, NAsked, CAsked, GPosition, NPosition, CPosition, asks_n, asks_c}
+use Rattle.positions.specs.Positions.{Interval, each, GAsked, NAsked, CAsked, GPosition, NPosition, CPosition, asks_n, asks_c}
 use Rattle.positions.specs.Answers.{Answer, certainly, uncertainly, plainly}
 use Rattle.mapper.specs.Asking.{ask_g_to_n, ask_in_bounds}
 use Rattle.judging.specs.Input.{Input}
-use Rattle.transcript.specs.declared.Bound.TheVariants.{Given}
 use Rattle.promises.specs.Demands.{Mapper, building, strict, single}
 
 -- a question to a mapper, to a transcript of either kind, to the CIGAR's reader and writer, to the trimmers, or to building; and the answer
@@ -68,7 +67,7 @@ due (g_c strict t i a) = in_c a
 due (c_g strict t i a) = in_g a
 due (asked_g_n strict i x a) = in_n a
 due (in_bounds i x a) = a_yes a
-due (cigar text es) = a_reading (answered es) text
+due (cigar text es) = a_reading (Ok es) text
 due (alleles r a prefix r_left a_left changed) = a_trimming prefix r_left a_left changed
 due (builds x t) = a_transcript t
 
@@ -122,7 +121,7 @@ abbrev in_exons : ℕ → ℕ → Interval ℕ
 in_exons k l = record { from = k; to = l }
 
 abbrev asked : ℕ → ℕ → Interval GAsked
-asked a b = record { from = at (pos a); to = at (pos b) }
+asked a b = record { from = Some (pos a); to = Some (pos b) }
 
 -- an element, and the bytes of a digit and of the four bases
 infix 70 ◌of◌
@@ -180,8 +179,8 @@ lone = build strand1 (exon 10 14 (4 of letter_m ∷ []) ∷ []) (cds 0 4)
 abbrev with_left : List ℕ → Input
 with_left text = record {
   strand = pos 1;
-  start = Given (pos 2);
-  end = Given (pos 6);
+  start = Some (pos 2);
+  end = Some (pos 6);
   records = record { alt_start = pos 2; alt_end = pos 5; tx_start = pos 0; tx_end = pos 2; ord = pos 0; cigar = text }
       ∷ record { alt_start = pos 10; alt_end = pos 14; tx_start = pos 2; tx_end = pos 6; ord = pos 1; cigar = digit 4 ∷ letter_m ∷ [] }
       ∷ [];
@@ -240,11 +239,11 @@ rows =
     -- P7: A g.33 = c.*3
     ∷ g_c strict A (g 33) (certainly (in_exon 2) (c (star_c (pos 3)) (pos 0)))
     -- P8: A g.34 refuses 14
-    ∷ g_n strict A (g 34) (refused outside)
-    ∷ g_c strict A (g 34) (refused outside)
+    ∷ g_n strict A (g 34) (Err Outside)
+    ∷ g_c strict A (g 34) (Err Outside)
     -- P9: A g.35 and g.10 refuse 14; lenient g.10 = n.-1 = c.-4
-    ∷ g_n strict A (g 35) (refused outside)
-    ∷ g_n strict A (g 10) (refused outside)
+    ∷ g_n strict A (g 35) (Err Outside)
+    ∷ g_n strict A (g 10) (Err Outside)
     ∷ g_n lenient A (g 10) (certainly (in_exon 1) (n (minus 1) (pos 0)))
     ∷ g_c lenient A (g 10) (certainly (in_exon 1) (c (plain_c (minus 4)) (pos 0)))
     -- P10: B g.33 = n.1
@@ -266,45 +265,45 @@ rows =
     ∷ n_g strict B (asked_n (ns (pos 1) (pos 0) (pos 18) (pos 0))) (certainly (in_exons 2 1) (answered_g (gs 11 33)))
     ∷ g_n strict B (gs 22 33) (certainly (in_exons 1 2) (ns (pos 1) (pos 0) (pos 9) (minus 2)))
     -- the numbers beside the transcript's first and last refuse 14 on either strand
-    ∷ n_g strict B (asked_n (n (minus 1) (pos 0))) (refused outside)
-    ∷ n_g strict B (asked_n (n (pos 19) (pos 0))) (refused outside)
-    ∷ n_g strict A (asked_n (n (minus 1) (pos 0))) (refused outside)
-    ∷ n_g strict A (asked_n (n (pos 19) (pos 0))) (refused outside)
+    ∷ n_g strict B (asked_n (n (minus 1) (pos 0))) (Err Outside)
+    ∷ n_g strict B (asked_n (n (pos 19) (pos 0))) (Err Outside)
+    ∷ n_g strict A (asked_n (n (minus 1) (pos 0))) (Err Outside)
+    ∷ n_g strict A (asked_n (n (pos 19) (pos 0))) (Err Outside)
     -- lenient they have answers, and so has g.34
     ∷ n_g lenient B (asked_n (n (minus 1) (pos 0))) (certainly (in_exon 1) (answered_g (g 34)))
     ∷ n_g lenient A (asked_n (n (pos 19) (pos 0))) (certainly (in_exon 2) (answered_g (g 34)))
     ∷ g_c lenient A (g 34) (certainly (in_exon 2) (c (star_c (pos 4)) (pos 0)))
     -- n. to c. tests both ends on both sides: n.1_0 and n.5_1 refuse 15; lenient n.1_0 is c.1_c.0
-    ∷ n_c strict lone (asked_n (ns (pos 1) (pos 0) (pos 0) (pos 0))) (refused n_outside)
-    ∷ n_c strict lone (asked_n (ns (pos 5) (pos 0) (pos 1) (pos 0))) (refused n_outside)
+    ∷ n_c strict lone (asked_n (ns (pos 1) (pos 0) (pos 0) (pos 0))) (Err NOutside)
+    ∷ n_c strict lone (asked_n (ns (pos 5) (pos 0) (pos 1) (pos 0))) (Err NOutside)
     ∷ n_c lenient lone (asked_n (ns (pos 1) (pos 0) (pos 0) (pos 0))) (plainly (cs (plain_c (pos 1)) (pos 0) (plain_c (pos 0)) (pos 0)))
     -- g. to n. has 14 alone: 4M2I g.5 = n.4_5 on 4 bases, uncertain, but c. refuses 15
     ∷ g_n strict ending (g 5) (uncertainly (in_exon 1) (ns (pos 4) (pos 0) (pos 5) (pos 0)))
-    ∷ g_c strict ending (g 5) (refused n_outside)
+    ∷ g_c strict ending (g 5) (Err NOutside)
     -- c.7+3 comes back; 16; 13; 17
     ∷ c_g strict A (asked_c (c (plain_c (pos 7)) (pos 3))) (certainly (in_exon 1) (answered_g (g 23)))
-    ∷ c_n strict A (asked_c (c (star_c (pos 4)) (pos 0))) (refused c_outside)
-    ∷ n_c strict del (asked_n (n (pos 1) (pos 0))) (refused not_coding)
-    ∷ n_g lenient A (asked_n (ns (pos 1) (pos 2147483647) (pos 1) (pos 0))) (refused too_wide)
+    ∷ c_n strict A (asked_c (c (star_c (pos 4)) (pos 0))) (Err COutside)
+    ∷ n_c strict del (asked_n (n (pos 1) (pos 0))) (Err NotCoding)
+    ∷ n_g lenient A (asked_n (ns (pos 1) (pos 2147483647) (pos 1) (pos 0))) (Err TooWide)
     -- 18 and 19
-    ∷ asked_g_n strict (asked 11 11) (length_only 18 no_cds) (refused no_genome)
-    ∷ asked_g_n strict (record { from = at (pos 11); to = missing }) (aligned A) (refused missing_end)
+    ∷ asked_g_n strict (asked 11 11) (length_only 18 no_cds) (Err NoGenome)
+    ∷ asked_g_n strict (record { from = Some (pos 11); to = None }) (aligned A) (Err MissingEnd)
     -- A g.11_33 is in bounds, g.33_11 too; g.11_34, g.34_11, g.10_33 and g.33_10 are not; 18 and 19
-    ∷ in_bounds (asked 11 33) (aligned A) (answered true)
-    ∷ in_bounds (asked 33 11) (aligned A) (answered true)
-    ∷ in_bounds (asked 11 34) (aligned A) (answered false)
-    ∷ in_bounds (asked 34 11) (aligned A) (answered false)
-    ∷ in_bounds (asked 10 33) (aligned A) (answered false)
-    ∷ in_bounds (asked 33 10) (aligned A) (answered false)
-    ∷ in_bounds (asked 11 33) (length_only 18 no_cds) (refused no_genome)
-    ∷ in_bounds (record { from = missing; to = at (pos 33) }) (aligned A) (refused missing_end)
+    ∷ in_bounds (asked 11 33) (aligned A) (Ok true)
+    ∷ in_bounds (asked 33 11) (aligned A) (Ok true)
+    ∷ in_bounds (asked 11 34) (aligned A) (Ok false)
+    ∷ in_bounds (asked 34 11) (aligned A) (Ok false)
+    ∷ in_bounds (asked 10 33) (aligned A) (Ok false)
+    ∷ in_bounds (asked 33 10) (aligned A) (Ok false)
+    ∷ in_bounds (asked 11 33) (length_only 18 no_cds) (Err NoGenome)
+    ∷ in_bounds (record { from = None; to = Some (pos 33) }) (aligned A) (Err MissingEnd)
     -- demand 3 speaks of answers: A g.34_33 refuses 14, and with an exon added it is c.*3+1_*3
-    ∷ g_c strict A (gs 34 33) (refused outside)
+    ∷ g_c strict A (gs 34 33) (Err Outside)
     ∷ g_c strict A+ (gs 34 33) (certainly (in_exon 2) (cs (star_c (pos 3)) (pos 1) (star_c (pos 3)) (pos 0)))
     -- 32: with `2M` on 2..5 added g.11 would move from c.1 to c.2; with `2MI` it stays
     ∷ g_c strict lone (g 11) (certainly (in_exon 1) (c (plain_c (pos 1)) (pos 0)))
-    ∷ builds (with_left (digit 2 ∷ letter_m ∷ [])) (refused not_spanning)
-    ∷ builds (with_left (digit 2 ∷ letter_m ∷ letter_i ∷ [])) (answered spanned)
+    ∷ builds (with_left (digit 2 ∷ letter_m ∷ [])) (Err NotSpanning)
+    ∷ builds (with_left (digit 2 ∷ letter_m ∷ letter_i ∷ [])) (Ok spanned)
     ∷ g_c strict spanned (g 11) (certainly (in_exon 2) (c (plain_c (pos 1)) (pos 0)))
     -- exon numbers, counted in transcript order. B's gap: its left half counts from 10..20, which is exon 2, its middle (P11) and its right half from 25..33, which is exon 1
     ∷ g_n strict B (g 22) (certainly (in_exon 2) (n (pos 9) (minus 2)))

@@ -1,7 +1,8 @@
 -- The CIGARs of the records as elements, or the first of 3, 7, 8 and 32: per record its CIGAR's size, the gap before it, its elements in text order, and then how far they go. Assumes nothing.
 use Rattle.std.specs.Prelude.{ℕ, ◌+◌, ◌-◌, Bool, List, [], ◌∷◌, eqb, ltb, ℤ, pos, nat_abs, ◌+ℤ◌, length, if◌then◌else◌}
-use Rattle.refusals.specs.Numbers.{too_much, not_spanning, most_text, most_segments}
-use Rattle.refusals.specs.Outcome.{Outcome, answered, refused, and_then, both}
+use Rattle.refusals.specs.Numbers.{most_text, most_segments}
+use Rattle.refusals.specs.declared.Refusal.TheVariants.{TooMuch, NotSpanning}
+use Rattle.refusals.specs.Outcome.{Outcome, Ok, Err, and_then, both}
 use Rattle.whole.specs.Whole.{eq_z}
 use Rattle.cigar.specs.Elements.{Element, letter_n, genome, total}
 use Rattle.cigar.specs.Text.{Reading, read_all}
@@ -39,7 +40,7 @@ is_spanned r es = spans r.alt_start r.alt_end (total genome es)
 
 -- a record's elements, or 32 where its CIGAR's genome length differs from its bounds
 unfoldable pub spanning : Record → List Element → Reading
-spanning r es = if is_spanned r es then answered es else refused not_spanning
+spanning r es = if is_spanned r es then Ok es else Err NotSpanning
 
 abbrev pub spanned : Record → Reading → Reading
 spanned r read = and_then read (spanning r)
@@ -51,22 +52,22 @@ followed_by r read next = and_then read (λ es. both (λ own others. exon_of r o
 -- the first record: 3 where its CIGAR is over 4,096 bytes
 unfoldable pub read_first : Record → Reading
 read_first r =
-    if ltb most_text (length r.cigar) then refused too_much
+    if ltb most_text (length r.cigar) then Err TooMuch
     else read_all most_segments r.cigar
 
 -- a record after others, which have `used` segments: 3 where its CIGAR is over 4,096 bytes, or where there is no room for the gap before it
 unfoldable pub read_next : ℕ → Record → Reading
 read_next used r =
-    if ltb most_text (length r.cigar) then refused too_much
-    else if eqb used most_segments then refused too_much
+    if ltb most_text (length r.cigar) then Err TooMuch
+    else if eqb used most_segments then Err TooMuch
     else read_all (most_segments - (used + 1)) r.cigar
 
 -- the records after others
 unfoldable pub exons_after : ℕ → List Record → Exons
-exons_after used [] = answered []
+exons_after used [] = Ok []
 exons_after used (r ∷ rs) = followed_by r (read_next used r) (λ n. exons_after (used + 1 + n) rs)
 
 -- all records
 unfoldable pub exons_of : List Record → Exons
-exons_of [] = answered []
+exons_of [] = Ok []
 exons_of (r ∷ rs) = followed_by r (read_first r) (λ n. exons_after n rs)

@@ -12,9 +12,8 @@ ghost use Rattle.records.specs.Walk.{Beside, Stands, Walk, Ready};
 ghost use Rattle.reading.specs.Reading.{spans, spanned, read_first, read_next, gap_of, between, genome_end_of, exons_after, exons_of};
 ghost use Rattle.reading.specs.Tallies.{Bounded, BoundedTally, one_on, nothing, tallied, tallied_after, tallied_all};
 
-use cigar::Step;
 use records::{ALT_END, ALT_START, CIGAR_TEXT};
-use refusals::{MOST_SEGMENTS, MOST_TEXT, NOT_SPANNING, TOO_MUCH};
+use refusals::{MOST_SEGMENTS, MOST_TEXT, Refusal};
 
 // How many segments there are, and how far they go along the genome and the transcript.
 #[derive(Clone, Copy)]
@@ -22,13 +21,6 @@ pub struct Sums {
     pub count: usize,
     pub genome: u64,
     pub transcript: u64,
-}
-
-// The sums of some elements, or the number of a refusal.
-#[derive(Clone, Copy)]
-pub enum Tally {
-    Sums(Sums),
-    Refused(u8),
 }
 
 // The sums with one element more.
@@ -47,25 +39,21 @@ pub fn one_on(from: Sums, letter: u8, count: u32) -> Sums
 }
 
 // The sums with the elements of one text.
-fn tally_text(text: &[u8], from: Sums) -> Tally
+fn tally_text(text: &[u8], from: Sums) -> Result<Sums, Refusal>
     requires { Bounded from }
     ensures { (result ≡ tallied from (read_all (most_segments - from.count) text.now)) × BoundedTally result }
 {
     let mut at = 0;
     let mut sums = from;
-    loop {
-        match cigar::step_at(text, at) {
-            Step::Element(count, letter, next) => {
-                if sums.count == MOST_SEGMENTS {
-                    return Tally::Refused(TOO_MUCH);
-                }
-                sums = one_on(sums, letter, count);
-                at = next;
-            }
-            Step::Refused(k) => return Tally::Refused(k),
-            Step::End => return Tally::Sums(sums),
+    // An element's step says where the next one begins, so no range or chain goes over them.
+    while let Some(step) = cigar::step_at(text, at)? {
+        if sums.count == MOST_SEGMENTS {
+            return Err(Refusal::TooMuch);
         }
+        sums = one_on(sums, step.letter, step.count);
+        at = step.next;
     }
+    Ok(sums)
 }
 
 // Whether a length along the genome is that of the bounds.
@@ -73,34 +61,25 @@ fn spans(start: i32, end: i32, length: u64) -> bool
     requires { length ≤ most_segments * 4294967296 }
     ensures { result ≡ spans start end length }
 {
-    let from = start as i64;
-    let along = length as i64;
-    let reached = from + along;
-    if reached == end as i64 {
-        return true;
-    }
-    false
+    let reached = i64::from(start) + length as i64;
+    reached == i64::from(end)
 }
 
 // The sums with the elements of the record at `at`, or 32 where they are not as long along the genome as its bounds.
-fn tally_record(s: &[u8], at: usize, from: Sums) -> Tally
+fn tally_record(s: &[u8], at: usize, from: Sums) -> Result<Sums, Refusal>
     requires { Stands s.now at × Bounded from }
     ensures { (result ≡ tallied from (spanned (record_at s.now at) (read_all (most_segments - from.count) (record_at s.now at).cigar))) × BoundedTally result }
 {
     let start = at + CIGAR_TEXT;
     let end = records::next_at(s, at);
-    match tally_text(&s[start..end], from) {
-        Tally::Sums(to) => {
-            let alt_start = fields::i32_at(s, at + ALT_START);
-            let alt_end = fields::i32_at(s, at + ALT_END);
-            let length = to.genome - from.genome;
-            if spans(alt_start, alt_end, length) {
-                return Tally::Sums(to);
-            }
-            Tally::Refused(NOT_SPANNING)
-        }
-        Tally::Refused(k) => Tally::Refused(k),
+    let to = tally_text(&s[start..end], from)?;
+    let alt_start = fields::i32_at(s, at + ALT_START);
+    let alt_end = fields::i32_at(s, at + ALT_END);
+    let length = to.genome - from.genome;
+    if spans(alt_start, alt_end, length) {
+        return Ok(to);
     }
+    Err(Refusal::NotSpanning)
 }
 
 // A bound that is not negative.
@@ -124,13 +103,13 @@ pub fn gap_at(s: &[u8], previous: usize, at: usize) -> u32
 }
 
 // The sums of the first record's elements.
-pub fn tally_first(s: &[u8]) -> Tally
+pub fn tally_first(s: &[u8]) -> Result<Sums, Refusal>
     requires { Stands s.now 0 }
     ensures { (result ≡ tallied nothing (spanned (record_at s.now 0) (read_first (record_at s.now 0)))) × BoundedTally result }
 {
     let to = records::next_at(s, 0);
     if to - CIGAR_TEXT > MOST_TEXT {
-        return Tally::Refused(TOO_MUCH);
+        return Err(Refusal::TooMuch);
     }
     let from = Sums {
         count: 0,
@@ -141,7 +120,7 @@ pub fn tally_first(s: &[u8]) -> Tally
 }
 
 // The sums with the gap before the record at `at` and its elements.
-pub fn tally_next(s: &[u8], previous: usize, at: usize, from: Sums) -> Tally
+pub fn tally_next(s: &[u8], previous: usize, at: usize, from: Sums) -> Result<Sums, Refusal>
     requires cigar_text_in_bounds { (previous + cigar_text ≤ length s.now) × Stands s.now at }
     requires beside { Beside (record_at s.now previous) (record_at s.now at) }
     requires bounded { Bounded from }
@@ -150,50 +129,40 @@ pub fn tally_next(s: &[u8], previous: usize, at: usize, from: Sums) -> Tally
     let start = at + CIGAR_TEXT;
     let to = records::next_at(s, at);
     if to - start > MOST_TEXT {
-        return Tally::Refused(TOO_MUCH);
+        return Err(Refusal::TooMuch);
     }
     if from.count == MOST_SEGMENTS {
-        return Tally::Refused(TOO_MUCH);
+        return Err(Refusal::TooMuch);
     }
     let gap = gap_at(s, previous, at);
     tally_record(s, at, one_on(from, b'N', gap))
 }
 
 // The sums with the records after the one at `previous`.
-fn tally_rest(s: &[u8], previous: usize, left: usize, at: usize, from: Sums) -> Tally
+fn tally_rest(
+    s: &[u8],
+    mut previous: usize,
+    left: usize,
+    mut at: usize,
+    mut sums: Sums,
+) -> Result<Sums, Refusal>
     requires walk { Walk s.now previous left at }
-    requires bounded { Bounded from }
-    ensures { (result ≡ tallied_after (genome_end_of (record_at s.now previous)) from (exons_after from.count (records_from left s.now at))) × BoundedTally result }
+    requires bounded { Bounded sums }
+    ensures { (result ≡ tallied_after (genome_end_of (record_at s.now previous)) sums (exons_after sums.count (records_from left s.now at))) × BoundedTally result }
 {
-    let mut p = previous;
-    let mut k = left;
-    let mut a = at;
-    let mut sums = from;
-    while k > 0 {
-        match tally_next(s, p, a, sums) {
-            Tally::Sums(to) => {
-                sums = to;
-                p = a;
-                a = records::next_at(s, a);
-                k -= 1;
-            }
-            Tally::Refused(number) => return Tally::Refused(number),
-        }
+    for _ in 0..left {
+        sums = tally_next(s, previous, at, sums)?;
+        previous = at;
+        at = records::next_at(s, at);
     }
-    Tally::Sums(sums)
+    Ok(sums)
 }
 
 // The sums of all records' elements.
-pub fn tally_all(count: usize, s: &[u8]) -> Tally
+pub fn tally_all(count: usize, s: &[u8]) -> Result<Sums, Refusal>
     requires { Ready count s.now }
     ensures { (result ≡ tallied_all (exons_of (records_from count s.now 0))) × BoundedTally result }
 {
-    match tally_first(s) {
-        Tally::Sums(first) => {
-            let at = records::next_at(s, 0);
-            let left = count - 1;
-            tally_rest(s, 0, left, at, first)
-        }
-        Tally::Refused(k) => Tally::Refused(k),
-    }
+    let first = tally_first(s)?;
+    tally_rest(s, 0, count - 1, records::next_at(s, 0), first)
 }

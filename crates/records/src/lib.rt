@@ -7,6 +7,8 @@ ghost use Rattle.records.specs.Layout.{cigar_text};
 ghost use Rattle.records.specs.Records.{field_at, next_at, record_at, exactly, records_from};
 ghost use Rattle.records.specs.Faults.{span_fault, start_fault, rise_fault, join_fault, own_fault, follow_fault, pair_fault, faults};
 
+use refusals::Refusal;
+
 // Where a record's numbers stand in it, and where its CIGAR's bytes begin.
 pub const ALT_START: usize = 0;
 
@@ -27,7 +29,7 @@ pub fn field(s: &[u8], at: usize) -> i64
     requires { at + 4 ≤ length s.now }
     ensures { result ≡ field_at s.now at }
 {
-    fields::i32_at(s, at) as i64
+    i64::from(fields::i32_at(s, at))
 }
 
 // The place after the record at a place.
@@ -40,94 +42,69 @@ pub fn next_at(s: &[u8], at: usize) -> usize
 }
 
 // 4, where a bound is negative or the end is below the start.
-fn span_fault(start: i64, end: i64) -> u8
+fn span_fault(start: i64, end: i64) -> Result<(), Refusal>
     ensures { result ≡ span_fault start end }
 {
-    if start < 0 {
-        return refusals::BAD_BOUND;
+    if start < 0 || end < 0 || end < start {
+        return Err(Refusal::BadBound);
     }
-    if end < 0 {
-        return refusals::BAD_BOUND;
-    }
-    if end < start {
-        return refusals::BAD_BOUND;
-    }
-    0
+    Ok(())
 }
 
 // 4, where a record starts below the previous end.
-fn start_fault(previous_end: i64, start: i64) -> u8
+fn start_fault(previous_end: i64, start: i64) -> Result<(), Refusal>
     ensures { result ≡ start_fault previous_end start }
 {
     if start < previous_end {
-        return refusals::BAD_BOUND;
+        return Err(Refusal::BadBound);
     }
-    0
+    Ok(())
 }
 
 // 5, where `ord` does not rise.
-fn rise_fault(a: i64, b: i64) -> u8
+fn rise_fault(a: i64, b: i64) -> Result<(), Refusal>
     ensures { result ≡ rise_fault a b }
 {
     if a < b {
-        return 0;
+        return Ok(());
     }
-    refusals::BAD_ORD
+    Err(Refusal::BadOrd)
 }
 
 // 6, where an exon does not end where the next one starts.
-fn join_fault(end: i64, start: i64) -> u8
+fn join_fault(end: i64, start: i64) -> Result<(), Refusal>
     ensures { result ≡ join_fault end start }
 {
     if end == start {
-        return 0;
+        return Ok(());
     }
-    refusals::NOT_ADJACENT
+    Err(Refusal::NotAdjacent)
 }
 
 // 4, of a record alone.
-fn own_fault(s: &[u8], at: usize) -> u8
+fn own_fault(s: &[u8], at: usize) -> Result<(), Refusal>
     requires { at + cigar_text ≤ length s.now }
     ensures { result ≡ own_fault (record_at s.now at) }
 {
-    let alt_start = field(s, at + ALT_START);
-    let alt_end = field(s, at + ALT_END);
-    let k = span_fault(alt_start, alt_end);
-    if k != 0 {
-        return k;
-    }
-    let tx_start = field(s, at + TX_START);
-    let tx_end = field(s, at + TX_END);
-    span_fault(tx_start, tx_end)
+    span_fault(field(s, at + ALT_START), field(s, at + ALT_END))?;
+    span_fault(field(s, at + TX_START), field(s, at + TX_END))
 }
 
 // 5 and 6, where the record at `b` follows that at `a` in `ord` order.
-fn follow_fault(s: &[u8], a: usize, b: usize) -> u8
+fn follow_fault(s: &[u8], a: usize, b: usize) -> Result<(), Refusal>
     requires { (a + cigar_text ≤ length s.now) × (b + cigar_text ≤ length s.now) }
     ensures { result ≡ follow_fault (record_at s.now a) (record_at s.now b) }
 {
-    let a_ord = field(s, a + ORD);
-    let b_ord = field(s, b + ORD);
-    let k = rise_fault(a_ord, b_ord);
-    if k != 0 {
-        return k;
-    }
-    let end = field(s, a + TX_END);
-    let start = field(s, b + TX_START);
-    join_fault(end, start)
+    rise_fault(field(s, a + ORD), field(s, b + ORD))?;
+    join_fault(field(s, a + TX_END), field(s, b + TX_START))
 }
 
 // 4, 5 and 6 of the record at `at` beside the one at `previous`.
-fn pair_fault(forward: bool, s: &[u8], previous: usize, at: usize) -> u8
+fn pair_fault(forward: bool, s: &[u8], previous: usize, at: usize) -> Result<(), Refusal>
     requires { (previous + cigar_text ≤ length s.now) × (at + cigar_text ≤ length s.now) }
     ensures { result ≡ pair_fault forward (record_at s.now previous) (record_at s.now at) }
 {
-    let end = field(s, previous + ALT_END);
-    let start = field(s, at + ALT_START);
-    let k = start_fault(end, start);
-    if k != 0 {
-        return k;
-    }
+    start_fault(field(s, previous + ALT_END), field(s, at + ALT_START))?;
     if forward {
         return follow_fault(s, previous, at);
     }
@@ -138,9 +115,8 @@ fn pair_fault(forward: bool, s: &[u8], previous: usize, at: usize) -> u8
 pub fn are_records(count: usize, s: &[u8]) -> bool
     ensures { result ≡ exactly count s.now 0 }
 {
-    let mut left = count;
     let mut at = 0;
-    while left > 0 {
+    for _ in 0..count {
         if s.len() - at < CIGAR_TEXT {
             return false;
         }
@@ -148,38 +124,26 @@ pub fn are_records(count: usize, s: &[u8]) -> bool
         if s.len() < at {
             return false;
         }
-        left -= 1;
     }
     at == s.len()
 }
 
-// The first of 4, 5 and 6, in list order; 0 where there is none.
-pub fn records_fault(forward: bool, count: usize, s: &[u8]) -> u8
+// The first of 4, 5 and 6, in list order.
+pub fn records_fault(forward: bool, count: usize, s: &[u8]) -> Result<(), Refusal>
     requires { exactly count s.now 0 ≡ true }
     ensures { result ≡ faults forward (records_from count s.now 0) }
 {
     if count == 0 {
-        return 0;
+        return Ok(());
     }
-    let first = own_fault(s, 0);
-    if first != 0 {
-        return first;
-    }
+    own_fault(s, 0)?;
     let mut previous = 0;
     let mut at = next_at(s, 0);
-    let mut left = count - 1;
-    while left > 0 {
-        let own = own_fault(s, at);
-        if own != 0 {
-            return own;
-        }
-        let pair = pair_fault(forward, s, previous, at);
-        if pair != 0 {
-            return pair;
-        }
+    for _ in 1..count {
+        own_fault(s, at)?;
+        pair_fault(forward, s, previous, at)?;
         previous = at;
         at = next_at(s, at);
-        left -= 1;
     }
-    0
+    Ok(())
 }

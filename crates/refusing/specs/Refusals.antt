@@ -1,6 +1,7 @@
 -- The table of refusals, of what is not a question: which numbers building, CIGAR text, BAM's words, a card, a worklist, alleles and a log can give. That of the questions stands in `mapper`. Assumes nothing.
 use Rattle.std.specs.Prelude.{ℕ, Bool, List, [], ◌∷◌, ℤ}
-use Rattle.refusals.specs.Numbers.{no_records, no_strand, too_much, bad_bound, bad_ord, not_adjacent, no_element, bad_count, too_long, no_segment, half_cds, bad_cds, no_room, no_card, bad_version, not_together, no_operation, no_word, not_spanning, no_base, no_log}
+use Rattle.refusals.specs.declared.Refusal.{Refusal}
+use Rattle.refusals.specs.declared.Refusal.TheVariants.{NoRecords, NoStrand, TooMuch, BadBound, BadOrd, NotAdjacent, NoElement, BadCount, TooLong, NoSegment, HalfCds, BadCds, NoRoom, NoCard, BadVersion, NotTogether, NoOperation, NoWord, NotSpanning, NoBase, NoLog}
 use Rattle.refusals.specs.Refusing.{Only}
 use Rattle.cigar.specs.Read.{read_text}
 use Rattle.spelling.specs.Write.{writing}
@@ -21,56 +22,56 @@ use Rattle.alleles.specs.Joining.{Alleles, Rooms, joined}
 use Rattle.alleles.specs.laws.Refusing.{plain_refusals}
 
 -- txc_read_cigar
-abbrev pub reading_refusals : List ℕ
-reading_refusals = too_much ∷ no_element ∷ bad_count ∷ []
+abbrev pub reading_refusals : List Refusal
+reading_refusals = TooMuch ∷ NoElement ∷ BadCount ∷ []
 
 -- txc_write_cigar
-abbrev pub writing_refusals : List ℕ
-writing_refusals = too_much ∷ no_element ∷ bad_count ∷ no_room ∷ []
+abbrev pub writing_refusals : List Refusal
+writing_refusals = TooMuch ∷ NoElement ∷ BadCount ∷ NoRoom ∷ []
 
 -- txc_read_bam
-abbrev pub reading_words_refusals : List ℕ
-reading_words_refusals = no_operation ∷ too_much ∷ no_room ∷ []
+abbrev pub reading_words_refusals : List Refusal
+reading_words_refusals = NoOperation ∷ TooMuch ∷ NoRoom ∷ []
 
 -- txc_write_bam
-abbrev pub writing_words_refusals : List ℕ
-writing_words_refusals = no_element ∷ no_word ∷ too_much ∷ no_room ∷ []
+abbrev pub writing_words_refusals : List Refusal
+writing_words_refusals = NoElement ∷ NoWord ∷ TooMuch ∷ NoRoom ∷ []
 
 -- txc_turn
-abbrev pub turning_refusals : List ℕ
-turning_refusals = no_base ∷ no_room ∷ []
+abbrev pub turning_refusals : List Refusal
+turning_refusals = NoBase ∷ NoRoom ∷ []
 
 -- txc_g_to_c_alleles: the plain mapping's own, and three before them
-abbrev pub joining_refusals : List ℕ
-joining_refusals = not_together ∷ no_base ∷ no_room ∷ plain_refusals
+abbrev pub joining_refusals : List Refusal
+joining_refusals = NotTogether ∷ NoBase ∷ NoRoom ∷ plain_refusals
 
 -- txc_record: its question's own refusals stand in the entry
-abbrev pub recording_refusals : List ℕ
-recording_refusals = no_log ∷ too_much ∷ no_room ∷ []
+abbrev pub recording_refusals : List Refusal
+recording_refusals = NoLog ∷ TooMuch ∷ NoRoom ∷ []
 
 -- txc_replay
-abbrev pub replay_refusals : List ℕ
-replay_refusals = not_together ∷ too_much ∷ no_log ∷ no_room ∷ []
+abbrev pub replay_refusals : List Refusal
+replay_refusals = NotTogether ∷ TooMuch ∷ NoLog ∷ NoRoom ∷ []
 
 -- what building finds in the records once the strand is known
-abbrev pub records_refusals : List ℕ
-records_refusals = too_much ∷ bad_bound ∷ bad_ord ∷ not_adjacent ∷ no_element ∷ bad_count ∷ too_long ∷ no_segment ∷ half_cds ∷ bad_cds ∷ not_spanning ∷ []
+abbrev pub records_refusals : List Refusal
+records_refusals = TooMuch ∷ BadBound ∷ BadOrd ∷ NotAdjacent ∷ NoElement ∷ BadCount ∷ TooLong ∷ NoSegment ∷ HalfCds ∷ BadCds ∷ NotSpanning ∷ []
 
 -- txc_build
-abbrev pub building_refusals : List ℕ
-building_refusals = no_records ∷ no_strand ∷ no_card ∷ not_together ∷ records_refusals
+abbrev pub building_refusals : List Refusal
+building_refusals = NoRecords ∷ NoStrand ∷ NoCard ∷ NotTogether ∷ records_refusals
 
 -- txc_build_card: not 2 and not 23, as a card's strand and CDS bits are right where it is a card
-abbrev pub card_refusals : List ℕ
-card_refusals = no_records ∷ no_card ∷ bad_version ∷ records_refusals
+abbrev pub card_refusals : List Refusal
+card_refusals = NoRecords ∷ NoCard ∷ BadVersion ∷ records_refusals
 
 -- txc_build_length
-abbrev pub length_refusals : List ℕ
-length_refusals = bad_bound ∷ too_long ∷ half_cds ∷ bad_cds ∷ not_together ∷ []
+abbrev pub length_refusals : List Refusal
+length_refusals = BadBound ∷ TooLong ∷ HalfCds ∷ BadCds ∷ NotTogether ∷ []
 
 -- txc_write_card
-abbrev pub card_writing_refusals : List ℕ
-card_writing_refusals = no_room ∷ building_refusals
+abbrev pub card_writing_refusals : List Refusal
+card_writing_refusals = NoRoom ∷ building_refusals
 
 pub record Refusals : Type 0 where
   pub read_cigar : (text : List ℕ) → Only reading_refusals (read_text text)

@@ -3,12 +3,11 @@
 
 ghost use Rattle.std.specs.Prelude.{◌≡◌};
 ghost use Rattle.lending.specs.Lending.{head_row};
-ghost use Rattle.results.specs.Results.{counted_laid, written_laid, number_laid, part_laid, built_number, built_head};
+ghost use Rattle.results.specs.Results.{counted_laid, part_laid, built_number, built_head};
 
-use cigar::Counted;
 use layout::lay::Length;
-use spelling::Written;
-use transcript::{Built, Head};
+use refusals::Refusal;
+use transcript::Head;
 
 // Where the changed part stands: of the reference (0) or of the alternative (1).
 #[repr(C)]
@@ -19,48 +18,16 @@ pub struct Part {
     pub to: usize,
 }
 
-// A number of elements or words, as a length.
-pub fn counted_laid(counted: Counted) -> Length
+// A number of elements, words or bytes, as a length.
+pub fn counted_laid(counted: Result<usize, Refusal>) -> Length
     ensures { result ≡ counted_laid counted }
 {
     match counted {
-        Counted::Count(n) => Length {
-            number: 0,
-            length: n,
-        },
-        Counted::Refused(k) => Length {
-            number: k as u32,
+        Ok(length) => Length { number: 0, length },
+        Err(refusal) => Length {
+            number: u32::from(refusal.number()),
             length: 0,
         },
-    }
-}
-
-// A text that was written, as a length.
-pub fn written_laid(written: Written) -> Length
-    ensures { result ≡ written_laid written }
-{
-    match written {
-        Written::Text(n) => Length {
-            number: 0,
-            length: n,
-        },
-        Written::Refused(k) => Length {
-            number: k as u32,
-            length: 0,
-        },
-    }
-}
-
-// That many bytes, or the number of a refusal.
-pub fn number_laid(number: u8, length: usize) -> Length
-    ensures { result ≡ number_laid number length }
-{
-    if number == 0 {
-        return Length { number: 0, length };
-    }
-    Length {
-        number: number as u32,
-        length: 0,
     }
 }
 
@@ -68,9 +35,8 @@ pub fn number_laid(number: u8, length: usize) -> Length
 pub fn part_laid(part: sequences::Part) -> Part
     ensures { result ≡ part_laid part }
 {
-    let alternative = layout::lay::star_number(part.alternative);
     Part {
-        alternative,
+        alternative: layout::lay::star_number(part.alternative),
         from: part.from,
         to: part.to,
     }
@@ -86,15 +52,15 @@ fn lay_head(h: Head, head: &mut [i32; 9])
 }
 
 // 0 and the head laid out, or a refusal's number with the head as it was.
-pub fn lay_built(b: Built, head: &mut [i32; 9]) -> u32
+pub fn lay_built(b: Result<Head, Refusal>, head: &mut [i32; 9]) -> u32
     ensures value { result ≡ built_number b }
     ensures head_after { head.new ≡ built_head b head.old }
 {
     match b {
-        Built::Transcript(h) => {
+        Ok(h) => {
             lay_head(h, head);
             0
         }
-        Built::Refused(k) => k as u32,
+        Err(refusal) => u32::from(refusal.number()),
     }
 }

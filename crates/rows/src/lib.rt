@@ -54,10 +54,7 @@ fn signed_word(row: &[u8], i: usize) -> i32
     requires { i < block_words }
     ensures { result ≡ signed_at row.now i }
 {
-    if row.len() < BLOCK {
-        return 0;
-    }
-    fields::i32_at(row, 4 * i)
+    word(row, i).cast_signed()
 }
 
 // What a row calls.
@@ -125,11 +122,7 @@ fn is_word(row: &[u8], i: usize, z: i64) -> bool
     requires { i < answer_size }
     ensures { result ≡ is_word row.now i z }
 {
-    let word = signed_word(row, FIRST_ANSWER + i) as i64;
-    if word == z {
-        return true;
-    }
-    false
+    i64::from(signed_word(row, FIRST_ANSWER + i)) == z
 }
 
 // Whether the answer that a row expects is these words.
@@ -137,10 +130,8 @@ pub fn expects(row: &[u8], words: [i64; ANSWER]) -> bool
     ensures { result ≡ expected row.now words }
 {
     let mut same = true;
-    let mut i = 0;
-    while i < ANSWER {
+    for i in 0..ANSWER {
         same = same & is_word(row, i, words[i]);
-        i += 1;
     }
     same
 }

@@ -12,10 +12,6 @@ prefix_len (a ∷ s) (b ∷ t) = cond (eqb a b) (suc (prefix_len s t)) 0
 unfoldable pub suffix_len : List ℕ → List ℕ → ℕ
 suffix_len s t = prefix_len (reverse s) (reverse t)
 
--- a list as it is read from the back, or from the front
-abbrev pub along : Bool → List ℕ → List ℕ
-along back s = cond back (reverse s) s
-
 -- the last q bytes of a list, and what is left without them
 abbrev pub last_of : List ℕ → ℕ → List ℕ
 last_of s q = drop (length s - q) s

@@ -1,47 +1,24 @@
 // Two alleles: their common prefix and suffix, what is left without them, and the part that changed. Any bytes are taken.
 #![tactic(auto)]
 
-ghost use Rattle.std.specs.Prelude.{◌≡◌, ◌<◌, ◌≤◌, length, get_or};
-ghost use Rattle.sequences.specs.Alleles.{prefix_len, suffix_len, along, changed_part};
+ghost use Rattle.std.specs.Prelude.{◌≡◌, ◌≤◌, length};
+ghost use Rattle.sequences.specs.Alleles.{prefix_len, suffix_len, changed_part};
 ghost use Rattle.sequences.specs.Slices.{slice_of, part_between, rest_of, front_of, part_of};
-
-// The i-th byte from the back, or from the front.
-pub fn byte_along(s: &[u8], back: bool, i: usize) -> u8
-    requires { i < length s.now }
-    ensures { result ≡ get_or (along back s.now) i 0 }
-{
-    if back { s[s.len() - 1 - i] } else { s[i] }
-}
-
-// How many bytes the two have in common from the back, or from the front.
-fn common(reference: &[u8], alternative: &[u8], back: bool) -> usize
-    ensures { result ≡ prefix_len (along back reference.now) (along back alternative.now) }
-{
-    let mut n = 0;
-    while n < reference.len() {
-        if n >= alternative.len() {
-            return n;
-        }
-        if byte_along(reference, back, n) != byte_along(alternative, back, n) {
-            return n;
-        }
-        n += 1;
-    }
-    n
-}
 
 // How many bytes the two have in common from the front.
 pub fn trim_common_prefixes(reference: &[u8], alternative: &[u8]) -> usize
     ensures { result ≡ prefix_len reference.now alternative.now }
 {
-    common(reference, alternative, false)
+    let from_front = reference.iter().zip(alternative);
+    from_front.take_while(|(r, a)| **r == **a).count()
 }
 
 // How many bytes the two have in common from the back.
 pub fn trim_common_suffixes(reference: &[u8], alternative: &[u8]) -> usize
     ensures { result ≡ suffix_len reference.now alternative.now }
 {
-    common(reference, alternative, true)
+    let from_back = reference.iter().rev().zip(alternative.iter().rev());
+    from_back.take_while(|(r, a)| **r == **a).count()
 }
 
 // A part of the caller's own slice.
@@ -57,21 +34,14 @@ pub fn rest(s: &[u8], p: usize) -> &[u8]
     ensures { slice_of result ≡ rest_of (slice_of s.entry) p }
 {
     let n = s.len();
-    if n < p {
-        return cut(s, n, n);
-    }
-    cut(s, p, n)
+    cut(s, p.min(n), n)
 }
 
 // What is left of a slice without its last q bytes: where it has fewer, the empty part at its beginning.
 pub fn front(s: &[u8], q: usize) -> &[u8]
     ensures { slice_of result ≡ front_of (slice_of s.entry) q }
 {
-    let n = s.len();
-    if n < q {
-        return cut(s, 0, 0);
-    }
-    let to = n - q;
+    let to = s.len().saturating_sub(q);
     cut(s, 0, to)
 }
 

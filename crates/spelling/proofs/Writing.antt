@@ -16,14 +16,15 @@ use lib.ListN.{length, get_or, length-append}
 use lib.Signed.{lt_z}
 use borrow.Author.Tests.{lt-ltb, le-ltb}
 use Rattle.whole.specs.laws.Whole.{by_test}
-use Rattle.refusals.specs.Numbers.{too_much, no_room, most_segments, most_text}
-use Rattle.refusals.specs.Outcome.{answered, refused, Answered}
+use Rattle.refusals.specs.Numbers.{most_segments, most_text}
+use Rattle.refusals.specs.declared.Refusal.{Refusal}
+use Rattle.refusals.specs.declared.Refusal.TheVariants.{TooMuch, NoRoom}
+use Rattle.refusals.specs.Outcome.{Ok, Err, Answered, Outcome}
+use Rattle.refusals.specs.laws.Outcomes.{clash, same}
 use Rattle.cigar.specs.Elements.{Element, is_letter}
 use Rattle.cigar.specs.Text.{Reading, before, element, elements_in}
 use Rattle.cigar.specs.laws.Steps.{answered_before}
 use Rattle.spelling.specs.Write.{element_text, elements_text, judged, elements_given, given_from, fitted, text_of, writing, size_of}
-use Rattle.spelling.specs.declared.Written.{Written}
-use Rattle.spelling.specs.declared.Written.TheVariants as answer
 
 -- the elements from place i on
 abbrev pub left_of : List ℤ → List ℕ → ℕ → ℕ → Reading
@@ -39,38 +40,31 @@ module _ (counts : List ℤ) (letters : List ℕ) (number i : ℕ) where
       let one : number - i ≡ suc (number - (i + 1)) = omega arith in
       rw one
 
-  pub left_none : number ≤ i → left_of counts letters number i ≡ answered []
+  pub left_none : number ≤ i → left_of counts letters number i ≡ Ok []
   unfolding given_from
   left_none h =
       let none : number - i ≡ 0 = omega arith in
       rw none
 
 -- n bytes, and then those of a reading's text
-abbrev pub size_from : ℕ → Reading → Written
-size_from n (answered es) = answer.Text (n + length (elements_text es))
-size_from n (refused k) = answer.Refused k
+abbrev pub size_from : ℕ → Reading → Outcome ℕ
+size_from n (Ok es) = Ok (n + length (elements_text es))
+size_from n (Err k) = Err k
 
 pub size_all : (r : Reading) → size_of r ≡ size_from 0 r
-size_all (answered es) = ap answer.Text {x = length (elements_text es)} {y = 0 + length (elements_text es)} (omega arith)
-size_all (refused k) = refl
+size_all (Ok es) = ap Ok {x = length (elements_text es)} {y = 0 + length (elements_text es)} (omega arith)
+size_all (Err k) = refl
 
-pub size_none : (n : ℕ) → size_from n (answered []) ≡ answer.Text n
+pub size_none : (n : ℕ) → size_from n (Ok []) ≡ Ok n
 unfolding elements_text
-size_none n = ap answer.Text (add-zero n)
+size_none n = ap Ok (add-zero n)
 
 size_before : (n : ℕ) (x : Element) (r : Reading) → size_from n (before x r) ≡ size_from (n + length (element_text x.count x.letter)) r
 unfolding elements_text
-size_before n x (answered es) =
+size_before n x (Ok es) =
     let both = length-append (element_text x.count x.letter) (elements_text es) in
-    ap {A = ℕ} answer.Text (omega arith)
-size_before n x (refused k) = refl
-
--- a refusal is no size
-clash : {k m : ℕ} → answer.Refused k ≡ answer.Text m → ⊥
-clash e = let z : ◌≡◌ {A = ℕ} 0 1 = cc in omega arith
-
-size_is : {k m : ℕ} → answer.Text k ≡ answer.Text m → k ≡ m
-size_is e = cc
+    ap {A = ℕ} Ok (omega arith)
+size_before n x (Err k) = refl
 
 -- the text of one element
 pub alone_long : (n letter : ℕ) → length (elements_text (element n letter ∷ [])) ≡ length (element_text n letter)
@@ -78,17 +72,17 @@ unfolding elements_text
 alone_long n letter = length-append (element_text n letter) [] ∙ add-zero (length (element_text n letter))
 
 module _ (n : ℕ) (z : ℤ) (letter : ℕ) (r : Reading) where
-  pub size_more : {m : ℕ} → size_of (judged z letter (answered [])) ≡ answer.Text m → size_from n (judged z letter r) ≡ size_from (n + m) r
+  pub size_more : {m : ℕ} → size_of (judged z letter (Ok [])) ≡ Ok m → size_from n (judged z letter r) ≡ size_from (n + m) r
   size_more {m} e =
       by_test (is_letter letter)
       (λ l.
       by_test (lt_z z (pos 0)) (λ b. absurd (clash (rw (l, b) at e)))
       (λ b.
-      let same : length (element_text (nat_abs z) letter) ≡ m = sym (alone_long (nat_abs z) letter) ∙ size_is (rw (l, b) at e) in
-      rw (l, b) (size_before n (element (nat_abs z) letter) r ∙ ap (λ (k : ℕ). size_from (n + k) r) same)))
+      let long : length (element_text (nat_abs z) letter) ≡ m = sym (alone_long (nat_abs z) letter) ∙ same (rw (l, b) at e) in
+      rw (l, b) (size_before n (element (nat_abs z) letter) r ∙ ap (λ (k : ℕ). size_from (n + k) r) long)))
       (λ l. absurd (clash (rw l at e)))
 
-  pub size_refused : {k : ℕ} → size_of (judged z letter (answered [])) ≡ answer.Refused k → size_from n (judged z letter r) ≡ answer.Refused k
+  pub size_refused : {k : Refusal} → size_of (judged z letter (Ok [])) ≡ Err k → size_from n (judged z letter r) ≡ Err k
   size_refused {k} e =
       by_test (is_letter letter)
       (λ l. by_test (lt_z z (pos 0)) (λ b. rw (l, b) (rw (l, b) at e)) (λ b. absurd (clash (sym (rw (l, b) at e)))))
@@ -113,22 +107,22 @@ judged_answered z letter r h =
 -- elements that have a size are not refused
 pub record Sized (r : Reading) (size : ℕ) : Type 0 where
   pub granted : Answered r
-  pub is : r ≡ answered (elements_in r)
+  pub is : r ≡ Ok (elements_in r)
   pub long : size ≡ length (elements_text (elements_in r))
 
-pub sized : (r : Reading) {size : ℕ} → size_of r ≡ answer.Text size → Sized r size
-sized (answered es) e = record { granted = tt; is = refl; long = sym (size_is e) }
-sized (refused k) e = absurd (clash e)
+pub sized : (r : Reading) {size : ℕ} → size_of r ≡ Ok size → Sized r size
+sized (Ok es) e = record { granted = tt; is = refl; long = sym (same e) }
+sized (Err k) e = absurd (clash e)
 
-refusal_is : (r : Reading) {k : ℕ} → size_of r ≡ answer.Refused k → r ≡ refused k
-refusal_is (answered es) e = absurd (clash (sym e))
-refusal_is (refused j) {k} e = let same : j ≡ k = cc in ap refused same
+refusal_is : (r : Reading) {k : Refusal} → size_of r ≡ Err k → r ≡ Err k
+refusal_is (Ok es) e = absurd (clash (sym e))
+refusal_is (Err j) {k} e = let one : j ≡ k = cc in ap Err one
 
 module _ (number : ℕ) (counts : List ℤ) (letters : List ℕ) (room : ℕ) where
   abbrev all : Reading
   all = elements_given counts letters number
 
-  pub many_written : most_segments < number → writing number counts letters room ≡ refused too_much
+  pub many_written : most_segments < number → writing number counts letters room ≡ Err TooMuch
   unfolding writing
   many_written h = rw (lt-ltb most_segments number h)
 
@@ -136,17 +130,17 @@ module _ (number : ℕ) (counts : List ℤ) (letters : List ℕ) (room : ℕ) wh
   unfolding writing
   few_written h = rw (le-ltb most_segments number h)
 
-  pub refused_written : {k : ℕ} → number ≤ most_segments → size_of all ≡ answer.Refused k → writing number counts letters room ≡ refused k
+  pub refused_written : {k : Refusal} → number ≤ most_segments → size_of all ≡ Err k → writing number counts letters room ≡ Err k
   refused_written h e = few_written h ∙ ap (text_of room) (refusal_is all e)
 
-  module _ {size : ℕ} (few : number ≤ most_segments) (e : size_of all ≡ answer.Text size) where
+  module _ {size : ℕ} (few : number ≤ most_segments) (e : size_of all ≡ Ok size) where
     fits_written : writing number counts letters room ≡ fitted most_text room (elements_text (elements_in all))
     fits_written = few_written few ∙ ap (text_of room) (sized all e).is
 
-    pub large_written : most_text < size → writing number counts letters room ≡ refused too_much
+    pub large_written : most_text < size → writing number counts letters room ≡ Err TooMuch
     large_written h = fits_written ∙ rw (lt-ltb most_text (length (elements_text (elements_in all))) (omega (arith, (sized all e).long)))
 
-    pub full_written : size ≤ most_text → room < size → writing number counts letters room ≡ refused no_room
+    pub full_written : size ≤ most_text → room < size → writing number counts letters room ≡ Err NoRoom
     full_written h k =
         fits_written
         ∙ rw (
@@ -154,7 +148,7 @@ module _ (number : ℕ) (counts : List ℤ) (letters : List ℕ) (room : ℕ) wh
           lt-ltb room (length (elements_text (elements_in all))) (omega (arith, (sized all e).long)),
         )
 
-    pub text_written : size ≤ most_text → size ≤ room → writing number counts letters room ≡ answered (elements_text (elements_in all))
+    pub text_written : size ≤ most_text → size ≤ room → writing number counts letters room ≡ Ok (elements_text (elements_in all))
     text_written h k =
         fits_written
         ∙ rw (

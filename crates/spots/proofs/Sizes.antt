@@ -6,7 +6,7 @@ use mathlib.Core.Bool.{Bool, true, false}
 use mathlib.Core.Path.{◌≡◌}
 use lib.IntN.{ℤ, pos, neg_ℤ, ◌+ℤ◌, ◌-ℤ◌}
 use lib.Signed.{le_z}
-use mir.Syntax.{w32, w64}
+use mir.Syntax.{w32}
 use mir.Val.{Fits, SFits}
 use Rattle.whole.specs.Whole.{Within}
 use Rattle.whole.specs.laws.Whole.{order, dif, neg, mag_sum, mag_dif}
@@ -14,27 +14,16 @@ use Rattle.numbering.specs.Numbers.{place_of_n}
 use Rattle.spots.specs.Mapping.{turned, signed}
 
 -- the machine's change of sign is the definition's
-pub negated : (z : ℤ) → pos 0 -ℤ z ≡ neg_ℤ z
+negated : (z : ℤ) → pos 0 -ℤ z ≡ neg_ℤ z
 negated z = omega (order, dif (pos 0) z, neg z)
 
 pub signed_40 : (forward : Bool) {z : ℤ} → Within 38 z → Within 40 (signed forward z)
 signed_40 true {z} h = omega (arith, h.within)
 signed_40 false {z} h = omega (arith, h.within, rw (negated z) at (mag_dif (pos 0) z))
 
--- the place of a g. number, in its two steps
-module _ {g : ℤ} {first : ℕ} (h : SFits w32 g) (f : Fits w32 first) where
-  pub less_38 : Within 38 (g -ℤ pos 1)
-  less_38 = omega (arith, h.sfits, mag_dif g (pos 1))
-
-  pub place_36 : Within 36 (g -ℤ pos 1 -ℤ pos first)
-  place_36 = omega (arith, h.sfits, f.fits, mag_dif g (pos 1), mag_dif (g -ℤ pos 1) (pos first))
-
--- the turn of a place, in its two steps
+-- the turn of a place
 module _ {len : ℕ} (f : Fits w32 len) where
-  pub end_38 : Within 38 (pos len -ℤ pos 1)
-  end_38 = omega (arith, f.fits, mag_dif (pos len) (pos 1))
-
-  pub back_40 : {z : ℤ} → Within 38 z → Within 40 (pos len -ℤ pos 1 -ℤ z)
+  back_40 : {z : ℤ} → Within 38 z → Within 40 (pos len -ℤ pos 1 -ℤ z)
   back_40 {z} h = omega (arith, f.fits, h.within, mag_dif (pos len) (pos 1), mag_dif (pos len -ℤ pos 1) z)
 
   pub turned_40 : (forward : Bool) {z : ℤ} → Within 38 z → Within 40 (turned forward len z)
@@ -69,6 +58,3 @@ module _ {p : ℤ} {first : ℕ} (h : Within 38 p) (f : Fits w32 first) where
 
   pub with_own_42 : {o : ℤ} → Within 40 o → Within 42 (p +ℤ pos first +ℤ pos 1 +ℤ o)
   with_own_42 {o} k = omega (arith, h.within, f.fits, k.within, mag_sum p (pos first), mag_sum (p +ℤ pos first) (pos 1), mag_sum (p +ℤ pos first +ℤ pos 1) o)
-
-pub fits_36 : {z : ℤ} → Within 36 z → SFits w64 z
-fits_36 h = omega (arith, h.within)

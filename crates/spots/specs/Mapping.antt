@@ -1,8 +1,8 @@
 -- The mappings of g. intervals to n. and of n. intervals to g., of a transcript built from records. `strict` is true in strict mode. Assumes nothing.
 use Rattle.std.specs.Prelude.{ℕ, Bool, true, false, cond, not, ◌&&◌, ◌||◌, ℤ, pos, neg_ℤ, ◌+ℤ◌, ◌-ℤ◌, if◌then◌else◌}
 use Rattle.std.specs.Int.Signed.{le_z, lt_z}
-use Rattle.refusals.specs.Numbers.{outside}
-use Rattle.refusals.specs.Outcome.{answered, refused}
+use Rattle.refusals.specs.declared.Refusal.TheVariants.{Outside}
+use Rattle.refusals.specs.Outcome.{Ok, Err}
 use Rattle.numbering.specs.Numbers.{n_of_place, place_of_n}
 use Rattle.cigar.specs.Elements.{genome, transcript}
 use Rattle.segments.specs.Places.{Spot, map_place}
@@ -50,7 +50,7 @@ unfoldable pub n_of_spot : Transcript → Spot → NPosition
 n_of_spot t a = record { base = n_of_place (turned t.forward (transcript_length t) a.place); offset = signed t.forward a.offset }
 
 abbrev pub n_answer : Transcript → Spot → Spot → Answer NPosition
-n_answer t a b = answered (record { mark = mark_of (a.sure && b.sure) (found_exons t.forward (exon_number t) a b); interval = record { from = n_of_spot t (earlier t.forward a b); to = n_of_spot t (later t.forward a b) } })
+n_answer t a b = Ok (record { mark = mark_of (a.sure && b.sure) (found_exons t.forward (exon_number t) a b); interval = record { from = n_of_spot t (earlier t.forward a b); to = n_of_spot t (later t.forward a b) } })
 
 -- before 17 is asked
 unfoldable pub whole_n : Bool → Transcript → Interval ℤ → Answer NPosition
@@ -59,7 +59,7 @@ whole_n strict t i =
     let q = place_of_g t.first i.to in
     if inside strict (genome_length t) p && inside strict (genome_length t) q
     then n_answer t (map_place genome transcript t.elements p start t.forward) (map_place genome transcript t.elements q stop t.forward)
-    else refused outside
+    else Err Outside
 
 unfoldable pub map_g_to_n : Bool → Transcript → Interval ℤ → Answer NPosition
 map_g_to_n strict t i = fitting n_fits (whole_n strict t i)
@@ -71,7 +71,7 @@ unfoldable pub g_of_spot : Transcript → Spot → ℤ → GPosition
 g_of_spot t a o = record { base = a.place +ℤ pos t.first +ℤ pos 1 +ℤ signed t.forward o }
 
 abbrev pub g_answer : Transcript → Spot → Spot → ℤ → ℤ → Answer GPosition
-g_answer t a b o u = answered (record { mark = mark_of (a.sure && b.sure) (chosen_exons t.forward (exon_number t) a b); interval = record { from = g_of_spot t a o; to = g_of_spot t b u } })
+g_answer t a b o u = Ok (record { mark = mark_of (a.sure && b.sure) (chosen_exons t.forward (exon_number t) a b); interval = record { from = g_of_spot t a o; to = g_of_spot t b u } })
 
 -- two positions in genomic order
 unfoldable pub g_of_ends : Bool → Transcript → NAsked → NAsked → Answer GPosition
@@ -80,7 +80,7 @@ g_of_ends strict t a b =
     let q = turned t.forward (transcript_length t) (place_of_n b.base) in
     if inside strict (transcript_length t) p && inside strict (transcript_length t) q
     then g_answer t (map_place transcript genome t.elements p start true) (map_place transcript genome t.elements q stop true) a.offset b.offset
-    else refused outside
+    else Err Outside
 
 unfoldable pub map_n_to_g : Bool → Transcript → Interval NAsked → Answer GPosition
 map_n_to_g strict t i = fitting g_fits (g_of_ends strict t (earlier t.forward i.from i.to) (later t.forward i.from i.to))

@@ -9,14 +9,13 @@ ghost use Rattle.segments.specs.Tables.{tables};
 ghost use Rattle.segments.specs.Places.End.{start};
 ghost use Rattle.segments.specs.Paper.{Small, end_said, spot_said, to_transcript, to_genome};
 ghost use Rattle.segments.specs.Exons.{last_number, exon_found, exon_chosen};
-ghost use Rattle.positions.specs.Paper.{paper_g_end, paper_n_end, paper_exons, paper_g, paper_n};
+ghost use Rattle.positions.specs.Paper.{paper_g_end, paper_n_end, paper_g, paper_n};
 ghost use Rattle.spots.specs.Mapping.{inside, turned, signed, place_of_g};
 ghost use Rattle.spots.specs.Aligned.{number_by, Aligns, Numbers, n_end_at, n_joined, g_end_at, g_joined};
 
 use numbering::Place;
-use positions::fitting::{GEnd, NEnd};
-use positions::{Exons, GAnswer, NAnswer, fitting};
-use refusals::{MOST_SEGMENTS, MOST_STARTS};
+use positions::{Answer, Exons, GPosition, NPosition, fitting};
+use refusals::{MOST_SEGMENTS, MOST_STARTS, Refusal};
 use segments::{End, Spot, exons};
 
 // How a transcript lies on the genome, beside its tables: whether its strand is 1, its first start, how many segments it has, and of how many records.
@@ -47,6 +46,7 @@ pub fn place_of_g(first: u32, g: i32) -> Place
 }
 
 // Whether a place lies at or above 0 and below the last entry, which is asked in strict mode alone.
+#[tactic(auto, unfolding(crate::specs::Mapping::inside))]
 pub fn is_inside(strict: bool, len: u32, p: Place) -> bool
     ensures { result ≡ inside strict len p.0 }
 {
@@ -69,6 +69,7 @@ pub fn are_inside(strict: bool, len: u32, p: Place, q: Place) -> bool
 }
 
 // The turn of a place: on strand -1 it becomes length - 1 - place.
+#[tactic(auto, unfolding(crate::specs::Mapping::turned))]
 fn turn(forward: bool, len: u32, p: Place) -> Place
     requires { Within 38 p.0 }
     ensures { result.0 ≡ turned forward len p.0 }
@@ -92,6 +93,7 @@ fn sign(forward: bool, offset: i64) -> i64
 }
 
 // The place of an n. number, turned.
+#[tactic(auto, using(crate::proofs::Sizes::of_n_34, crate::proofs::Sizes::widen_34, crate::proofs::Sizes::turned_36))]
 pub fn place_of_n(forward: bool, len: u32, base: i32) -> Place
     ensures { (result.0 ≡ turned forward len (place_of_n base)) × Within 36 result.0 }
 {
@@ -100,7 +102,8 @@ pub fn place_of_n(forward: bool, len: u32, base: i32) -> Place
 }
 
 // The n. position of a spot of the transcript: place and offset turned; 17.
-pub fn n_of_spot(forward: bool, len: u32, s: Spot) -> NEnd
+#[tactic(auto, using(crate::proofs::Sizes::turned_40))]
+pub fn n_of_spot(forward: bool, len: u32, s: Spot) -> Result<NPosition, Refusal>
     requires { Small 38 s }
     ensures { paper_n_end result ≡ n_end_at forward len (spot_said s) }
 {
@@ -111,7 +114,7 @@ pub fn n_of_spot(forward: bool, len: u32, s: Spot) -> NEnd
 }
 
 // The g. number of a place of the genome with an n. number's own offset, which is turned; 17.
-pub fn g_of_place(forward: bool, first: u32, p: Place, offset: i32) -> GEnd
+pub fn g_of_place(forward: bool, first: u32, p: Place, offset: i32) -> Result<GPosition, Refusal>
     requires { Within 38 p.0 }
     ensures { paper_g_end result ≡ g_end_at forward first p.0 offset }
 {
@@ -221,17 +224,18 @@ pub fn chosen_exon(at: Alignment, exons: &[u16; MOST_SEGMENTS], spot: Spot) -> u
 }
 
 // The n. interval of an interval's two spots, with these exons: on strand -1 start and end change places.
-pub fn n_answer(forward: bool, len: u32, exons: Exons, a: Spot, b: Spot) -> NAnswer
+#[tactic(auto, unfolding(crate::specs::Aligned::n_joined), using(positions::specs::laws::Reading::marked_both))]
+pub fn n_answer(forward: bool, len: u32, exons: Exons, a: Spot, b: Spot) -> Answer<NPosition>
     requires { Small 38 a × Small 38 b }
-    ensures { paper_n result ≡ n_joined forward len (paper_exons exons) (spot_said a) (spot_said b) }
+    ensures { paper_n result ≡ n_joined forward len exons (spot_said a) (spot_said b) }
 {
     let sure = a.sure & b.sure;
     let first = n_of_spot(forward, len, a);
     let second = n_of_spot(forward, len, b);
     if forward {
-        fitting::n_marked(sure, exons, fitting::n_both(first, second))
+        fitting::marked(sure, exons, fitting::both(first, second))
     } else {
-        fitting::n_marked(sure, exons, fitting::n_both(second, first))
+        fitting::marked(sure, exons, fitting::both(second, first))
     }
 }
 
@@ -244,15 +248,12 @@ pub fn g_answer(
     b: Spot,
     o: i32,
     u: i32,
-) -> GAnswer
+) -> Answer<GPosition>
     requires { Small 38 a × Small 38 b }
-    ensures { paper_g result ≡ g_joined forward first (paper_exons exons) (spot_said a) (spot_said b) o u }
+    ensures { paper_g result ≡ g_joined forward first exons (spot_said a) (spot_said b) o u }
 {
     let sure = a.sure & b.sure;
-    fitting::g_marked(
-        sure,
-        exons,
-        g_of_place(forward, first, a.place, o),
-        g_of_place(forward, first, b.place, u),
-    )
+    let from = g_of_place(forward, first, a.place, o);
+    let to = g_of_place(forward, first, b.place, u);
+    fitting::marked(sure, exons, fitting::both(from, to))
 }

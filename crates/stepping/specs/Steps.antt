@@ -30,7 +30,7 @@ common_within k g₀ g₁ = within k (wrapped g₁ g₀)
 
 -- ---- segment i of tables
 
-abbrev at : (ℕ → ℕ → ℕ → ℕ → ℕ → Bool) → Tables → ℕ → Bool
+abbrev pub at : (ℕ → ℕ → ℕ → ℕ → ℕ → Bool) → Tables → ℕ → Bool
 at test a i = test (slice_index a.letters i) (slice_index a.genome i) (slice_index a.genome (i + 1)) (slice_index a.transcript i) (slice_index a.transcript (i + 1))
 
 abbrev pub same_at : Tables → ℕ → Bool

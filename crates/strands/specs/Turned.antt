@@ -1,8 +1,8 @@
 -- An allele as the other strand reads it, and what a lent buffer then holds. Assumes nothing.
 use Rattle.std.specs.Prelude.{ℕ, ◌-◌, List, [], ◌∷◌, ◌++◌, map, reverse, Bool, true, not, ◌&&◌, cond, eqb, ltb, length, drop}
 use Prim.Native.Char.{Char, code}
-use Rattle.refusals.specs.Numbers.{no_room, no_base}
-use Rattle.refusals.specs.Outcome.{Outcome, answered, refused, and_then}
+use Rattle.refusals.specs.declared.Refusal.TheVariants.{NoRoom, NoBase}
+use Rattle.refusals.specs.Outcome.{Outcome, Ok, Err, and_then}
 use Rattle.sequences.specs.Alleles.{prefix_len, suffix_len, without_last, stretch}
 
 -- ---- letters
@@ -57,11 +57,11 @@ on_strand back s = cond back (turned s) s
 
 -- the allele so read: 34 where a letter is outside the list, on either strand
 abbrev pub read_on : Bool → List ℕ → Outcome (List ℕ)
-read_on back allele = cond (are_bases allele) (answered (on_strand back allele)) (refused no_base)
+read_on back allele = cond (are_bases allele) (Ok (on_strand back allele)) (Err NoBase)
 
 -- a text for a buffer of that many bytes: 20 where it is longer
 abbrev pub fitting : ℕ → List ℕ → Outcome (List ℕ)
-fitting room text = cond (ltb room (length text)) (refused no_room) (answered text)
+fitting room text = cond (ltb room (length text)) (Err NoRoom) (Ok text)
 
 -- the turned allele for a buffer of that many bytes: 34, then 20
 unfoldable pub turning : List ℕ → ℕ → Outcome (List ℕ)
@@ -69,8 +69,8 @@ turning allele room = and_then (read_on true allele) (fitting room)
 
 -- the buffer afterwards: the turned allele is at the front and the rest stays, and where it is refused all stays
 abbrev pub turned_into : List ℕ → Outcome (List ℕ) → List ℕ
-turned_into buffer (answered text) = text ++ drop (length text) buffer
-turned_into buffer (refused k) = buffer
+turned_into buffer (Ok text) = text ++ drop (length text) buffer
+turned_into buffer (Err k) = buffer
 
 -- ---- the other order of trimming
 

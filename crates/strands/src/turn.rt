@@ -1,9 +1,9 @@
 // An allele as the other strand reads it: its letters from the back, each as its complement.
-ghost use Rattle.std.specs.Prelude.{◌≡◌, true, ◌++◌, ◌<◌, ◌≤◌, length, get_or, drop};
-ghost use Rattle.refusals.specs.Outcome.{number_of};
-ghost use Rattle.strands.specs.Turned.{partner, are_bases, on_strand, turning, turned_into};
+ghost use Rattle.std.specs.Prelude.{◌≡◌, true, ◌++◌, ◌≤◌, length, drop};
+ghost use Rattle.refusals.specs.Outcome.{through};
+ghost use Rattle.strands.specs.Turned.{partner, are_bases, turned, on_strand, turning, turned_into};
 
-use refusals::{NO_BASE, NO_ROOM};
+use refusals::Refusal;
 
 // What stands for a letter's partner where it has none.
 const NO_PARTNER: u8 = 0;
@@ -51,25 +51,17 @@ fn partner(letter: u8) -> u8
 pub fn are_bases(allele: &[u8]) -> bool
     ensures { result ≡ are_bases allele.now }
 {
-    let mut i = 0;
-    while i < allele.len() {
-        if partner(allele[i]) == NO_PARTNER {
-            return false;
-        }
-        i += 1;
-    }
-    true
+    allele.iter().all(|letter| partner(*letter) != NO_PARTNER)
 }
 
-// The i-th letter of an allele, turned, or as it stands.
-fn letter_on_strand(allele: &[u8], back: bool, i: usize) -> u8
-    requires { (are_bases allele.now ≡ true) × (i < length allele.now) }
-    ensures { result ≡ get_or (on_strand back allele.now) i 0 }
+// An allele of bases, turned, at the front of a buffer that has room for it.
+fn put_turned(allele: &[u8], buffer: &mut [u8])
+    requires { (are_bases allele.now ≡ true) × (length allele.now ≤ length buffer.old) }
+    ensures { buffer.new ≡ turned allele.now ++ drop (length allele.now) buffer.old }
 {
-    if back {
-        return partner(sequences::byte_along(allele, true, i));
+    for (i, letter) in allele.iter().rev().enumerate() {
+        buffer[i] = partner(*letter);
     }
-    allele[i]
 }
 
 // An allele of bases, turned, or as it stands, at the front of a buffer that has room for it.
@@ -77,24 +69,24 @@ pub fn put_on_strand(allele: &[u8], back: bool, buffer: &mut [u8])
     requires { (are_bases allele.now ≡ true) × (length allele.now ≤ length buffer.old) }
     ensures { buffer.new ≡ on_strand back allele.now ++ drop (length allele.now) buffer.old }
 {
-    let mut i = 0;
-    while i < allele.len() {
-        buffer[i] = letter_on_strand(allele, back, i);
-        i += 1;
+    if back {
+        put_turned(allele, buffer);
+    } else {
+        buffer[..allele.len()].copy_from_slice(allele);
     }
 }
 
-// An allele, turned, at the front of a lent buffer: 0, or the number of a refusal, which leaves the buffer as it is.
-pub fn turn(allele: &[u8], buffer: &mut [u8]) -> u8
-    ensures value { result ≡ number_of (turning allele.now (length buffer.old)) }
+// An allele, turned, at the front of a lent buffer, or a refusal, which leaves the buffer as it is.
+pub fn turn(allele: &[u8], buffer: &mut [u8]) -> Result<(), Refusal>
+    ensures value { result ≡ through (λ _. tt) (turning allele.now (length buffer.old)) }
     ensures buffer_after { buffer.new ≡ turned_into buffer.old (turning allele.now (length buffer.old)) }
 {
-    if are_bases(allele) {
-        if buffer.len() < allele.len() {
-            return NO_ROOM;
-        }
-        put_on_strand(allele, true, buffer);
-        return 0;
+    if !are_bases(allele) {
+        return Err(Refusal::NoBase);
     }
-    NO_BASE
+    if buffer.len() < allele.len() {
+        return Err(Refusal::NoRoom);
+    }
+    put_on_strand(allele, true, buffer);
+    Ok(())
 }

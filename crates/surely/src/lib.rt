@@ -6,18 +6,19 @@ ghost use Rattle.refusals.specs.Numbers.{most_segments};
 ghost use Rattle.whole.specs.Whole.{eq_z};
 ghost use Rattle.segments.specs.Paper.{Small, spot_said};
 ghost use Rattle.positions.specs.Answers.{certain, ends};
-ghost use Rattle.positions.specs.Paper.{paper_c_question, paper_n_end};
+ghost use Rattle.positions.specs.Positions.{between};
+ghost use Rattle.positions.specs.Paper.{paper_c_question, paper_n_end, paper_c_end};
+ghost use Rattle.refusals.specs.Outcome.{and_then, through};
 ghost use Rattle.knowing.specs.Knowing.{paper_coding};
-ghost use Rattle.layout.specs.Layout.{n_laid, laid};
-ghost use Rattle.surely.specs.Surely.{sure_n, sure_c, sure_g, SoughtName};
+ghost use Rattle.layout.specs.Layout.{laid};
+ghost use Rattle.surely.specs.Surely.{sure_n, sure_c, sure_g, one_coded, SoughtName};
 
-use knowing::Coding;
+use knowing::Cds;
 use layout::lay;
-use layout::lay::Answer;
+use layout::lay::{Answer, Laid};
 use lone::Sought;
-use positions::CQuestion;
-use positions::fitting::{CEnd, GEnd, NEnd};
-use refusals::{MOST_SEGMENTS, MOST_STARTS, NOT_CODING};
+use positions::{CPosition, CQuestion, NPosition};
+use refusals::{MOST_SEGMENTS, MOST_STARTS, Refusal};
 use segments::Spot;
 use spots::Alignment;
 
@@ -28,13 +29,13 @@ pub fn is_base(from: i32, to: i32) -> bool
     from == to
 }
 
-// An n. position, or why there is none, as the answer of a base with this exon.
-fn laid_n(exon: u16, end: NEnd) -> Answer
-    ensures { result ≡ laid n_laid (ends (certain (record { from = exon; to = exon })) (paper_n_end end) (paper_n_end end)) }
+// A position of any kind, or why there is none, as the answer of a base with this exon.
+fn laid_base<P: Laid>(exon: u16, end: Result<P, Refusal>) -> Answer
+    ensures { result ≡ laid P.place (ends (certain (between exon exon)) (through P.says end) (through P.says end)) }
 {
     match end {
-        NEnd::At(n) => lay::lay_one_n(exon, n),
-        NEnd::Refused(k) => lay::refusal_of(k),
+        Ok(a) => lay::lay_one(exon, a),
+        Err(k) => lay::refusal_of(k),
     }
 }
 
@@ -48,67 +49,71 @@ pub fn sure_n(
     requires { (at.count ≤ most_segments) × Small 37 spot × (spot.number < at.count) }
     ensures { result ≡ sure_n at transcript.now exons.now (spot_said spot) }
 {
-    let count = at.count;
     let exon = spots::found_exon(at, exons, spot);
-    let len = spots::last(transcript, count);
+    let len = spots::last(transcript, at.count);
     if at.forward {
-        return laid_n(exon, spots::n_of_spot(true, len, spot));
+        return laid_base(exon, spots::n_of_spot(true, len, spot));
     }
-    laid_n(exon, spots::n_of_spot(false, len, spot))
+    laid_base(exon, spots::n_of_spot(false, len, spot))
+}
+
+// The c. position of an n. position, which is both ends of its interval; 13, 15, 17.
+fn coded(
+    n: Result<NPosition, Refusal>,
+    length: u32,
+    cds: Option<Cds>,
+    strict: bool,
+) -> Result<CPosition, Refusal>
+    ensures { paper_c_end result ≡ and_then (paper_n_end n) (one_coded strict length (paper_coding cds)) }
+{
+    let base = n?;
+    let c = cds.ok_or(Refusal::NotCoding)?;
+    coding::one_to_c(strict, length, c.start, c.end, base)
 }
 
 // The c. answer of a sure base, by its spot.
+#[tactic(auto, using(crate::proofs::Once::c_once))]
 pub fn sure_c(
     at: Alignment,
     transcript: &[u32; MOST_STARTS],
     exons: &[u16; MOST_SEGMENTS],
-    cds: Coding,
+    cds: Option<Cds>,
     spot: Spot,
     strict: bool,
 ) -> Answer
     requires { (at.count ≤ most_segments) × Small 37 spot × (spot.number < at.count) }
     ensures { result ≡ sure_c strict at transcript.now exons.now (paper_coding cds) (spot_said spot) }
 {
-    let count = at.count;
     let exon = spots::found_exon(at, exons, spot);
-    let len = spots::last(transcript, count);
-    match spots::n_of_spot(at.forward, len, spot) {
-        NEnd::At(n) => match cds {
-            Coding::Cds(s, e) => match coding::one_to_c(strict, len, s, e, n) {
-                CEnd::At(c) => lay::lay_one_c(exon, c),
-                CEnd::Refused(k) => lay::refusal_of(k),
-            },
-            Coding::Missing => lay::refusal_of(NOT_CODING),
-        },
-        NEnd::Refused(k) => lay::refusal_of(k),
-    }
+    let len = spots::last(transcript, at.count);
+    laid_base(
+        exon,
+        coded(spots::n_of_spot(at.forward, len, spot), len, cds, strict),
+    )
 }
 
 // The base of a c. interval whose ends are one position, where the transcript has a CDS, sought in the transcript's table.
 pub fn seek_name(
     at: Alignment,
     transcript: &[u32; MOST_STARTS],
-    cds: Coding,
+    cds: Option<Cds>,
     c: CQuestion,
     strict: bool,
-) -> Sought
+) -> Option<Sought>
     requires { (1 ≤ at.count) × (at.count ≤ most_segments) }
     ensures { SoughtName strict at transcript.now (paper_coding cds) (paper_c_question c) result }
 {
-    if let Coding::Cds(s, e) = cds {
-        if coding::is_same(c.from, c.to) {
-            let count = at.count;
-            let len = spots::last(transcript, count);
-            if let NEnd::At(n) = coding::n_position(strict, len, s, e, c.from) {
-                return lone::seek(
-                    transcript,
-                    count,
-                    spots::place_of_n(at.forward, len, n.base),
-                );
-            }
-        }
+    let bounds = cds?;
+    if coding::is_same(c.from, c.to) {
+        let len = spots::last(transcript, at.count);
+        let n = coding::n_position(strict, len, bounds.start, bounds.end, c.from).ok()?;
+        return lone::seek(
+            transcript,
+            at.count,
+            spots::place_of_n(at.forward, len, n.base),
+        );
     }
-    Sought::Other
+    None
 }
 
 // The g. answer of a sure base, by its spot, with its number's own offset.
@@ -117,8 +122,6 @@ pub fn sure_g(at: Alignment, exons: &[u16; MOST_SEGMENTS], spot: Spot, offset: i
     ensures { result ≡ sure_g at exons.now (spot_said spot) offset }
 {
     let exon = spots::chosen_exon(at, exons, spot);
-    match spots::g_of_place(at.forward, at.first, spot.place, offset) {
-        GEnd::At(g) => lay::lay_one_g(exon, g),
-        GEnd::Refused(k) => lay::refusal_of(k),
-    }
+    let end = spots::g_of_place(at.forward, at.first, spot.place, offset);
+    laid_base(exon, end)
 }

@@ -1,8 +1,12 @@
 -- A question of one of the six mappings as one value of numbers: its kinds, its marks, and the interval that it asks of. Assumes nothing.
-use Rattle.std.specs.Prelude.{ℕ, ◌/◌, ◌%◌, Bool, ◌||◌, eqb}
+use Rattle.std.specs.Prelude.{ℕ, ◌/◌, ◌%◌, Bool, ◌||◌, eqb, if◌then◌else◌}
+use Rattle.refusals.specs.declared.Refusal.TheVariants.{NoLog}
+use Rattle.refusals.specs.Outcome.{Outcome, Ok, Err}
 use Rattle.positions.specs.Positions.{Interval, GAsked, NAsked, CAsked}
 use Rattle.taking.specs.Taking.{g_end, n_asked, c_asked}
 use Rattle.taking.specs.declared.question.Question.{Question}
+use Rattle.taking.specs.declared.question.Kind.{Kind}
+use Rattle.taking.specs.declared.question.Kind.TheVariants.{GToN, NToG, NToC, CToN, GToC, CToG}
 
 -- ---- the kinds, and what is asked and answered in
 
@@ -23,6 +27,17 @@ map_g_to_c = 4
 
 abbrev pub map_c_to_g : ℕ
 map_c_to_g = 5
+
+-- the kind of a number; 35 where it is of none
+abbrev pub kind_of : ℕ → Outcome Kind
+kind_of k =
+    if eqb k map_g_to_n then Ok GToN
+    else if eqb k map_n_to_g then Ok NToG
+    else if eqb k map_n_to_c then Ok NToC
+    else if eqb k map_c_to_n then Ok CToN
+    else if eqb k map_g_to_c then Ok GToC
+    else if eqb k map_c_to_g then Ok CToG
+    else Err NoLog
 
 abbrev pub from_g : ℕ → Bool
 from_g kind = eqb kind map_g_to_n || eqb kind map_g_to_c

@@ -1,10 +1,10 @@
 -- What the boundary reads from plain numbers: the intervals of include/txc.h. Assumes nothing.
-use Rattle.std.specs.Prelude.{ℕ, ◌/◌, ◌%◌, Bool, cond, eqb, ℤ}
-use Rattle.positions.specs.Positions.{Interval, GAsked, at, missing, NAsked, CAsked}
+use Rattle.std.specs.Prelude.{ℕ, ◌/◌, ◌%◌, Bool, cond, eqb, ℤ, Some, None}
+use Rattle.positions.specs.Positions.{Interval, GAsked, NAsked, CAsked}
 
 -- an end of a g. interval: missing where its bit is set
 abbrev pub g_end : Bool → ℤ → GAsked
-g_end gone z = cond gone missing (at z)
+g_end gone z = cond gone None (Some z)
 
 -- bit 0 of `missing` is the start's, bit 1 the end's
 unfoldable pub g_asked : ℤ → ℤ → ℕ → Interval GAsked

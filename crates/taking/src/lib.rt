@@ -2,38 +2,35 @@
 #![tactic(auto)]
 
 ghost use Rattle.std.specs.Prelude.{◌≡◌};
-ghost use Rattle.positions.specs.Paper.{paper_g_asked, paper_g_question, paper_n_question, paper_c_question};
+ghost use Rattle.positions.specs.Paper.{paper_n_question, paper_c_question};
 ghost use Rattle.taking.specs.Taking.{g_end, g_asked, n_asked, c_asked};
 
-use positions::{CAsked, CQuestion, GAsked, GQuestion, NAsked, NQuestion};
+use positions::{CAsked, CQuestion, GQuestion, Interval, NAsked, NQuestion};
 
 pub mod question;
 
 // One end of a g. interval.
-pub fn g_end(missing: bool, z: i32) -> GAsked
-    ensures { paper_g_asked result ≡ g_end missing z }
+pub fn g_end(missing: bool, z: i32) -> Option<i32>
+    ensures { result ≡ g_end missing z }
 {
-    if missing {
-        GAsked::Missing
-    } else {
-        GAsked::At(z)
-    }
+    if missing { None } else { Some(z) }
 }
 
 // A g. interval: bit 0 of `missing` is the start's, bit 1 the end's.
+#[tactic(auto, unfolding(crate::specs::Taking::g_asked))]
 pub fn g_asked(start: i32, end: i32, missing: u32) -> GQuestion
-    ensures { paper_g_question result ≡ g_asked start end missing }
+    ensures { result ≡ g_asked start end missing }
 {
     let from = g_end(missing % 2 == 1, start);
     let to = g_end(missing / 2 % 2 == 1, end);
-    GQuestion { from, to }
+    Interval { from, to }
 }
 
 // An n. interval.
 pub fn n_asked(start: i32, start_offset: i32, end: i32, end_offset: i32) -> NQuestion
     ensures { paper_n_question result ≡ n_asked start start_offset end end_offset }
 {
-    NQuestion {
+    Interval {
         from: NAsked {
             base: start,
             offset: start_offset,
@@ -56,7 +53,7 @@ pub fn c_asked(
 ) -> CQuestion
     ensures { paper_c_question result ≡ c_asked start start_offset start_star end end_offset end_star }
 {
-    CQuestion {
+    Interval {
         from: CAsked {
             base: start,
             star: start_star,

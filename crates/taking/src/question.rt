@@ -1,11 +1,12 @@
 // A question of one of the six mappings as one value of plain numbers, as the host and a log have it.
 ghost use Rattle.std.specs.Prelude.{◌≡◌};
-ghost use Rattle.positions.specs.Paper.{paper_g_question, paper_n_question, paper_c_question};
-ghost use Rattle.taking.specs.Questions.{is_star, is_missing, is_strict, g_of, n_of, c_of};
+ghost use Rattle.positions.specs.Paper.{paper_n_question, paper_c_question};
+ghost use Rattle.taking.specs.Questions.{is_star, is_missing, is_strict, kind_of, g_of, n_of, c_of};
 
-use positions::{CQuestion, GQuestion, NQuestion};
+use positions::{CQuestion, GQuestion, Interval, NQuestion};
+use refusals::Refusal;
 
-// The kinds.
+// The numbers of the kinds at the boundary and in a log.
 pub const G_TO_N: u32 = 0;
 
 pub const N_TO_G: u32 = 1;
@@ -18,7 +19,37 @@ pub const G_TO_C: u32 = 4;
 
 pub const C_TO_G: u32 = 5;
 
-// `strict` is 0 or 1. Of an end's marks bit 0 says star and bit 1 says missing.
+// Which mapping is asked for.
+#[derive(Clone, Copy, PartialEq, Eq)]
+pub enum Kind {
+    GToN,
+    NToG,
+    NToC,
+    CToN,
+    GToC,
+    CToG,
+}
+
+// 35 of a number that no kind has.
+impl TryFrom<u32> for Kind {
+    type Error = Refusal;
+
+    ghost try_from_gives = { λ k r. r ≡ kind_of k };
+
+    fn try_from(number: u32) -> Result<Kind, Refusal> {
+        match number {
+            G_TO_N => Ok(Kind::GToN),
+            N_TO_G => Ok(Kind::NToG),
+            N_TO_C => Ok(Kind::NToC),
+            C_TO_N => Ok(Kind::CToN),
+            G_TO_C => Ok(Kind::GToC),
+            C_TO_G => Ok(Kind::CToG),
+            _ => Err(Refusal::NoLog),
+        }
+    }
+}
+
+// `kind` is the number of a kind and `strict` is 0 or 1: the C interface has them so. Of an end's marks bit 0 says star and bit 1 says missing.
 #[repr(C)]
 #[derive(Clone, Copy)]
 pub struct Question {
@@ -54,15 +85,17 @@ pub fn is_strict(q: Question) -> bool
 }
 
 // The g. interval of a question.
+#[tactic(auto, unfolding(crate::specs::Questions::g_of))]
 pub fn g_of(q: Question) -> GQuestion
-    ensures { paper_g_question result ≡ g_of q }
+    ensures { result ≡ g_of q }
 {
     let from = crate::g_end(is_missing(q.start_marks), q.start);
     let to = crate::g_end(is_missing(q.end_marks), q.end);
-    GQuestion { from, to }
+    Interval { from, to }
 }
 
 // The n. interval of a question.
+#[tactic(auto, unfolding(crate::specs::Questions::n_of))]
 pub fn n_of(q: Question) -> NQuestion
     ensures { paper_n_question result ≡ n_of q }
 {
@@ -70,6 +103,7 @@ pub fn n_of(q: Question) -> NQuestion
 }
 
 // The c. interval of a question.
+#[tactic(auto, unfolding(crate::specs::Questions::c_of))]
 pub fn c_of(q: Question) -> CQuestion
     ensures { paper_c_question result ≡ c_of q }
 {

@@ -2,9 +2,10 @@
 use Prim.Native.Nat.{ℕ}
 use mathlib.Core.Bool.{Bool, true, false}
 use mathlib.Core.Path.{◌≡◌, ap, ◌∙◌}
+use Rattle.std.specs.Prelude.{Option}
 use lib.IntN.{ℤ}
 use lib.ListN.{get_or}
-use Rattle.refusals.specs.Outcome.{Outcome, and_then}
+use Rattle.refusals.specs.Outcome.{Outcome, Ok, and_then}
 use Rattle.holding.specs.Holding.{Lent, checked}
 use Rattle.segments.specs.Places.{Spot}
 use Rattle.segments.specs.Places.End.{start}
@@ -24,12 +25,12 @@ use Rattle.knowing.specs.Knowing.{known_of, paper_coding}
 use Rattle.knowing.specs.laws.Known.{known_lies}
 use Rattle.mapper.specs.laws.Lying.{lying_g_to_n, lying_g_to_c, lying_c_to_g}
 use Rattle.chaining.specs.laws.Plain.{plain_first}
-use Rattle.knowing.specs.declared.Coding.{Coding}
+use Rattle.knowing.specs.declared.Cds.{Cds}
 use Rattle.knowing.specs.declared.Known.TheVariants as known
 use Rattle.surely.specs.Surely.{Named}
 use Rattle.telling.specs.Seeking.{Based}
 
-module _ (x : Lent) (a : Alignment) (c : Coding) (k : known_of x ≡ known.Aligned a c) (strict : Bool) where
+module _ (x : Lent) (a : Alignment) (c : Option Cds) (k : known_of x ≡ Ok (known.Aligned a c)) (strict : Bool) where
   abbrev lies : Transcript
   lies = aligned_by a x.tables x.exons
 

@@ -19,33 +19,32 @@ ghost use Rattle.knowing.specs.Knowing.{paper_coding};
 ghost use Rattle.taking.specs.Taking.{g_asked, c_asked};
 ghost use Rattle.layout.specs.Layout.{g_laid, n_laid, c_laid, laid};
 ghost use Rattle.refusals.specs.Outcome.{and_then};
-ghost use Rattle.chaining.specs.Given.{paper_given};
 ghost use Rattle.telling.specs.Seeking.{SoughtBase};
 
-use chaining::Given;
-use knowing::{Coding, Known};
+use knowing::{Cds, Known};
 use layout::lay;
 use layout::lay::Answer;
 use lone::Sought;
 use numbering::Place;
-use positions::CAnswer;
-use refusals::{MISSING_END, MOST_SEGMENTS, MOST_STARTS, NO_GENOME, NOT_TOGETHER};
+use positions::{CPosition, Interval};
+use refusals::{MOST_SEGMENTS, MOST_STARTS, Refusal};
 use spots::Alignment;
 use transcript::Head;
+
 // The base that a g. interval is, sought in the genome's table. A base is sought before the tables are looked at: halving waits for one entry after the other, and the processor looks at the tables meanwhile.
-fn seek_base(at: Alignment, genome: &[u32; MOST_STARTS], ends: Given) -> Sought
+fn seek_base(
+    at: Alignment,
+    genome: &[u32; MOST_STARTS],
+    ends: Result<Interval<i32>, Refusal>,
+) -> Option<Sought>
     requires { (1 ≤ at.count) × (at.count ≤ most_segments) }
-    ensures { SoughtBase at genome.now (paper_given ends) result }
+    ensures { SoughtBase at genome.now ends result }
 {
-    match ends {
-        Given::Ends(from, to) => {
-            if surely::is_base(from, to) {
-                return lone::seek(genome, at.count, spots::place_of_g(at.first, from));
-            }
-            Sought::Other
-        }
-        Given::Missing => Sought::Other,
+    let i = ends.ok()?;
+    if surely::is_base(i.from, i.to) {
+        return lone::seek(genome, at.count, spots::place_of_g(at.first, i.from));
     }
+    None
 }
 
 // The n. answer of any g. interval: 19, 14, 17.
@@ -55,17 +54,17 @@ fn interval_n(
     transcript: &[u32; MOST_STARTS],
     letters: &[u8; MOST_SEGMENTS],
     exons: &[u16; MOST_SEGMENTS],
-    ends: Given,
+    ends: Result<Interval<i32>, Refusal>,
     strict: bool,
 ) -> Answer
     requires { Aligns at (tables genome.now transcript.now letters.now) }
-    ensures { result ≡ laid n_laid (and_then (paper_given ends) (map_g_to_n strict (aligned_by at (tables genome.now transcript.now letters.now) exons.now))) }
+    ensures { result ≡ laid n_laid (and_then ends (map_g_to_n strict (aligned_by at (tables genome.now transcript.now letters.now) exons.now))) }
 {
     match ends {
-        Given::Ends(from, to) => lay::lay_n(places::to_n(
-            at, genome, transcript, letters, exons, from, to, strict,
+        Ok(i) => lay::lay(places::to_n(
+            at, genome, transcript, letters, exons, i.from, i.to, strict,
         )),
-        Given::Missing => lay::refusal_of(MISSING_END),
+        Err(k) => lay::refusal_of(k),
     }
 }
 
@@ -84,29 +83,30 @@ pub fn g_to_n(
     ensures { result ≡ laid n_laid (checked (lent head genome.now transcript.now letters.now exons.now) (ask_g_to_n strict (g_asked start end missing))) }
 {
     match knowing::told_of(head, transcript) {
-        Known::Aligned(at, _) => {
+        Ok(Known::Aligned(at, _)) => {
             let ends = chaining::both_ends(taking::g_asked(start, end, missing));
             let sought = seek_base(at, genome, ends);
             if knowing::tables_hold(at, genome, transcript, letters, exons) {
-                if let Sought::Inside(p, number) = sought {
-                    let spot = spots::spot_at_g(at, genome, transcript, letters, p, number);
+                if let Some(base) = sought {
+                    let spot = spots::spot_at_g(
+                        at,
+                        genome,
+                        transcript,
+                        letters,
+                        base.place,
+                        base.number,
+                    );
                     if spot.sure {
                         return surely::sure_n(at, transcript, exons, spot);
                     }
-                    return lay::lay_n(lone::beside_n(
-                        at,
-                        transcript,
-                        exons,
-                        spot.place,
-                        spot.number,
-                    ));
+                    return lay::lay(lone::beside_n(at, transcript, exons, spot.place, spot.number));
                 }
                 return interval_n(at, genome, transcript, letters, exons, ends, strict);
             }
-            lay::refusal_of(NOT_TOGETHER)
+            lay::refusal_of(Refusal::NotTogether)
         }
-        Known::OfLength(_, _) => lay::refusal_of(NO_GENOME),
-        Known::Broken => lay::refusal_of(NOT_TOGETHER),
+        Ok(Known::OfLength(_, _)) => lay::refusal_of(Refusal::NoGenome),
+        Err(k) => lay::refusal_of(k),
     }
 }
 
@@ -115,16 +115,15 @@ fn beside_c(
     at: Alignment,
     transcript: &[u32; MOST_STARTS],
     exons: &[u16; MOST_SEGMENTS],
-    cds: Coding,
+    cds: Option<Cds>,
     place: Place,
     number: usize,
     strict: bool,
-) -> CAnswer
+) -> positions::Answer<CPosition>
     requires { Within 37 place.0 × (number < at.count) × (at.count ≤ most_segments) }
     ensures { paper_c result ≡ chain asks_n (n_beside at transcript.now exons.now place.0 number) (map_n_to_c strict (get_or transcript.now at.count 0) (paper_coding cds)) }
 {
-    let count = at.count;
-    let len = spots::last(transcript, count);
+    let len = spots::last(transcript, at.count);
     let n = lone::beside_n(at, transcript, exons, place, number);
     chaining::then_n_to_c(n, len, cds, strict)
 }
@@ -136,21 +135,20 @@ fn interval_c(
     transcript: &[u32; MOST_STARTS],
     letters: &[u8; MOST_SEGMENTS],
     exons: &[u16; MOST_SEGMENTS],
-    cds: Coding,
-    ends: Given,
+    cds: Option<Cds>,
+    ends: Result<Interval<i32>, Refusal>,
     strict: bool,
 ) -> Answer
     requires { Aligns at (tables genome.now transcript.now letters.now) }
-    ensures { result ≡ laid c_laid (chain asks_n (and_then (paper_given ends) (map_g_to_n strict (aligned_by at (tables genome.now transcript.now letters.now) exons.now))) (map_n_to_c strict (get_or transcript.now at.count 0) (paper_coding cds))) }
+    ensures { result ≡ laid c_laid (chain asks_n (and_then ends (map_g_to_n strict (aligned_by at (tables genome.now transcript.now letters.now) exons.now))) (map_n_to_c strict (get_or transcript.now at.count 0) (paper_coding cds))) }
 {
     match ends {
-        Given::Ends(from, to) => {
-            let count = at.count;
-            let len = spots::last(transcript, count);
-            let n = places::to_n(at, genome, transcript, letters, exons, from, to, strict);
-            lay::lay_c(chaining::then_n_to_c(n, len, cds, strict))
+        Ok(i) => {
+            let len = spots::last(transcript, at.count);
+            let n = places::to_n(at, genome, transcript, letters, exons, i.from, i.to, strict);
+            lay::lay(chaining::then_n_to_c(n, len, cds, strict))
         }
-        Given::Missing => lay::refusal_of(MISSING_END),
+        Err(k) => lay::refusal_of(k),
     }
 }
 
@@ -169,16 +167,23 @@ pub fn g_to_c(
     ensures { result ≡ laid c_laid (checked (lent head genome.now transcript.now letters.now exons.now) (ask_g_to_c strict (g_asked start end missing))) }
 {
     match knowing::told_of(head, transcript) {
-        Known::Aligned(at, cds) => {
+        Ok(Known::Aligned(at, cds)) => {
             let ends = chaining::both_ends(taking::g_asked(start, end, missing));
             let sought = seek_base(at, genome, ends);
             if knowing::tables_hold(at, genome, transcript, letters, exons) {
-                if let Sought::Inside(p, number) = sought {
-                    let spot = spots::spot_at_g(at, genome, transcript, letters, p, number);
+                if let Some(base) = sought {
+                    let spot = spots::spot_at_g(
+                        at,
+                        genome,
+                        transcript,
+                        letters,
+                        base.place,
+                        base.number,
+                    );
                     if spot.sure {
                         return surely::sure_c(at, transcript, exons, cds, spot, strict);
                     }
-                    return lay::lay_c(beside_c(
+                    return lay::lay(beside_c(
                         at,
                         transcript,
                         exons,
@@ -190,10 +195,10 @@ pub fn g_to_c(
                 }
                 return interval_c(at, genome, transcript, letters, exons, cds, ends, strict);
             }
-            lay::refusal_of(NOT_TOGETHER)
+            lay::refusal_of(Refusal::NotTogether)
         }
-        Known::OfLength(_, _) => lay::refusal_of(NO_GENOME),
-        Known::Broken => lay::refusal_of(NOT_TOGETHER),
+        Ok(Known::OfLength(_, _)) => lay::refusal_of(Refusal::NoGenome),
+        Err(k) => lay::refusal_of(k),
     }
 }
 
@@ -216,15 +221,22 @@ pub fn c_to_g(
 {
     let asked = taking::c_asked(start, start_offset, start_star, end, end_offset, end_star);
     match knowing::told_of(head, transcript) {
-        Known::Aligned(at, cds) => {
+        Ok(Known::Aligned(at, cds)) => {
             let sought = surely::seek_name(at, transcript, cds, asked, strict);
             if knowing::tables_hold(at, genome, transcript, letters, exons) {
-                if let Sought::Inside(p, number) = sought {
-                    let spot = spots::spot_at_n(at, genome, transcript, letters, p, number);
+                if let Some(base) = sought {
+                    let spot = spots::spot_at_n(
+                        at,
+                        genome,
+                        transcript,
+                        letters,
+                        base.place,
+                        base.number,
+                    );
                     if spot.sure {
                         return surely::sure_g(at, exons, spot, start_offset);
                     }
-                    return lay::lay_g(lone::beside_g(
+                    return lay::lay(lone::beside_g(
                         at,
                         exons,
                         spot.place,
@@ -232,18 +244,17 @@ pub fn c_to_g(
                         start_offset,
                     ));
                 }
-                let count = at.count;
-                let len = spots::last(transcript, count);
+                let len = spots::last(transcript, at.count);
                 let n = chaining::c_to_n(len, cds, asked, strict);
-                return lay::lay_g(chaining::then_n_to_g(
+                return lay::lay(chaining::then_n_to_g(
                     n, at, genome, transcript, letters, exons, strict,
                 ));
             }
-            lay::refusal_of(NOT_TOGETHER)
+            lay::refusal_of(Refusal::NotTogether)
         }
-        Known::OfLength(length, cds) => {
-            lay::lay_g(chaining::then_no_genome(chaining::c_to_n(length, cds, asked, strict)))
+        Ok(Known::OfLength(length, cds)) => {
+            lay::lay(chaining::then_no_genome(chaining::c_to_n(length, cds, asked, strict)))
         }
-        Known::Broken => lay::refusal_of(NOT_TOGETHER),
+        Err(k) => lay::refusal_of(k),
     }
 }

@@ -38,11 +38,9 @@ fn ends_in(
     ensures { (k : ℕ) → within k result ≡ all_below (from first (ends_within_at k genome.now transcript.now)) to }
 {
     let mut bits = 0;
-    let mut i = first;
-    while i < to {
+    for i in first..to {
         let ends = stepping::with_bits(genome[i + 1], transcript[i + 1]);
         bits = stepping::with_bits(bits, ends);
-        i += 1;
     }
     bits
 }

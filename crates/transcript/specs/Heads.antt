@@ -1,9 +1,7 @@
 -- A head's numbers: the CDS bounds that are handed over, each given or not, and how a strand and a CDS stand in a head. Assumes nothing.
-use Rattle.std.specs.Prelude.{ℕ, ◌%◌, Bool, true, false, eqb, leb, ℤ, pos, negsuc}
+use Rattle.std.specs.Prelude.{ℕ, ◌%◌, Bool, true, false, eqb, leb, ℤ, pos, negsuc, Some, None, Option}
 use Rattle.transcript.specs.Transcript.{Cds}
 use Rattle.transcript.specs.Transcript.Cds.{no_cds, cds}
-use Rattle.transcript.specs.declared.Bound.{Bound}
-use Rattle.transcript.specs.declared.Bound.TheVariants.{Given, Absent}
 use Rattle.transcript.specs.declared.Head.{Head}
 
 -- ---- bounds that are handed over
@@ -13,14 +11,14 @@ abbrev pub both_bits : ℕ
 both_bits = 3
 
 -- the number of a bound that is not given is not looked at
-abbrev pub bound_of : Bool → ℤ → Bound
-bound_of true z = Given z
-bound_of false z = Absent
+abbrev pub bound_of : Bool → ℤ → Option ℤ
+bound_of true z = Some z
+bound_of false z = None
 
-abbrev pub start_of : ℕ → ℤ → Bound
+abbrev pub start_of : ℕ → ℤ → Option ℤ
 start_of bits z = bound_of (eqb (bits % 2) 1) z
 
-abbrev pub end_of : ℕ → ℤ → Bound
+abbrev pub end_of : ℕ → ℤ → Option ℤ
 end_of bits z = bound_of (leb 2 bits) z
 
 -- ---- in a head
@@ -39,9 +37,9 @@ end_in no_cds = pos 0
 end_in (cds s e) = pos e
 
 -- the number of a bound that was handed over, 0 where it is not given
-abbrev pub number_of : Bound → ℤ
-number_of (Given z) = z
-number_of Absent = pos 0
+abbrev pub number_of : Option ℤ → ℤ
+number_of (Some z) = z
+number_of None = pos 0
 
 -- a head with a CDS as it was handed over
 abbrev pub with_cds : Head → ℕ → ℤ → ℤ → Head

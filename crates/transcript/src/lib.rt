@@ -2,8 +2,9 @@
 #![tactic(auto)]
 
 ghost use Rattle.std.specs.Prelude.{◌≡◌, ◌≤◌};
-ghost use Rattle.transcript.specs.Heads.{both_bits, bound_of, start_of, end_of, number_of, with_cds};
+ghost use Rattle.transcript.specs.Heads.{both_bits, start_of, end_of, number_of, with_cds};
 
+// The kinds of a head and its CDS bits are numbers, since the C interface has them so.
 // The kind of a head built from records.
 pub const OF_RECORDS: i32 = 0;
 // The kind of a head built from a length.
@@ -40,52 +41,25 @@ pub struct Numbers {
     pub count: usize,
 }
 
-// A CDS bound.
-#[derive(Clone, Copy)]
-pub enum Bound {
-    Given(i32),
-    Absent,
-}
-
-// What building answers: a transcript's head, or the number of a refusal.
-#[derive(Clone, Copy)]
-pub enum Built {
-    Transcript(Head),
-    Refused(u8),
-}
-
-// A CDS bound, whose number counts only where it is given.
-fn bound_of(given: bool, number: i32) -> Bound
-    ensures { result ≡ bound_of given number }
-{
-    if given {
-        return Bound::Given(number);
-    }
-    Bound::Absent
-}
-
-// The CDS start.
-pub fn start_of(bits: u32, number: i32) -> Bound
+// The CDS start, whose number counts only where it is given.
+pub fn start_of(bits: u32, number: i32) -> Option<i32>
     ensures { result ≡ start_of bits number }
 {
-    bound_of(bits % 2 == 1, number)
+    (bits % 2 == 1).then_some(number)
 }
 
 // The CDS end.
-pub fn end_of(bits: u32, number: i32) -> Bound
+pub fn end_of(bits: u32, number: i32) -> Option<i32>
     ensures { result ≡ end_of bits number }
 {
-    bound_of(2 <= bits, number)
+    (2 <= bits).then_some(number)
 }
 
 // The number of a bound, 0 where it is not given.
-pub fn number_of(bound: Bound) -> i32
+pub fn number_of(bound: Option<i32>) -> i32
     ensures { result ≡ number_of bound }
 {
-    match bound {
-        Bound::Given(n) => n,
-        Bound::Absent => 0,
-    }
+    bound.unwrap_or(0)
 }
 
 // A head with a CDS that passed.

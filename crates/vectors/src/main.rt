@@ -74,6 +74,7 @@ fn replay(rt: &impl Print, file: &[u8]) -> io::Result<[u64; COUNTS]>
     let mut exons = [0u16; MOST_SEGMENTS];
     let mut tally = [0u64; COUNTS];
     let mut at = 0;
+    // A row's size leads to the next row, so no range or chain goes over them.
     while at < file.len() {
         let size = rows::row_size(&file[at..]);
         if size == 0 {

@@ -13,16 +13,8 @@ pub(crate) fn number(rt: &impl Print, n: u64) -> io::Result<()> {
 
 // Writes one line of a text, counted from 0.
 pub(crate) fn line(rt: &impl Print, lines: &[u8], n: usize) -> io::Result<()> {
-    let mut passed = 0;
-    let mut i = 0;
-    while i < lines.len() {
-        if lines[i] == b'\n' {
-            passed += 1;
-        } else if passed == n {
-            let end = i + 1;
-            text(rt, &lines[i..end])?;
-        }
-        i += 1;
+    match lines.split(|b| *b == b'\n').nth(n) {
+        Some(line) => text(rt, line),
+        None => Ok(()),
     }
-    Ok(())
 }

@@ -4,10 +4,11 @@ ghost use Rattle.std.specs.Prelude.{◌≡◌, ◌+◌, ◌%◌, ◌^◌, ◌≤
 ghost use Rattle.vectors.specs.Tally.{counts, bumped, counted};
 
 use crate::{calls, say};
+use refusals::Refusal;
 use std::io;
 
 // The refusals' numbers, and 0 for none.
-const NUMBERS: usize = refusals::NOT_SPANNING as usize + 1;
+const NUMBERS: usize = Refusal::NotSpanning as usize + 1;
 // Where an expectation comes from: nowhere, the crate's answer, its error, or the documents where the crate panics, is narrowed, has no such call or is departed from.
 const ORIGINS: usize = 7;
 // Where the counts stand.

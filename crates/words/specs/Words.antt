@@ -2,14 +2,13 @@
 -- Words and elements keep their order. BAM's run along the genome and a record's along the transcript, so on strand -1 a caller turns them round. Assumes nothing.
 use Rattle.std.specs.Prelude.{ℕ, zero, suc, ◌+◌, ◌*◌, ◌/◌, ◌%◌, ◌≤◌, min, Bool, true, not, ◌&&◌, List, [], ◌∷◌, map, ltb, eqb, ℤ, pos, nat_abs, length, get_or, if◌then◌else◌}
 use Rattle.std.specs.Int.Signed.{lt_z}
-use Rattle.refusals.specs.Numbers.{too_much, no_element, no_room, no_operation, no_word, most_segments, most_word_count}
-use Rattle.refusals.specs.Outcome.{answered, refused, unless}
+use Rattle.refusals.specs.Numbers.{most_segments, most_word_count}
+use Rattle.refusals.specs.declared.Refusal.TheVariants.{TooMuch, NoElement, NoRoom, NoOperation, NoWord}
+use Rattle.refusals.specs.Outcome.{Ok, Err, Test, no_fault, unless, Outcome}
 use Rattle.cigar.specs.Bytes.{ascii}
 use Rattle.cigar.specs.Elements.{Element, is_letter, letter_d, letter_i}
 use Rattle.cigar.specs.Text.{Reading, element}
 use Rattle.spelling.specs.Write.{Writing}
-use Rattle.cigar.specs.declared.Counted.{Counted}
-use Rattle.cigar.specs.declared.Counted.TheVariants as counted
 
 -- ---- letters and codes
 
@@ -72,28 +71,26 @@ all_known (w ∷ ws) = is_known w && all_known ws
 -- What words read as, for two lent tables of these lengths: 30 where any of them has another code, then 3 where they are too many, then 20 where a table is shorter.
 unfoldable pub read_words : List ℕ → ℕ → ℕ → Reading
 read_words words counts_room letters_room =
-    if not (all_known words) then refused no_operation
-    else if ltb most_segments (length words) then refused too_much
-    else if ltb counts_room (length words) then refused no_room
-    else if ltb letters_room (length words) then refused no_room
-    else answered (map element_of_word words)
+    if not (all_known words) then Err NoOperation
+    else if ltb most_segments (length words) then Err TooMuch
+    else if ltb counts_room (length words) then Err NoRoom
+    else if ltb letters_room (length words) then Err NoRoom
+    else Ok (map element_of_word words)
 
 -- ---- writing
 
--- an element's refusal, 0 for none: 7 where its letter is not of the six, then 31 where its count is below 0 or above the largest length
-unfoldable pub fault_of : ℤ → ℕ → ℕ
+-- an element's refusal: 7 where its letter is not of the six, then 31 where its count is below 0 or above the largest length
+unfoldable pub fault_of : ℤ → ℕ → Test
 fault_of count letter =
-    if not (is_letter letter) then no_element
-    else if lt_z count (pos 0) then no_word
-    else if lt_z (pos most_word_count) count then no_word
-    else 0
+    if not (is_letter letter) then Err NoElement
+    else if lt_z count (pos 0) then Err NoWord
+    else if lt_z (pos most_word_count) count then Err NoWord
+    else no_fault
 
--- the first refusal at m places of the tables from place i on, 0 for none
-unfoldable pub fault_from : List ℤ → List ℕ → ℕ → ℕ → ℕ
-fault_from counts letters i zero = 0
-fault_from counts letters i (suc m) =
-    let here : ℕ = fault_of (get_or counts i (pos 0)) (get_or letters i 0) in
-    if eqb here 0 then fault_from counts letters (i + 1) m else here
+-- the first refusal at m places of the tables from place i on
+unfoldable pub fault_from : List ℤ → List ℕ → ℕ → ℕ → Test
+fault_from counts letters i zero = no_fault
+fault_from counts letters i (suc m) = unless (fault_of (get_or counts i (pos 0)) (get_or letters i 0)) (fault_from counts letters (i + 1) m)
 
 -- the elements at m places of the tables from place i on
 unfoldable pub elements_at : List ℤ → List ℕ → ℕ → ℕ → List Element
@@ -105,14 +102,14 @@ elements_at counts letters i (suc m) = element (nat_abs (get_or counts i (pos 0)
 unfoldable pub write_words : ℕ → List ℤ → List ℕ → ℕ → Writing
 write_words number counts letters room =
     unless (fault_from counts letters 0 (min number most_segments))
-    (if ltb most_segments number then refused too_much
-    else if ltb room number then refused no_room
-    else answered (map word_of (elements_at counts letters 0 number)))
+    (if ltb most_segments number then Err TooMuch
+    else if ltb room number then Err NoRoom
+    else Ok (map word_of (elements_at counts letters 0 number)))
 
 -- how many words were written
-abbrev pub counted_words : Writing → Counted
-counted_words (answered words) = counted.Count (length words)
-counted_words (refused k) = counted.Refused k
+abbrev pub counted_words : Writing → Outcome ℕ
+counted_words (Ok words) = Ok (length words)
+counted_words (Err k) = Err k
 
 -- both tables have a place for each of that many
 pub record Room (counts : List ℤ) (letters : List ℕ) (number : ℕ) : Type 0 where

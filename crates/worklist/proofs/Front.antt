@@ -1,23 +1,20 @@
 -- A list of which the first i elements are those of another list: what a loop that fills a slice from the front has after i turns.
 --     front ys ws i     ws's first i, then ys's from i on
 --     front_at          what is at i is still ys's.
---     front_length      it is as long as ys.        front_set      one store more.        front_all      at the end it is ws
+--     front_set         one store more.        front_all      at the end it is ws
 -- Assumes nothing.
 use mathlib.Core.Path.{◌≡◌, sym, ◌∙◌}
 use mathlib.Core.List.{List, ◌++◌, append-nil}
 use Prim.Native.Nat.{ℕ, suc, ◌+◌, ◌≤◌, ◌<◌}
 use native.Mathlib.Numerals.{add-one}
 use native.Mathlib.Omega.{arith}
-use lib.ListN.{length, get_or, take, drop, set, length-append, length-drop, drop_of_length-le}
+use lib.ListN.{length, get_or, take, drop, set, drop_of_length-le}
 use lib.Seq.{get_or_at, drop-cons, take-suc, take_all, set_at, length-take-le, append_snoc}
 
 abbrev pub front : {X : Type 0} → List X → List X → ℕ → List X
 front ys ws i = take i ws ++ drop i ys
 
 module _ {X : Type 0} (ys ws : List X) (same : length ws ≡ length ys) where
-  pub front_length : (i : ℕ) → i ≤ length ys → length (front ys ws i) ≡ length ys
-  front_length i h = length-append (take i ws) (drop i ys) ∙ rw (length-take-le i ws (omega arith), length-drop) (omega arith)
-
   pub front_set : (i : ℕ) (d : X) → i < length ys → set (front ys ws i) i (get_or ws i d) ≡ front ys ws (i + 1)
   front_set i d h =
       rw (drop-cons ys i d h, add-one i)

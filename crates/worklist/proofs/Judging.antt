@@ -1,14 +1,11 @@
 -- What a list is answered with, by what is known of what is lent: it is walked where neither 23 nor 18 nor 33 applies, and else it is refused as a whole. Assumes nothing.
-use Rattle.std.specs.Prelude.{if◌then◌else◌}
-use Prim.Native.Nat.{ℕ, ◌<◌, ◌^◌}
-use native.Mathlib.Omega.{arith}
-use mathlib.Core.Bool.{Bool, true, false, not, false≢true}
+use mathlib.Core.Bool.{Bool, true}
 use mathlib.Core.List.{List, [], ◌∷◌, map}
 use mathlib.Core.Path.{◌≡◌, refl, sym, ap, ap₂, ◌∙◌}
-use lib.Dec.{T, eqb, lit<}
 use lib.IntN.{nat_abs}
-use Rattle.refusals.specs.Numbers.{no_genome, not_together, falling}
-use Rattle.refusals.specs.Outcome.{answered, refused}
+use Rattle.refusals.specs.declared.Refusal.{Refusal}
+use Rattle.refusals.specs.Outcome.{Outcome, Ok, Err}
+use Rattle.refusals.specs.laws.Outcomes.{clash, same}
 use Rattle.whole.specs.laws.Whole.{by_test}
 use Rattle.segments.specs.laws.Meaning.{holds_means}
 use Rattle.transcript.specs.Transcript.{Transcript}
@@ -18,68 +15,35 @@ use Rattle.spots.specs.Aligned.{aligned_by}
 use Rattle.spots.specs.declared.Alignment.{Alignment}
 use Rattle.knowing.specs.Knowing.{alignment_of, coding_in, known_of}
 use Rattle.mapper.specs.laws.Lying.{lying_g_to_n}
-use Rattle.knowing.specs.declared.Coding.{Coding}
+use Rattle.knowing.specs.laws.Known.{same_refusal}
 use Rattle.knowing.specs.declared.Known.TheVariants as known
 use Rattle.taking.specs.Taking.{g_asked}
 use Rattle.layout.specs.Layout.{n_laid, laid}
 use Rattle.layout.specs.declared.lay.Answer.{Answer}
 use Rattle.worklist.specs.Worklist.{answered_slot, positions_of, never_falls, steps_of, ask_steps, listed, slots_after}
-use Rattle.worklist.specs.Walking.{track_by, answered_by, why_not}
+use Rattle.worklist.specs.Walking.{track_by, answered_by, along}
 use Rattle.worklist.proofs.laws.Alike.{steps_by_table}
 use Rattle.worklist.specs.declared.Slot.{Slot}
 
--- a test of the machine
-pub is_true : (t : Bool) → T t → t ≡ true
-is_true true h = refl
-is_true false h = absurd h
-
-pub is_false : (t : Bool) → T (not t) → t ≡ false
-is_false true h = absurd h
-is_false false h = refl
+-- a refusal, of whatever is asked
+as_refused : {A B : Type 0} {k n : Refusal} → ◌≡◌ {A = Outcome A} (Err k) (Err n) → ◌≡◌ {A = Outcome B} (Err k) (Err n)
+as_refused e = ap (λ (r : Refusal). Err r) (same_refusal e)
 
 module _ (x : Lent) where
-  -- why a list is not walked, by what is known
   module _ (rises : Bool) where
-    pub why_aligned : (a : Alignment) (c : Coding) → known_of x ≡ known.Aligned a c → why_not x rises ≡ (if rises then 0 else falling)
-    why_aligned a c =
+    -- what does not hold together
+    pub along_broken : {k : Refusal} → known_of x ≡ Err k → along x rises ≡ Err k
+    along_broken = by_test (holds x) (λ e. rw e (λ k. absurd (clash (sym k)))) (λ e. rw e (λ k. as_refused k))
+
+    -- where it is walked
+    pub go_means : (a : Alignment) → along x rises ≡ Ok a → (holds x ≡ true) × (of_records x.head ≡ true) × (rises ≡ true) × (alignment_of x.head ≡ a)
+    go_means a =
         by_test (holds x)
         (λ e.
         by_test (of_records x.head)
-        (λ r. rw (e, r) (λ k. refl))
-        (λ r. rw (e, r) (λ k. let z : ◌≡◌ {A = ℕ} 0 1 = cc in absurd (omega arith))))
-        (λ e. rw e (λ k. let z : ◌≡◌ {A = ℕ} 0 1 = cc in absurd (omega arith)))
-
-    pub why_length : (n : ℕ) (c : Coding) → known_of x ≡ known.OfLength n c → why_not x rises ≡ no_genome
-    why_length n c =
-        by_test (holds x)
-        (λ e.
-        by_test (of_records x.head)
-        (λ r. rw (e, r) (λ k. let z : ◌≡◌ {A = ℕ} 0 1 = cc in absurd (omega arith)))
-        (λ r. rw (e, r) (λ k. refl)))
-        (λ e. rw e (λ k. let z : ◌≡◌ {A = ℕ} 0 1 = cc in absurd (omega arith)))
-
-    pub why_broken : known_of x ≡ known.Broken → why_not x rises ≡ not_together
-    why_broken =
-        by_test (holds x)
-        (λ e.
-        by_test (of_records x.head)
-        (λ r. rw (e, r) (λ k. let z : ◌≡◌ {A = ℕ} 0 1 = cc in absurd (omega arith)))
-        (λ r. rw (e, r) (λ k. let z : ◌≡◌ {A = ℕ} 0 1 = cc in absurd (omega arith))))
-        (λ e. rw e (λ k. refl))
-
-    -- its number is one of a byte's
-    pub why_small : why_not x rises < 2 ^ 8
-    why_small = by_test (holds x) (λ e. by_test (of_records x.head) (λ r. by_test rises (λ t. rw (e, r, t) (lit< tt)) (λ t. rw (e, r, t) (lit< tt))) (λ r. rw (e, r) (lit< tt))) (λ e. rw e (lit< tt))
-
-    -- where nothing speaks against it
-    pub go_means : why_not x rises ≡ 0 → (holds x ≡ true) × (of_records x.head ≡ true) × (rises ≡ true)
-    go_means =
-        by_test (holds x)
-        (λ e.
-        by_test (of_records x.head)
-        (λ r. by_test rises (λ t k. (e, r, t)) (λ t. rw (e, r, t) (λ k. absurd (omega arith))))
-        (λ r. rw (e, r) (λ k. absurd (omega arith))))
-        (λ e. rw e (λ k. absurd (omega arith)))
+        (λ r. by_test rises (λ t. rw (e, r, t) (λ k. (refl, refl, refl, same k))) (λ t. rw (e, r, t) (λ k. absurd (clash k))))
+        (λ r. rw (e, r) (λ k. absurd (clash k))))
+        (λ e. rw e (λ k. absurd (clash k)))
 
   -- ---- the list that is walked
 
@@ -87,7 +51,7 @@ module _ (x : Lent) where
   asked_of = aligned_by (alignment_of x.head) x.tables x.exons
 
   module _ (e : holds x ≡ true) (r : of_records x.head ≡ true) where
-    lies : known_of x ≡ known.Aligned (alignment_of x.head) (coding_in x.head)
+    lies : known_of x ≡ Ok (known.Aligned (alignment_of x.head) (coding_in x.head))
     lies = rw (e, r)
 
     slot_alike : (s : Slot) → answered_slot x s ≡ answered_by asked_of s
@@ -99,12 +63,12 @@ module _ (x : Lent) where
     slots_alike (y ∷ ys) = ap₂ ◌∷◌ (slot_alike y) (slots_alike ys)
 
     module _ (ys : List Slot) (sorted : never_falls (positions_of ys) ≡ true) where
-      pub walked_steps : listed x ys ≡ answered (steps_of (track_by (alignment_of x.head) x.tables.genome) (positions_of ys))
+      pub walked_steps : listed x ys ≡ Ok (steps_of (track_by (alignment_of x.head) x.tables.genome) (positions_of ys))
       unfolding ask_steps
       walked_steps =
           let w = together x e r in
           checked_held x (ask_steps (positions_of ys)) e
-          ∙ rw (source_of_records x r, sorted) (ap answered (steps_by_table x.tables (segments_of x) (nat_abs x.head.first) (holds_means x.tables (segments_of x) (held_segments x w)) (some x w) (positions_of ys)))
+          ∙ rw (source_of_records x r, sorted) (ap Ok (steps_by_table x.tables (segments_of x) (nat_abs x.head.first) (holds_means x.tables (segments_of x) (held_segments x w)) (some x w) (positions_of ys)))
 
       pub walked_slots : slots_after x ys ≡ map (answered_by asked_of) ys
       walked_slots = rw walked_steps (slots_alike ys)
@@ -112,7 +76,7 @@ module _ (x : Lent) where
   -- ---- the list that is not
 
   module _ (ys : List Slot) where
-    pub refused_steps : eqb (why_not x (never_falls (positions_of ys))) 0 ≡ false → listed x ys ≡ refused (why_not x (never_falls (positions_of ys)))
+    pub refused_steps : {k : Refusal} → along x (never_falls (positions_of ys)) ≡ Err k → listed x ys ≡ Err k
     unfolding ask_steps
     refused_steps =
         by_test (holds x)
@@ -120,10 +84,10 @@ module _ (x : Lent) where
         by_test (of_records x.head)
         (λ r.
         by_test (never_falls (positions_of ys))
-        (λ t. rw (e, r, t) (λ k. absurd (false≢true (sym k))))
-        (λ t. rw (e, r, t) (λ k. checked_held x (ask_steps (positions_of ys)) e ∙ rw (source_of_records x r, t))))
-        (λ r. rw (e, r) (λ k. checked_held x (ask_steps (positions_of ys)) e ∙ rw (source_of_length x r))))
-        (λ e. rw e (λ k. checked_broken x (ask_steps (positions_of ys)) e))
+        (λ t. rw (e, r, t) (λ h. absurd (clash (sym h))))
+        (λ t. rw (e, r, t) (λ h. checked_held x (ask_steps (positions_of ys)) e ∙ rw (source_of_records x r, t) (as_refused h))))
+        (λ r. rw (e, r) (λ h. checked_held x (ask_steps (positions_of ys)) e ∙ rw (source_of_length x r) (as_refused h))))
+        (λ e. rw e (λ h. checked_broken x (ask_steps (positions_of ys)) e ∙ as_refused h))
 
-    pub refused_slots : eqb (why_not x (never_falls (positions_of ys))) 0 ≡ false → slots_after x ys ≡ ys
-    refused_slots k = rw (refused_steps k) refl
+    pub refused_slots : {k : Refusal} → along x (never_falls (positions_of ys)) ≡ Err k → slots_after x ys ≡ ys
+    refused_slots h = rw (refused_steps h) refl

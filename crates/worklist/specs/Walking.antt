@@ -1,8 +1,10 @@
 -- Where the walk stands at a slot, and what it is to write there. Assumes nothing.
 use Rattle.std.specs.Prelude.{ℕ, ◌≤◌, ◌<◌, Bool, true, List, ◌≡◌, ℤ, if◌then◌else◌}
-use Rattle.refusals.specs.Numbers.{no_genome, not_together, falling}
+use Rattle.refusals.specs.declared.Refusal.TheVariants.{NoGenome, NotTogether, Falling}
+use Rattle.refusals.specs.Outcome.{Outcome, Ok, Err}
 use Rattle.transcript.specs.Transcript.{Transcript}
 use Rattle.holding.specs.Holding.{of_records, Lent, holds}
+use Rattle.knowing.specs.Knowing.{alignment_of}
 use Rattle.spots.specs.Mapping.{map_g_to_n}
 use Rattle.spots.specs.declared.Alignment.{Alignment}
 use Rattle.layout.specs.Layout.{n_laid, laid}
@@ -26,6 +28,6 @@ pub record Ready (r : Track) (index : ℕ) (g : ℤ) : Type 0 where
 abbrev pub answered_by : Transcript → Slot → Slot
 answered_by t s = record { position = s.position; answer = laid n_laid (map_g_to_n true t (record { from = s.position; to = s.position })) }
 
--- why a list is not walked, where this says that it never falls; 0 where it is
-abbrev pub why_not : Lent → Bool → ℕ
-why_not x rises = if holds x then (if of_records x.head then (if rises then 0 else falling) else no_genome) else not_together
+-- how what is lent lies, along which a list is walked where this says that it never falls; or why it is not walked
+abbrev pub along : Lent → Bool → Outcome Alignment
+along x rises = if holds x then (if of_records x.head then (if rises then Ok (alignment_of x.head) else Err Falling) else Err NoGenome) else Err NotTogether

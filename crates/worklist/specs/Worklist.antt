@@ -2,8 +2,9 @@
 use Rattle.std.specs.Prelude.{ℕ, zero, suc, ◌+◌, ◌-◌, Bool, true, List, map, ℤ, pos, get_or, length, if◌then◌else◌}
 use Rattle.std.proofs.Math.Option.{Option, none, some}
 use Rattle.std.specs.Int.Signed.{lt_z, le_z}
-use Rattle.refusals.specs.Numbers.{no_genome, falling}
-use Rattle.refusals.specs.Outcome.{Outcome, answered, refused}
+use Rattle.refusals.specs.declared.Refusal.TheVariants.{NoGenome, Falling}
+use Rattle.refusals.specs.Numbers.{number}
+use Rattle.refusals.specs.Outcome.{Outcome, Ok, Err}
 use Rattle.cigar.specs.Elements.{genome}
 use Rattle.segments.specs.Tables.{all_below, entries_of}
 use Rattle.finding.specs.Finding.{index_of}
@@ -90,8 +91,8 @@ steps_of r gs = steps_after r gs (length gs)
 
 -- 18, then 33
 unfoldable pub ask_steps : List ℤ → Source → Outcome ℕ
-ask_steps gs (aligned t) = if never_falls gs then answered (steps_of (track_of t) gs) else refused falling
-ask_steps gs (length_only n c) = refused no_genome
+ask_steps gs (aligned t) = if never_falls gs then Ok (steps_of (track_of t) gs) else Err Falling
+ask_steps gs (length_only n c) = Err NoGenome
 
 -- after 23
 abbrev pub listed : Lent → List Slot → Outcome ℕ
@@ -99,13 +100,13 @@ listed x slots = checked x (ask_steps (positions_of slots))
 
 -- the steps, as the boundary lays them out
 abbrev pub steps_laid : Outcome ℕ → Steps
-steps_laid (answered n) = record { number = 0; steps = n }
-steps_laid (refused k) = record { number = k; steps = 0 }
+steps_laid (Ok n) = record { number = 0; steps = n }
+steps_laid (Err k) = record { number = number k; steps = 0 }
 
 -- the slots afterwards: each is answered, or, where the list is refused, all are as they were
 abbrev pub slots_filled : {A : Type 0} → Outcome A → Lent → List Slot → List Slot
-slots_filled (answered a) x slots = map (answered_slot x) slots
-slots_filled (refused k) x slots = slots
+slots_filled (Ok a) x slots = map (answered_slot x) slots
+slots_filled (Err k) x slots = slots
 
 abbrev pub slots_after : Lent → List Slot → List Slot
 slots_after x slots = slots_filled (listed x slots) x slots

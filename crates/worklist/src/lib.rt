@@ -4,12 +4,12 @@
 ghost use Rattle.std.specs.Prelude.{◌≡◌};
 ghost use Rattle.holding.specs.Holding.{lent};
 ghost use Rattle.worklist.specs.Worklist.{listed, steps_laid, slots_after};
-ghost use Rattle.worklist.specs.Walking.{why_not};
-ghost use Rattle.refusals.specs.Outcome.{Outcome.refused};
+ghost use Rattle.worklist.specs.Walking.{along};
 
 use knowing::Known;
 use layout::lay::Answer;
-use refusals::{FALLING, MOST_SEGMENTS, MOST_STARTS, NO_GENOME, NOT_TOGETHER};
+use refusals::{MOST_SEGMENTS, MOST_STARTS, Refusal};
+use spots::Alignment;
 use transcript::Head;
 
 pub mod order;
@@ -31,30 +31,29 @@ pub struct Steps {
     pub steps: u32,
 }
 
-// Why a list is not walked: 23, 18, then 33; 0 where it is.
-fn why_not<'a>(
+// How the transcript lies that a list is walked along, or why it is not walked: 23, 18, then 33.
+fn along<'a>(
     head: Head,
     genome: &'a [u32; MOST_STARTS],
     transcript: &'a [u32; MOST_STARTS],
     letters: &'a [u8; MOST_SEGMENTS],
     exons: &'a [u16; MOST_SEGMENTS],
     rises: bool,
-) -> u8
-    ensures { result ≡ why_not (lent head genome.now transcript.now letters.now exons.now) rises }
+) -> Result<Alignment, Refusal>
+    ensures { result ≡ along (lent head genome.now transcript.now letters.now exons.now) rises }
 {
-    match knowing::known_of(head, genome, transcript, letters, exons) {
-        Known::Aligned(_, _) => { if rises { 0 } else { FALLING } }
-        Known::OfLength(_, _) => NO_GENOME,
-        Known::Broken => NOT_TOGETHER,
+    match knowing::known_of(head, genome, transcript, letters, exons)? {
+        Known::Aligned(at, _) => { if rises { Ok(at) } else { Err(Refusal::Falling) } }
+        Known::OfLength(_, _) => Err(Refusal::NoGenome),
     }
 }
 
 // A refusal of the whole list.
-fn refused(number: u8) -> Steps
-    ensures { result ≡ steps_laid (refused number) }
+fn refused(k: Refusal) -> Steps
+    ensures { result ≡ steps_laid (Err k) }
 {
     Steps {
-        number: number as u32,
+        number: u32::from(k.number()),
         steps: 0,
     }
 }
@@ -71,10 +70,8 @@ pub fn answer_list<'a>(
     ensures { (result ≡ steps_laid (listed (lent head genome.now transcript.now letters.now exons.now) slots.old)) × (slots.new ≡ slots_after (lent head genome.now transcript.now letters.now exons.now) slots.old) }
 {
     let rises = order::never_falls(slots);
-    let number = why_not(head, genome, transcript, letters, exons, rises);
-    if number == 0 {
-        let at = knowing::alignment(head);
-        return walk::fill(at, genome, transcript, letters, exons, slots);
+    match along(head, genome, transcript, letters, exons, rises) {
+        Ok(at) => walk::fill(at, genome, transcript, letters, exons, slots),
+        Err(k) => refused(k),
     }
-    refused(number)
 }

@@ -1,7 +1,6 @@
 // The walk: slots are answered from the first to the last, along the segments from the first on, and it never steps back.
 ghost use Rattle.std.specs.Prelude.{◌≡◌, true, map, ◌≤◌};
 ghost use Rattle.refusals.specs.Numbers.{most_segments};
-ghost use Rattle.refusals.specs.Outcome.{Outcome.answered};
 ghost use Rattle.segments.specs.Tables.{tables};
 ghost use Rattle.spots.specs.Aligned.{aligned_by, Aligns, InSegment};
 ghost use Rattle.worklist.specs.Worklist.{positions_of, never_falls, steps_of, steps_laid};
@@ -17,10 +16,9 @@ fn step(at: Alignment, genome: &[u32; MOST_STARTS], index: usize, s: Slot) -> us
     requires { (at.count ≤ most_segments) × Ready (track_by at genome.now) index s.position }
     ensures { result ≡ next_index (track_by at genome.now) index s.position }
 {
-    let count = at.count;
     let p = spots::place_of_g(at.first, s.position);
-    if spots::is_inside(true, spots::last(genome, count), p) {
-        return finding::find_from(genome, count, index, p.0);
+    if spots::is_inside(true, spots::last(genome, at.count), p) {
+        return finding::find_from(genome, at.count, index, p.0);
     }
     index
 }
@@ -40,14 +38,14 @@ fn answer_slot<'a>(
 {
     let position = s.position;
     let n = lone::one_to_n_at(at, genome, transcript, letters, exons, index, position);
-    let answer = lay::lay_n(n);
+    let answer = lay::lay(n);
     Slot { position, answer }
 }
 
 // How far the walk went.
 fn told(index: usize) -> Steps
     requires { index ≤ most_segments }
-    ensures { result ≡ steps_laid (answered index) }
+    ensures { result ≡ steps_laid (Ok index) }
 {
     Steps {
         number: 0,
@@ -65,16 +63,12 @@ pub fn fill<'a>(
     slots: &mut [Slot],
 ) -> Steps
     requires { Aligns at (tables genome.now transcript.now letters.now) × (never_falls (positions_of slots.old) ≡ true) }
-    ensures { (result ≡ steps_laid (answered (steps_of (track_by at genome.now) (positions_of slots.old)))) × (slots.new ≡ map (answered_by (aligned_by at (tables genome.now transcript.now letters.now) exons.now)) slots.old) }
+    ensures { (result ≡ steps_laid (Ok (steps_of (track_by at genome.now) (positions_of slots.old)))) × (slots.new ≡ map (answered_by (aligned_by at (tables genome.now transcript.now letters.now) exons.now)) slots.old) }
 {
     let mut index = 0;
-    let mut i = 0;
-    while i < slots.len() {
-        let s = slots[i];
-        index = step(at, genome, index, s);
-        let t = answer_slot(at, genome, transcript, letters, exons, index, s);
-        slots[i] = t;
-        i += 1;
+    for slot in slots.iter_mut() {
+        index = step(at, genome, index, *slot);
+        *slot = answer_slot(at, genome, transcript, letters, exons, index, *slot);
     }
     told(index)
 }

@@ -5,21 +5,24 @@
 -- Assumes nothing.
 use Rattle.std.specs.Prelude.{ℕ, Bool, true, false, ◌&&◌, List, ◌++◌, ◌≡◌, refl, eqb, ltb, length, drop, if◌then◌else◌}
 use Rattle.std.proofs.lemmas.Bool.{false≢true}
-use Rattle.std.proofs.Common.{sym, ◌∙◌, arith, eqb-true}
+use Rattle.std.proofs.Common.{sym, ◌∙◌, eqb-true}
 use Rattle.std.proofs.Math.Path.{ap}
-use Rattle.refusals.specs.Numbers.{no_room, no_base, not_together}
-use Rattle.refusals.specs.Outcome.{Outcome, answered, refused, Answered, number_of, and_then, through}
-use Rattle.refusals.specs.Refusing.{one_of, Only}
+use Rattle.refusals.specs.declared.Refusal.{Refusal}
+use Rattle.refusals.specs.declared.Refusal.TheVariants.{NoRoom, NoBase, NotTogether}
+use Rattle.refusals.specs.Numbers.{number}
+use Rattle.refusals.specs.Outcome.{Outcome, Test, Ok, Err, Answered, no_fault, and_then, through}
+use Rattle.refusals.specs.Refusing.{Only}
+use Rattle.refusals.specs.laws.Outcomes.{clash}
+use Rattle.knowing.specs.laws.Known.{same_refusal}
 use Rattle.whole.specs.laws.Whole.{by_test}
 use Rattle.holding.specs.Holding.{of_records, Lent, holds, source_of, checked}
 use Rattle.holding.specs.laws.Held.{source_of_records, source_of_length, checked_held, checked_broken}
 use Rattle.positions.specs.Positions.{Interval, GAsked, CPosition}
 use Rattle.positions.specs.Answers.{Answer}
 use Rattle.mapper.specs.Asking.{ask_g_to_c}
-use Rattle.mapper.specs.laws.Refusing.{g_to_c_refusals, in_mode, g_to_c_refuses}
 use Rattle.strands.specs.Turned.{are_bases, on_strand}
 use Rattle.alleles.specs.Joining.{Alleles, alleles, Rooms, Trimmed, trimmed, fitting_both, Joining, beside, joined_with, reads_back, ask_joined, joined, laid_with, joined_laid, reference_after, alternative_after}
-use Rattle.alleles.specs.Deciding.{head_reads_back, enough, first_refusal}
+use Rattle.alleles.specs.Deciding.{head_reads_back, enough, is_broken, first_refusal}
 use Rattle.alleles.specs.laws.Refusing.{plain_refusals, plain_only}
 
 -- ---- what is known without the check
@@ -34,15 +37,19 @@ have_room room t = enough room.reference (length t.left.reference) && enough roo
 abbrev pub cut : Bool → Alleles → Trimmed
 cut back s = trimmed (alleles (on_strand back s.reference) (on_strand back s.alternative))
 
+-- a refusal, of whatever is asked
+as_refused : {A B : Type 0} {k n : Refusal} → ◌≡◌ {A = Outcome A} (Err k) (Err n) → ◌≡◌ {A = Outcome B} (Err k) (Err n)
+as_refused e = ap (λ (r : Refusal). Err r) (same_refusal e)
+
 -- the tests as the code makes them
 abbrev decide : Answer CPosition → Bool → Bool → Trimmed → Outcome Joining
-decide plain bases room t = if bases then (if room then through (beside t) plain else refused no_room) else refused no_base
+decide plain bases room t = if bases then (if room then through (beside t) plain else Err NoRoom) else Err NoBase
 
 abbrev decide_all : Answer CPosition → Bool → Bool → Trimmed → Outcome Joining
-decide_all plain bases room t = if eqb (number_of plain) not_together then refused not_together else decide plain bases room t
+decide_all plain bases room t = if is_broken plain then Err NotTogether else decide plain bases room t
 
 module _ (room : Rooms) (plain : Answer CPosition) where
-  room_step : (t : Trimmed) → and_then (fitting_both room t) (λ (u : Trimmed). through (beside u) plain) ≡ (if have_room room t then through (beside t) plain else refused no_room)
+  room_step : (t : Trimmed) → and_then (fitting_both room t) (λ (u : Trimmed). through (beside u) plain) ≡ (if have_room room t then through (beside t) plain else Err NoRoom)
   room_step t =
       by_test (ltb room.reference (length t.left.reference))
       (λ e. rw e)
@@ -60,41 +67,34 @@ reads_back_lem : (x : Lent) → reads_back (source_of x) ≡ head_reads_back x.h
 reads_back_lem x = by_test (of_records x.head) (λ r. rw (source_of_records x r, r)) (λ r. rw (source_of_length x r, r))
 
 -- the mapping itself never says 23
-not_23 : (o : Answer CPosition) → Only plain_refusals o → eqb (number_of o) not_together ≡ false
-not_23 (answered i) h = refl
-not_23 (refused k) h = by_test (eqb k not_together) (λ e. absurd (false≢true (rw (eqb-true k not_together e) at h).only)) (λ e. e)
+not_broken : (o : Answer CPosition) → Only plain_refusals o → is_broken o ≡ false
+not_broken (Ok i) h = refl
+not_broken (Err k) h = by_test (eqb (number k) (number NotTogether)) (λ e. absurd (false≢true (rw (eqb-true (number k) (number NotTogether) e) at h.only))) (λ e. e)
 
 -- where none of the tests refuses
-goes_of : (ks : List ℕ) → one_of 0 ks ≡ false → (plain : Answer CPosition) (bases room : Bool) (t : Trimmed) → Only ks plain → first_refusal (number_of plain) bases room ≡ 0
+goes_of : (plain : Answer CPosition) (bases room : Bool) (t : Trimmed) → first_refusal plain bases room ≡ no_fault
     → (bases ≡ true) × (room ≡ true) × Answered plain × (decide_all plain bases room t ≡ through (beside t) plain)
-goes_of ks n (answered i) true true t h e = (refl, refl, tt, refl)
-goes_of ks n (answered i) true false t h e = let z : ◌≡◌ {A = ℕ} no_room 0 = e in absurd (omega arith)
-goes_of ks n (answered i) false room t h e = let z : ◌≡◌ {A = ℕ} no_base 0 = e in absurd (omega arith)
-goes_of ks n (refused k) bases room t h e =
-    by_test (eqb k not_together)
-    (λ f. let z : ◌≡◌ {A = ℕ} not_together 0 = rw f at e in absurd (omega arith))
-    (λ f. absurd (own bases room (rw f at e)))
+goes_of (Ok i) true true t e = (refl, refl, tt, refl)
+goes_of (Ok i) true false t e = absurd (clash e)
+goes_of (Ok i) false room t e = absurd (clash e)
+goes_of (Err k) bases room t e = by_test (eqb (number k) (number NotTogether)) (λ f. absurd (clash (rw f at e))) (λ f. absurd (never bases room (rw f at e)))
   where
-    own : (b r : Bool) → (if b then (if r then k else no_room) else no_base) ≡ 0 → ⊥
-    own true true z = false≢true (sym n ∙ (rw z at h).only)
-    own true false z = let y : ◌≡◌ {A = ℕ} no_room 0 = z in omega arith
-    own false r z = let y : ◌≡◌ {A = ℕ} no_base 0 = z in omega arith
+    never : (b r : Bool) → (if b then (if r then Err k else Err NoRoom) else Err NoBase) ≡ no_fault → ⊥
+    never true true z = clash z
+    never true false z = clash z
+    never false r z = clash z
 
 -- where one of them does
-stops_of : (plain : Answer CPosition) (bases room : Bool) (t : Trimmed) → (first_refusal (number_of plain) bases room ≡ 0 → ⊥) → decide_all plain bases room t ≡ refused (first_refusal (number_of plain) bases room)
-stops_of (answered i) true true t n = absurd (n refl)
-stops_of (answered i) true false t n = refl
-stops_of (answered i) false room t n = refl
-stops_of (refused k) bases room t n = by_test (eqb k not_together) (λ e. rw e) (λ e. rw e (own bases room))
+stops_of : (plain : Answer CPosition) (bases room : Bool) (t : Trimmed) {n : Refusal} → first_refusal plain bases room ≡ Err n → decide_all plain bases room t ≡ Err n
+stops_of (Ok i) true true t e = absurd (clash (sym e))
+stops_of (Ok i) true false t e = as_refused e
+stops_of (Ok i) false room t e = as_refused e
+stops_of (Err k) bases room t e = by_test (eqb (number k) (number NotTogether)) (λ f. rw f (as_refused (rw f at e))) (λ f. rw f (by bases room (rw f at e)))
   where
-    own : (b r : Bool) → decide (refused k) b r t ≡ refused (if b then (if r then k else no_room) else no_base)
-    own true true = refl
-    own true false = refl
-    own false r = refl
-
-zero_not : (strict : Bool) → one_of 0 (in_mode strict g_to_c_refusals) ≡ false
-zero_not true = refl
-zero_not false = refl
+    by : (b r : Bool) {n : Refusal} → ◌≡◌ {A = Test} (if b then (if r then Err k else Err NoRoom) else Err NoBase) (Err n) → decide (Err k) b r t ≡ Err n
+    by true true z = as_refused z
+    by true false z = as_refused z
+    by false r z = as_refused z
 
 module _ (x : Lent) (strict : Bool) (q : Interval GAsked) (s : Alleles) (room : Rooms) where
   abbrev pub plain : Answer CPosition
@@ -104,8 +104,8 @@ module _ (x : Lent) (strict : Bool) (q : Interval GAsked) (s : Alleles) (room : 
   abbrev pub parts : Trimmed
   parts = cut (head_reads_back x.head) s
 
-  abbrev pub number : ℕ
-  number = first_refusal (number_of plain) (both_bases s) (have_room room parts)
+  abbrev pub fault : Test
+  fault = first_refusal plain (both_bases s) (have_room room parts)
 
   asked_step : ask_joined strict q s room (source_of x) ≡ decide (ask_g_to_c strict q (source_of x)) (both_bases s) (have_room room parts) parts
   unfolding ask_joined
@@ -117,28 +117,28 @@ module _ (x : Lent) (strict : Bool) (q : Interval GAsked) (s : Alleles) (room : 
   decided =
       by_test (holds x)
       (λ h.
-      rw (checked_held x (ask_joined strict q s room) h, checked_held x (ask_g_to_c strict q) h, not_23 (ask_g_to_c strict q (source_of x)) (plain_only strict q (source_of x)))
+      rw (checked_held x (ask_joined strict q s room) h, checked_held x (ask_g_to_c strict q) h, not_broken (ask_g_to_c strict q (source_of x)) (plain_only strict q (source_of x)))
       asked_step)
       (λ h. rw (checked_broken x (ask_joined strict q s room) h, checked_broken x (ask_g_to_c strict q) h))
 
-  pub goes : number ≡ 0 → (both_bases s ≡ true) × (have_room room parts ≡ true) × Answered plain × (joined x strict q s room ≡ through (beside parts) plain)
+  pub goes : fault ≡ no_fault → (both_bases s ≡ true) × (have_room room parts ≡ true) × Answered plain × (joined x strict q s room ≡ through (beside parts) plain)
   goes e =
-      let (b, r, a, d) = goes_of (in_mode strict g_to_c_refusals) (zero_not strict) plain (both_bases s) (have_room room parts) parts (g_to_c_refuses x strict q) e in
+      let (b, r, a, d) = goes_of plain (both_bases s) (have_room room parts) parts e in
       (b, r, a, decided ∙ d)
 
-  pub stops : (number ≡ 0 → ⊥) → joined x strict q s room ≡ refused number
-  stops n = decided ∙ stops_of plain (both_bases s) (have_room room parts) parts n
+  pub stops : {n : Refusal} → fault ≡ Err n → joined x strict q s room ≡ Err n
+  stops e = decided ∙ stops_of plain (both_bases s) (have_room room parts) parts e
 
 -- ---- what is then laid out, and what the buffers hold
 
 pub laid_goes : (t : Trimmed) (plain : Answer CPosition) → Answered plain → laid_with plain t.gone (length t.left.reference) (length t.left.alternative) ≡ joined_laid (through (beside t) plain)
-laid_goes t (answered i) u = refl
-laid_goes t (refused k) u = absurd u
+laid_goes t (Ok i) u = refl
+laid_goes t (Err k) u = absurd u
 
 pub reference_goes : (buffer : List ℕ) (t : Trimmed) (plain : Answer CPosition) → Answered plain → t.left.reference ++ drop (length t.left.reference) buffer ≡ reference_after buffer (through (beside t) plain)
-reference_goes buffer t (answered i) u = refl
-reference_goes buffer t (refused k) u = absurd u
+reference_goes buffer t (Ok i) u = refl
+reference_goes buffer t (Err k) u = absurd u
 
 pub alternative_goes : (buffer : List ℕ) (t : Trimmed) (plain : Answer CPosition) → Answered plain → t.left.alternative ++ drop (length t.left.alternative) buffer ≡ alternative_after buffer (through (beside t) plain)
-alternative_goes buffer t (answered i) u = refl
-alternative_goes buffer t (refused k) u = absurd u
+alternative_goes buffer t (Ok i) u = refl
+alternative_goes buffer t (Err k) u = absurd u

@@ -1,8 +1,8 @@
 -- Worked examples of the join, computed: 10M, a gap of 5 and 8M with the first start 10 and the CDS 3..15, on either strand. Assumes nothing.
-use Rattle.std.specs.Prelude.{ℕ, true, List, [], ◌∷◌, map, ◌≡◌, refl, ℤ, pos, negsuc}
+use Rattle.std.specs.Prelude.{ℕ, true, Some, None, List, [], ◌∷◌, map, ◌≡◌, refl, ℤ, pos, negsuc}
 use Prim.Native.Char.{Char, code}
-use Rattle.refusals.specs.Numbers.{no_genome, missing_end, no_room, not_together, no_base, outside}
-use Rattle.refusals.specs.Outcome.{refused, through}
+use Rattle.refusals.specs.declared.Refusal.TheVariants.{NoGenome, MissingEnd, NoRoom, NotTogether, NoBase, Outside}
+use Rattle.refusals.specs.Outcome.{Err, through}
 use Rattle.whole.specs.Fits.{fits, fit_of}
 use Rattle.numbering.specs.Numbers.{n_of_place, c_of_n, skip_zero}
 use Rattle.cigar.specs.Elements.{letter_m, letter_n, is_letter, kind_of, genome, transcript, total}
@@ -11,7 +11,7 @@ use Rattle.finding.specs.Finding.{first_below, index_of}
 use Rattle.segments.specs.Places.{nearer, spot_in, map_by_tables, map_place}
 use Rattle.segments.specs.Exons.{goes_on, numbers_hold, numbers_from, exon_found}
 use Rattle.holding.specs.Holding.{Lent, lent, cds_holds, records_hold, length_holds, holds, source_of, checked}
-use Rattle.positions.specs.Positions.{Interval, GAsked, at, missing, CPosition}
+use Rattle.positions.specs.Positions.{Interval, GAsked, CPosition}
 use Rattle.positions.specs.Answers.{certainly}
 use Rattle.coding.specs.Coding.{beyond, c_position, c_of_interval, map_n_to_c}
 use Rattle.spots.specs.Mapping.{inside, turned, n_of_spot, whole_n, map_g_to_n}
@@ -49,13 +49,13 @@ uracil = alleles (bytes ("C" ∷ "A" ∷ "C" ∷ [])) (bytes ("U" ∷ []))
 
 -- g.11_13, g.10, which is outside, and an interval without its end
 abbrev three : Interval GAsked
-three = record { from = at (pos 11); to = at (pos 13) }
+three = record { from = Some (pos 11); to = Some (pos 13) }
 
 abbrev before : Interval GAsked
-before = record { from = at (pos 10); to = at (pos 10) }
+before = record { from = Some (pos 10); to = Some (pos 10) }
 
 abbrev no_end : Interval GAsked
-no_end = record { from = at (pos 11); to = missing }
+no_end = record { from = Some (pos 11); to = None }
 
 -- one byte of each goes at the front, and this is left of the reference and nothing of the alternative
 abbrev leaving : List ℕ → Trimmed
@@ -99,6 +99,6 @@ pub worked_order :
     ∷ joined backward true no_end cac (rooms 2 0)
     ∷ joined backward true before cac (rooms 2 0)
     ∷ []
-    ≡ map refused (not_together ∷ no_base ∷ no_base ∷ no_base ∷ no_room ∷ no_room ∷ no_genome ∷ missing_end ∷ outside ∷ [])
+    ≡ map Err (NotTogether ∷ NoBase ∷ NoBase ∷ NoBase ∷ NoRoom ∷ NoRoom ∷ NoGenome ∷ MissingEnd ∷ Outside ∷ [])
 unfolding computing
 worked_order = refl

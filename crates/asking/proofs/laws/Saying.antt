@@ -7,8 +7,9 @@ use Rattle.std.proofs.Math.Path.{refl}
 use Rattle.std.specs.Int.{w32}
 use Rattle.std.proofs.Common.{SFits}
 use borrow.Author.Tests.{eqb-true, eqb-false, eq-eqb, leb-true, ltb-true, lt-ltb}
-use Rattle.refusals.specs.Numbers.{most_records}
-use Rattle.refusals.specs.Outcome.{answered, refused}
+use Rattle.refusals.specs.declared.Refusal.{Refusal}
+use Rattle.refusals.specs.Numbers.{most_records, number}
+use Rattle.refusals.specs.Outcome.{Ok, Err}
 use Rattle.refusals.specs.Refusing.{one_of, Only}
 use Rattle.whole.specs.Fits.{fit_of, fits}
 use Rattle.whole.specs.laws.Whole.{by_test, both, both_of}
@@ -27,7 +28,7 @@ use Rattle.layout.specs.declared.lay.Position.{Position}
 use Rattle.layout.specs.declared.lay.Answer.{Answer}
 use Rattle.taking.specs.declared.question.Question.{Question}
 use Rattle.entries.specs.Entries.{QuestionFits, PositionFits, AnswerFits, EntryFits}
-use Rattle.canonical.specs.Canonical.{end_holdable, holdable, refusals_of, refused_tag, tag_of_kind, exon_of_kind, end_sayable, is_nowhere, sayable, canonical}
+use Rattle.canonical.specs.Canonical.{end_holdable, holdable, refusals_of, is_number_of, refused_tag, tag_of_kind, exon_of_kind, end_sayable, is_nowhere, sayable, canonical}
 use Rattle.asking.specs.Asking.{named, asked, recorded}
 
 -- ---- one table of refusals
@@ -135,33 +136,38 @@ tag_told (certain exons) = (refl, omega arith)
 tag_told (uncertain exons) = (refl, omega arith)
 tag_told unmarked = (refl, omega arith)
 
--- refusals are bytes
-abbrev are_bytes : List ℕ → Bool
+-- the numbers of refusals are bytes
+abbrev are_bytes : List Refusal → Bool
 are_bytes [] = true
-are_bytes (k ∷ ks) = ltb k 256 && are_bytes ks
+are_bytes (k ∷ ks) = ltb (number k) 256 && are_bytes ks
 
-listed_byte : (k : ℕ) (ks : List ℕ) → are_bytes ks ≡ true → one_of k ks ≡ true → k < 256
+listed_byte : (k : Refusal) (ks : List Refusal) → are_bytes ks ≡ true → one_of k ks ≡ true → number k < 256
 listed_byte k [] all h = absurd (false≢true h)
 listed_byte k (x ∷ xs) all h =
-    let (first, rest) = both (ltb x 256) (are_bytes xs) all in
-    by_test (eqb k x)
-    (λ e. rw (eqb-true k x e) (ltb-true x 256 first))
+    let (first, rest) = both (ltb (number x) 256) (are_bytes xs) all in
+    by_test (eqb (number k) (number x))
+    (λ e. rw (eqb-true (number k) (number x) e) (ltb-true (number x) 256 first))
     (λ e. listed_byte k xs rest (rw e at h))
 
+-- a refusal that is one of ks has the number of one
+listed_number : (k : Refusal) (ks : List Refusal) → is_number_of (number k) ks ≡ one_of k ks
+listed_number k [] = refl
+listed_number k (x ∷ xs) = rw (listed_number k xs) refl
+
 said : {P : Type 0} (kind : ℕ) (place : ℕ → P → Position) (o : paper.Answer P) → are_bytes (refusals_of kind) ≡ true → Only (refusals_of kind) o
-    → ((a : Marked P) → o ≡ answered a → OfKind kind place a) → Sayable kind (laid place o)
+    → ((a : Marked P) → o ≡ Ok a → OfKind kind place a) → Sayable kind (laid place o)
 unfolding sayable is_nowhere
-said kind place (answered a) bytes only told =
+said kind place (Ok a) bytes only told =
     let k = told a refl in
     let (tag, small) = tag_told a.mark in
     record {
       may = rw (tag, k.tag, k.from.may, k.to.may);
       fits = record { number_fits = omega arith; mark_fits = small; start_fits = k.from.fits; end_fits = k.to.fits };
     }
-said kind place (refused k) bytes only told =
+said kind place (Err k) bytes only told =
     let nowhere_fits : PositionFits nowhere = record { base_fits = zero_fits; offset_fits = zero_fits; star_fits = omega arith; exon_fits = omega arith } in
     record {
-      may = rw only.only;
+      may = rw (listed_number k (refusals_of kind), only.only);
       fits = record { number_fits = listed_byte k (refusals_of kind) bytes only.only; mark_fits = omega arith; start_fits = nowhere_fits; end_fits = nowhere_fits };
     }
 
@@ -194,7 +200,7 @@ module _ (x : Lent) (strict : Bool) where
 
 -- ---- the mapping that a question names
 
-known_kind : (q : Question) → holdable q ≡ true → leb q.kind map_c_to_g ≡ true
+pub known_kind : (q : Question) → holdable q ≡ true → leb q.kind map_c_to_g ≡ true
 unfolding holdable
 known_kind q h =
     let start = end_holdable q.kind q.start_marks q.start q.start_offset in

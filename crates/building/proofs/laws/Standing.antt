@@ -9,7 +9,8 @@ use mathlib.Core.List.{List, [], ◌∷◌}
 use Rattle.std.proofs.Common.{inl, inr}
 use Rattle.std.proofs.Math.Path.{refl, ap}
 use Rattle.refusals.specs.Numbers.{most_segments, most_bases}
-use Rattle.refusals.specs.Outcome.{Outcome, answered, refused}
+use Rattle.refusals.specs.declared.Refusal.{Refusal}
+use Rattle.refusals.specs.Outcome.{Outcome, Ok, Err}
 use Rattle.cigar.specs.Elements.{Element, genome, transcript, total}
 use Rattle.segments.specs.Tables.{Tables, padded, tables_of}
 use Rattle.segments.specs.Exons.{read_numbers}
@@ -28,7 +29,6 @@ use Rattle.building.specs.Afterwards.{head_of, length_head, built_answer}
 use Rattle.judging.specs.laws.Accepted.{CdsInside, Sane}
 use Rattle.transcript.specs.laws.Heads.{plus_is}
 use Rattle.transcript.specs.declared.Head.{Head}
-use Rattle.transcript.specs.declared.Built.TheVariants as answer
 
 -- a head beside the tables and the exon numbers that are lent with it
 abbrev pub beside : Head → Tables → List ℕ → Lent
@@ -116,14 +116,14 @@ module _ (m : Measured) (a : Tables) (e : List ℕ) where
 -- a judgment that is answered by a head
 pub record Makes (j : Outcome Made) (h : Head) : Type 0 where
   pub made : Made
-  pub judged : j ≡ answered made
+  pub judged : j ≡ Ok made
   pub head_is : h ≡ head_of made
 
-pub makes : (j : Outcome Made) (h : Head) → built_answer j ≡ answer.Transcript h → Makes j h
-makes (refused k) h e = let z : ◌≡◌ {A = ℕ} 0 1 = cc in absurd (omega arith)
-makes (answered m) h e = record { made = m; judged = refl; head_is = cc }
+pub makes : (j : Outcome Made) (h : Head) → built_answer j ≡ Ok h → Makes j h
+makes (Err k) h e = let z : ◌≡◌ {A = ℕ} 0 1 = cc in absurd (omega arith)
+makes (Ok m) h e = record { made = m; judged = refl; head_is = cc }
 
 -- one that is answered by a refusal
-pub refuses : (j : Outcome Made) (k : ℕ) → built_answer j ≡ answer.Refused k → j ≡ refused k
-refuses (refused l) k e = let is : l ≡ k = cc in ap refused is
-refuses (answered m) k e = let z : ◌≡◌ {A = ℕ} 0 1 = cc in absurd (omega arith)
+pub refuses : (j : Outcome Made) (k : Refusal) → built_answer j ≡ Err k → j ≡ Err k
+refuses (Err l) k e = let is : l ≡ k = cc in ap Err is
+refuses (Ok m) k e = let z : ◌≡◌ {A = ℕ} 0 1 = cc in absurd (omega arith)

@@ -1,50 +1,38 @@
--- `card::are_plain` meets its contract: the two tests are those of `are_plain`, on numbers that were widened.
+-- `card::are_plain` meets its contract: the two tests are those of `are_plain`; `==` compares the bits.
 -- Assumes nothing.
-use mathlib.Core.Path.{◌≡◌, sym, ap, ap₂, ◌∙◌}
-use mathlib.Core.Bool.{Bool}
+use mathlib.Core.Path.{◌≡◌, refl, sym, ap, ◌∙◌}
+use lib.Dec.{eqb}
 use lib.IntN.{ℤ}
-use mir.Syntax.{w32, w64}
-use mir.Val.{SFits, to_z, of_z}
+use mir.Syntax.{w32}
+use mir.Val.{of_z}
+use borrow.Author.Tests.{eq-eqb, ne_eqb}
 use Rattle.whole.specs.Whole.{eq_z}
-use Rattle.whole.specs.laws.Whole.{whole, read, widened}
+use Rattle.whole.specs.laws.Whole.{read}
+use Rattle.whole.specs.laws.Machine.{bits_32}
 use Rattle.transcript.specs.Heads.{start_of, end_of, number_of}
 use Rattle.card.specs.Card.{are_plain}
 use Rattle.card.proofs.are_plain.Goals as goal
-use Rattle.card.proofs.are_plain.Goals.{After-is_same, After-is_same-then-is_same}
+use Rattle.card.proofs.are_plain.Goals.{After-number_of-to}
 
-pub overflow_cast-from : goal.overflow_cast-from
-overflow_cast-from c = search whole
+module _ (c : After-number_of-to) where
+  starts : eq_z (number_of (start_of c.args.cds c.args.start)) c.args.start ≡ eqb (of_z w32 c.number_of-from.result) (of_z w32 c.args.start)
+  starts =
+      let is = c.number_of-from.ensures ∙ ap number_of (c.start_of.ensures ∙ ap (start_of c.args.cds) (read c.ranges.start)) in
+      ap (λ (z : ℤ). eq_z z c.args.start) (sym is) ∙ sym (bits_32 (record { sfits = c.number_of-from.type_inv }) c.ranges.start)
 
-pub overflow_cast-start : goal.overflow_cast-start
-overflow_cast-start c = search whole
+  ends : eq_z (number_of (end_of c.args.cds c.args.end)) c.args.end ≡ eqb (of_z w32 c.number_of-to.result) (of_z w32 c.args.end)
+  ends =
+      let is = c.number_of-to.ensures ∙ ap number_of (c.end_of.ensures ∙ ap (end_of c.args.cds) (read c.ranges.end)) in
+      ap (λ (z : ℤ). eq_z z c.args.end) (sym is) ∙ sym (bits_32 (record { sfits = c.number_of-to.type_inv }) c.ranges.end)
 
-pub overflow_cast-to : goal.overflow_cast-to
-overflow_cast-to c = search whole
-
-pub overflow_cast-end : goal.overflow_cast-end
-overflow_cast-end c = search whole
-
--- a test of two numbers that were widened
-narrow_test : {t : Bool} {n m z : ℤ} → SFits w32 n → SFits w32 z → t ≡ eq_z (to_z w64 (of_z w64 (to_z w32 (of_z w32 n)))) (to_z w64 (of_z w64 (to_z w32 (of_z w32 z)))) → n ≡ m
-    → eq_z m z ≡ t
-narrow_test f g e q = sym (e ∙ ap₂ eq_z (widened f ∙ q) (widened g))
-
-module _ (c : After-is_same) where
-  start_same : eq_z (number_of (start_of c.args.cds c.args.start)) c.args.start ≡ c.is_same.result
-  start_same =
-      narrow_test (record { sfits = c.number_of-from.type_inv }) c.ranges.start c.is_same.ensures
-      (c.number_of-from.ensures ∙ ap number_of (c.start_of.ensures ∙ ap (start_of c.args.cds) (read c.ranges.start)))
-
-module _ (c : After-is_same-then-is_same) where
-  end_same : eq_z (number_of (end_of c.args.cds c.args.end)) c.args.end ≡ c.is_same-then-is_same.result
-  end_same =
-      narrow_test (record { sfits = c.number_of-to.type_inv }) c.ranges.end c.is_same-then-is_same.ensures
-      (c.number_of-to.ensures ∙ ap number_of (c.end_of.ensures ∙ ap (end_of c.args.cds) (read c.ranges.end)))
-
-pub returns-then-is_same : goal.returns-then-is_same
+pub returns-then-from-start : goal.returns-then-from-start
 unfolding are_plain
-returns-then-is_same c = rw (start_same (goal.at.returns-then-is_same c).After-is_same, c.if-is_same.true, end_same c)
+returns-then-from-start c =
+    let k = (goal.at.returns-then-from-start c).After-number_of-to in
+    rw (starts k, ends k, eq-eqb _ _ c.if-from-start.true) refl
 
-pub returns : goal.returns
+pub returns-else-from-start : goal.returns-else-from-start
 unfolding are_plain
-returns c = rw (start_same (goal.at.returns c).After-is_same, c.if-is_same.false)
+returns-else-from-start c =
+    let k = (goal.at.returns-else-from-start c).After-number_of-to in
+    rw (starts k, ends k, ne_eqb _ _ c.if-from-start.false) refl

@@ -1,21 +1,23 @@
--- `card::is_marked` meets its contract: the tests that led to each `return` are those of `is_marked`.
+-- `card::is_marked` meets its contract: `starts_with` compares the three bytes of the mark.
 -- Assumes nothing.
-use borrow.Author.Tests.{le-leb, lt-leb, eq-eqb, ne_eqb}
+use Rattle.std.proofs.Common.{◌≡◌, refl, List, [], ◌∷◌, ℕ, ◌≤◌, length, eqb, arith, ◌∙◌}
+use Rattle.std.proofs.lemmas.Bool.Decides.{nat_tests}
+use Rattle.std.specs.List.{starts_with}
+use borrow.Author.Tests.{le-leb, lt-leb}
+use Rattle.card.specs.Layout.{mark}
 use Rattle.card.specs.Card.{is_marked}
 use Rattle.card.proofs.is_marked.Goals as goal
 
-pub returns-then-card-lt-STRAND_AT : goal.returns-then-card-lt-STRAND_AT
+begins : (s : List ℕ) → 5 ≤ length s → starts_with eqb s mark ≡ is_marked s
 unfolding is_marked
-returns-then-card-lt-STRAND_AT c = rw (lt-leb _ _ c.if-card-lt-STRAND_AT.true)
+begins [] h = absurd (omega arith)
+begins (a ∷ []) h = absurd (omega arith)
+begins (a ∷ b ∷ []) h = absurd (omega arith)
+begins (a ∷ b ∷ c ∷ s) h = rw (le-leb 5 (length (a ∷ b ∷ c ∷ s)) h) (grind (arith, nat_tests))
 
-pub returns-then-card-eq88 : goal.returns-then-card-eq88
-unfolding is_marked
-returns-then-card-eq88 c = rw (le-leb _ _ c.if-card-lt-STRAND_AT.false, eq-eqb _ _ c.if-card-eq84.true, eq-eqb _ _ c.if-card-eq88.true)
+pub returns-then-card-ge-STRAND_AT : goal.returns-then-card-ge-STRAND_AT
+returns-then-card-ge-STRAND_AT c = c.starts_with.ensures.value ∙ begins c.args.card.now c.if-card-ge-STRAND_AT.true
 
-pub returns-then-card-eq84 : goal.returns-then-card-eq84
+pub returns-else-card-ge-STRAND_AT : goal.returns-else-card-ge-STRAND_AT
 unfolding is_marked
-returns-then-card-eq84 c = rw (le-leb _ _ c.if-card-lt-STRAND_AT.false, eq-eqb _ _ c.if-card-eq84.true, ne_eqb _ _ c.if-card-eq88.false)
-
-pub returns : goal.returns
-unfolding is_marked
-returns c = rw (le-leb _ _ c.if-card-lt-STRAND_AT.false, ne_eqb _ _ c.if-card-eq84.false)
+returns-else-card-ge-STRAND_AT c = rw (lt-leb 5 (length c.args.card.now) c.if-card-ge-STRAND_AT.false) refl

@@ -5,5 +5,5 @@ use Rattle.card.proofs.strand_of.Goals as goal
 pub returns-then-b-eq0 : goal.returns-then-b-eq0
 returns-then-b-eq0 c = rw (eq-eqb _ _ c.if-b-eq0.true)
 
-pub returns : goal.returns
-returns c = rw (ne_eqb _ _ c.if-b-eq0.false)
+pub returns-else-b-eq0 : goal.returns-else-b-eq0
+returns-else-b-eq0 c = rw (ne_eqb _ _ c.if-b-eq0.false)

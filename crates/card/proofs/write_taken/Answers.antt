@@ -1,4 +1,6 @@
 -- The card's size is known first, so that a refusal stores nothing; then the header is stored, and the records behind it. Assumes nothing.
+use Rattle.std.specs.Prelude.{Option}
+use Rattle.refusals.specs.Outcome.{Ok}
 use mathlib.Core.Path.{◌≡◌, refl, sym, ap, ◌∙◌}
 use mathlib.Core.List.{List}
 use Prim.Native.Nat.{ℕ, ◌+◌, ◌≤◌, ◌<◌}
@@ -13,9 +15,7 @@ use Rattle.whole.specs.laws.Whole.{told}
 use Rattle.fields.specs.laws.RoundTrips.{Bytes}
 use Rattle.cigar.specs.laws.Lent.{sets_front}
 use Rattle.cigar.specs.laws.Stores.{sets_append}
-use Rattle.spelling.specs.declared.Written.TheVariants as answer
 use Rattle.transcript.specs.Heads.{start_of, end_of}
-use Rattle.transcript.specs.declared.Bound.{Bound}
 use Rattle.transcript.specs.declared.Numbers.{Numbers}
 use Rattle.judging.specs.Input.{input_of}
 use Rattle.card.specs.Layout.{records_at}
@@ -52,7 +52,7 @@ returns-then-buffer-size c =
     let long : length (entry e).args.buffer.now < length (text e) = omega (arith, size_is e) in
     rw (le-ltb _ _ small, lt-ltb _ _ long) record { value = refl; buffer_after = refl }
 
-same_header : (n : ℕ) {z w : ℤ} {a b x y : Bound} → z ≡ w → a ≡ b → x ≡ y → header_text z a x n ≡ header_text w b y n
+same_header : (n : ℕ) {z w : ℤ} {a b x y : Option ℤ} → z ≡ w → a ≡ b → x ≡ y → header_text z a x n ≡ header_text w b y n
 same_header n e f g = rw (e, f, g)
 
 -- what is stored in the end
@@ -98,4 +98,4 @@ returns c =
     let small : length (text e) ≤ most_card = omega (arith, size_is e) in
     let room : length (text e) ≤ length (entry e).args.buffer.now = omega (arith, size_is e) in
     rw (le-ltb _ _ small, le-ltb _ _ room)
-    record { value = ap answer.Text (sym (size_is e)); buffer_after = stored c.before ∙ sets_front (text e) (entry e).args.buffer.now room }
+    record { value = ap Ok (sym (size_is e)); buffer_after = stored c.before ∙ sets_front (text e) (entry e).args.buffer.now room }

@@ -6,7 +6,7 @@
 -- Assumes nothing.
 use Rattle.std.proofs.Math.Path.{◌≡◌, refl, ap, ap₂}
 use Rattle.std.proofs.Common.{sym, ◌∙◌, ⊎_elim, drop-cons, SFits}
-use Rattle.std.specs.Prelude.{true, ◌⊎◌, ℕ, ◌+◌, ◌%◌, ◌<◌, ◌≤◌, eqb, leb, ltb, ℤ, pos, negsuc, length, get_or, take, drop}
+use Rattle.std.specs.Prelude.{true, ◌⊎◌, ℕ, ◌+◌, ◌%◌, ◌<◌, ◌≤◌, eqb, leb, ltb, ℤ, pos, negsuc, length, get_or, take, drop, Some, None, Option}
 use mathlib.Core.List.{List, [], ◌∷◌, ◌++◌}
 use Prim.Native.Char.{code}
 use native.Mathlib.Omega.{arith}
@@ -14,7 +14,8 @@ use borrow.Author.Tests.{eq-eqb, eqb-true, eqb-false, le-leb, leb-true, leb-fals
 use Rattle.std.proofs.Math.ListN.{take-append-drop}
 use Rattle.std.specs.Int.{w32}
 use Rattle.refusals.specs.Numbers.{most_card}
-use Rattle.refusals.specs.Outcome.{answered}
+use Rattle.refusals.specs.declared.Refusal.{Refusal}
+use Rattle.refusals.specs.Outcome.{Ok, Err, Outcome}
 use Rattle.whole.specs.Whole.{eq_z}
 use Rattle.whole.specs.laws.Whole.{by_test, eq_means, eq_yes_by, both}
 use Rattle.fields.specs.Fields.{le16, le32, bytes16, bytes32, bits32}
@@ -23,14 +24,10 @@ use Rattle.records.specs.Records.{Record, field_at, exactly, records_from}
 use Rattle.records.specs.laws.Walk.{records_length}
 use Rattle.transcript.specs.Heads.{both_bits, start_of, end_of, strand_of, number_of}
 use Rattle.judging.specs.Input.{Input}
-use Rattle.transcript.specs.declared.Bound.{Bound}
-use Rattle.transcript.specs.declared.Bound.TheVariants.{Given, Absent}
 use Rattle.card.specs.Layout.{mark, version, version_at, strand_at, cds_at, start_at, end_at, count_at, records_at}
 use Rattle.card.specs.Card.{strand_byte, cds_byte, records_text, header_text, card_text, is_marked, numbers_in, are_plain, is_card, read_card, input_in, said, card_says}
 use Rattle.card.specs.laws.Records.{AllFit, from_laid, exactly_laid, laid_from}
 use Rattle.transcript.specs.declared.Numbers.{Numbers}
-use Rattle.card.specs.declared.ReadCard.{ReadCard}
-use Rattle.card.specs.declared.ReadCard.TheVariants as read
 
 pub record InputFits (i : Input) : Type 0 where
   pub strand_is : (i.strand ≡ pos 1) ⊎ (i.strand ≡ negsuc 0)
@@ -44,26 +41,26 @@ pub record InputFits (i : Input) : Type 0 where
 strand_back : {z : ℤ} → (z ≡ pos 1) ⊎ (z ≡ negsuc 0) → strand_of (eqb (strand_byte z) 0) ≡ z
 strand_back = ⊎_elim (λ e. rw e) (λ e. rw e)
 
-start_back : (start end : Bound) → start_of (cds_byte start end) (number_of start) ≡ start
-start_back (Given z) (Given w) = refl
-start_back (Given z) Absent = refl
-start_back Absent (Given w) = refl
-start_back Absent Absent = refl
+start_back : (start end : Option ℤ) → start_of (cds_byte start end) (number_of start) ≡ start
+start_back (Some z) (Some w) = refl
+start_back (Some z) None = refl
+start_back None (Some w) = refl
+start_back None None = refl
 
-end_back : (start end : Bound) → end_of (cds_byte start end) (number_of end) ≡ end
-end_back (Given z) (Given w) = refl
-end_back (Given z) Absent = refl
-end_back Absent (Given w) = refl
-end_back Absent Absent = refl
+end_back : (start end : Option ℤ) → end_of (cds_byte start end) (number_of end) ≡ end
+end_back (Some z) (Some w) = refl
+end_back (Some z) None = refl
+end_back None (Some w) = refl
+end_back None None = refl
 
 strand_small : (z : ℤ) → leb (strand_byte z) 1 ≡ true
 strand_small z = by_test (eq_z z (pos 1)) (λ t. rw t) (λ t. rw t)
 
-cds_small : (start end : Bound) → leb (cds_byte start end) both_bits ≡ true
-cds_small (Given z) (Given w) = refl
-cds_small (Given z) Absent = refl
-cds_small Absent (Given w) = refl
-cds_small Absent Absent = refl
+cds_small : (start end : Option ℤ) → leb (cds_byte start end) both_bits ≡ true
+cds_small (Some z) (Some w) = refl
+cds_small (Some z) None = refl
+cds_small None (Some w) = refl
+cds_small None None = refl
 
 same_yes : (z : ℤ) → eq_z z z ≡ true
 same_yes z = eq_yes_by z z refl
@@ -106,7 +103,7 @@ module _ (i : Input) (f : InputFits i) where
   unfolding numbers_in
   input_written = same_input (ap (λ (b : ℕ). strand_of (eqb b 0)) strand_written ∙ strand_back f.strand_is) start_is end_is records_are
     where
-      same_input : {z : ℤ} {a b : Bound} {rs : List Record} → z ≡ i.strand → a ≡ i.start → b ≡ i.end → rs ≡ i.records
+      same_input : {z : ℤ} {a b : Option ℤ} {rs : List Record} → z ≡ i.strand → a ≡ i.start → b ≡ i.end → rs ≡ i.records
           → ◌≡◌ {A = Input} (record { strand = z; start = a; end = b; records = rs }) i
       same_input ez ea eb er = rw (ez, ea, eb, er)
 
@@ -145,7 +142,7 @@ module _ (i : Input) (f : InputFits i) where
         exactly_written,
       )
 
-  read_written : length (card_text i) ≤ most_card → read_card (card_text i) ≡ read.Card (numbers_in (card_text i))
+  read_written : length (card_text i) ≤ most_card → read_card (card_text i) ≡ Ok (numbers_in (card_text i))
   unfolding read_card
   read_written h =
       rw (
@@ -155,8 +152,8 @@ module _ (i : Input) (f : InputFits i) where
         card_written,
       )
 
-  pub reads_back_lem : length (card_text i) ≤ most_card → card_says (card_text i) ≡ answered i
-  reads_back_lem h = ap (said (card_text i)) (read_written h) ∙ ap answered input_written
+  pub reads_back_lem : length (card_text i) ≤ most_card → card_says (card_text i) ≡ Ok i
+  reads_back_lem h = ap (said (card_text i)) (read_written h) ∙ ap Ok input_written
 
 pub one_card : (i j : Input) → InputFits i → InputFits j → card_text i ≡ card_text j → i ≡ j
 one_card i j f g e = sym (input_written i f) ∙ ap (λ (s : List ℕ). input_in s (numbers_in s)) e ∙ input_written j g
@@ -216,7 +213,7 @@ card_means s f m v e =
       exact = d.1;
     }
 
-pub read_means : (s : List ℕ) (m : Numbers) → read_card s ≡ read.Card m → IsCard s × (m ≡ numbers_in s)
+pub read_means : (s : List ℕ) (m : Numbers) → read_card s ≡ Ok m → IsCard s × (m ≡ numbers_in s)
 unfolding read_card
 read_means s m e =
     by_test (ltb most_card (length s))
@@ -229,10 +226,10 @@ read_means s m e =
     (λ v. absurd (clash (simp (t, u, v) at e))))
     (λ u. absurd (clash (simp (t, u) at e))))
   where
-    clash : {k : ℕ} → read.Refused k ≡ read.Card m → ⊥
+    clash : {k : Refusal} → ◌≡◌ {A = Outcome Numbers} (Err k) (Ok m) → ⊥
     clash q = let z : ◌≡◌ {A = ℕ} 0 1 = cc in omega arith
 
-    same : read.Card (numbers_in s) ≡ read.Card m → m ≡ numbers_in s
+    same : ◌≡◌ {A = Outcome Numbers} (Ok (numbers_in s)) (Ok m) → m ≡ numbers_in s
     same q = cc
 
 strand_kept : (b : ℕ) → b ≤ 1 → strand_byte (strand_of (eqb b 0)) ≡ b
@@ -262,7 +259,7 @@ module _ (s : List ℕ) (bs : Bytes s) (c : IsCard s) where
       (sym (two s (omega (arith, c.long))))
 
   -- a bound's number, which is 0 if it is not given
-  bound_kept : (at : ℕ) (b : Bound) → at + 4 ≤ records_at → number_of b ≡ field_at s at → bytes32 (bits32 (number_of b)) ≡ take 4 (drop at s)
+  bound_kept : (at : ℕ) (b : Option ℤ) → at + 4 ≤ records_at → number_of b ≡ field_at s at → bytes32 (bits32 (number_of b)) ≡ take 4 (drop at s)
   bound_kept at b h e = ap (λ (z : ℤ). bytes32 (bits32 z)) e ∙ field_laid s at bs (omega (arith, c.long))
 
   count_kept : bytes16 (length its.records) ≡ take 2 (drop count_at s)
@@ -289,15 +286,15 @@ module _ (s : List ℕ) (bs : Bytes s) (c : IsCard s) where
       ∙ take-append-drop records_at s
 
 -- what a card says is written as that card
-pub is_canonical : (s : List ℕ) (i : Input) → Bytes s → card_says s ≡ answered i → card_text i ≡ s
+pub is_canonical : (s : List ℕ) (i : Input) → Bytes s → card_says s ≡ Ok i → card_text i ≡ s
 is_canonical s i bs e = go (read_card s) refl e
   where
-    go : (r : ReadCard) → read_card s ≡ r → said s r ≡ answered i → card_text i ≡ s
-    go (read.Card m) h q =
+    go : (r : Outcome Numbers) → read_card s ≡ r → said s r ≡ Ok i → card_text i ≡ s
+    go (Ok m) h q =
         let k = read_means s m h in
         let j : i ≡ input_in s (numbers_in s) = sym (input_same q) ∙ ap (input_in s) k.1 in
         ap card_text j ∙ text_kept s bs k.0
       where
-        input_same : {a : Input} → answered a ≡ answered i → a ≡ i
+        input_same : {a : Input} → ◌≡◌ {A = Outcome Input} (Ok a) (Ok i) → a ≡ i
         input_same x = cc
-    go (read.Refused k) h q = absurd (let z : ◌≡◌ {A = ℕ} 0 1 = cc in omega arith)
+    go (Err k) h q = absurd (let z : ◌≡◌ {A = ℕ} 0 1 = cc in omega arith)

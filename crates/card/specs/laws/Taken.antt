@@ -10,7 +10,7 @@ use Rattle.std.specs.Prelude.{◌≡◌, refl, Bool, true, false, ◌⊎◌, Lis
 use Rattle.std.proofs.Common.{sym, ap, ◌∙◌, inl, inr, arith, ltb-false, le-ltb, length-append, SFits}
 use Rattle.std.specs.Int.{w32}
 use Rattle.refusals.specs.Numbers.{most_records, most_card}
-use Rattle.refusals.specs.Outcome.{Outcome, answered, refused}
+use Rattle.refusals.specs.Outcome.{Outcome, Ok, Err}
 use Rattle.refusals.specs.laws.Outcomes.{clash, same}
 use Rattle.whole.specs.laws.Whole.{by_test}
 use Rattle.spelling.specs.Write.{fitted}
@@ -25,8 +25,6 @@ use Rattle.card.specs.Layout.{records_at}
 use Rattle.card.specs.Card.{header_text, card_text, read_card, input_in, card_says}
 use Rattle.card.specs.Writing.{judge_read, judge_card, if_taken, card_writing}
 use Rattle.transcript.specs.declared.Numbers.{Numbers}
-use Rattle.card.specs.declared.ReadCard.{ReadCard}
-use Rattle.card.specs.declared.ReadCard.TheVariants as read
 use Rattle.card.specs.laws.Records.{from_fit, laid_from}
 use Rattle.card.specs.laws.RoundTrips.{InputFits, reads_back_lem, read_means, text_kept}
 
@@ -39,7 +37,7 @@ bound_fits true z f = f
 bound_fits false z f = record { sfits = omega arith }
 
 -- numbers and bytes as the code has them, which building takes
-module _ (n : Numbers) (s : List ℕ) {m : Made} (takes : judge n s ≡ answered m) where
+module _ (n : Numbers) (s : List ℕ) {m : Made} (takes : judge n s ≡ Ok m) where
   passed : Accepted n s m
   passed = accepted_means n s m takes
 
@@ -62,7 +60,7 @@ module _ (n : Numbers) (s : List ℕ) {m : Made} (takes : judge n s ≡ answered
   }
 
   -- what is written reads back as the same input
-  pub taken_back : SFits w32 n.start → SFits w32 n.end → Bytes s → length (card_text given_input) ≤ most_card → card_says (card_text given_input) ≡ answered given_input
+  pub taken_back : SFits w32 n.start → SFits w32 n.end → Bytes s → length (card_text given_input) ≤ most_card → card_says (card_text given_input) ≡ Ok given_input
   taken_back start_fits end_fits bs h = reads_back_lem given_input (taken_fits start_fits end_fits bs) h
 
 -- the card of records as they lie
@@ -77,25 +75,25 @@ text_length n s bs e =
     ap length (text_is n s bs e) ∙ length-append (header_text n.strand (start_of n.cds n.start) (end_of n.cds n.end) n.count) s
 
 -- what a card makes is as building's judgment says
-pub card_sane : (s : List ℕ) (m : Made) → judge_card s ≡ answered m → Sane m
+pub card_sane : (s : List ℕ) (m : Made) → judge_card s ≡ Ok m → Sane m
 card_sane s m e = go (read_card s) e
   where
-    go : (r : ReadCard) → judge_read s r ≡ answered m → Sane m
-    go (read.Card n) h = judged_sane n (drop records_at s) m h
-    go (read.Refused k) h = absurd (let z : ◌≡◌ {A = ℕ} 0 1 = cc in omega arith)
+    go : (r : Outcome Numbers) → judge_read s r ≡ Ok m → Sane m
+    go (Ok n) h = judged_sane n (drop records_at s) m h
+    go (Err k) h = absurd (let z : ◌≡◌ {A = ℕ} 0 1 = cc in omega arith)
 
 -- ---- the two ways together, as the code has them
 
 -- a text that is written is the card of what building takes, and fits
 record Fitting (text : List ℕ) (j : Outcome Made) (card : List ℕ) : Type 0 where
   made : Made
-  takes : j ≡ answered made
+  takes : j ≡ Ok made
   is : text ≡ card
   small : length card ≤ most_card
 
-fits_in : (j : Outcome Made) (room : ℕ) (card text : List ℕ) → if_taken j (fitted most_card room card) ≡ answered text → Fitting text j card
-fits_in (refused k) room card text e = absurd (let z : ◌≡◌ {A = ℕ} 0 1 = cc in omega arith)
-fits_in (answered m) room card text e =
+fits_in : (j : Outcome Made) (room : ℕ) (card text : List ℕ) → if_taken j (fitted most_card room card) ≡ Ok text → Fitting text j card
+fits_in (Err k) room card text e = absurd (let z : ◌≡◌ {A = ℕ} 0 1 = cc in omega arith)
+fits_in (Ok m) room card text e =
     by_test (ltb most_card (length card))
     (λ t. absurd (clash (simp t at e)))
     (λ t. by_test (ltb room (length card))
@@ -104,18 +102,18 @@ fits_in (answered m) room card text e =
 
 -- what `write_card` writes reads back as the input that was handed over
 pub written_back : (n : Numbers) (s : List ℕ) (room : ℕ) (text : List ℕ) → SFits w32 n.start → SFits w32 n.end → Bytes s
-    → card_writing n s room ≡ answered text → card_says text ≡ answered (input_of n s)
+    → card_writing n s room ≡ Ok text → card_says text ≡ Ok (input_of n s)
 unfolding card_writing
 written_back n s room text start_fits end_fits bs e =
     let f = fits_in (judge n s) room (card_text (input_of n s)) text e in
     ap card_says f.is ∙ taken_back n s f.takes start_fits end_fits bs f.small
 
 -- a card that reads and builds is what `write_card` writes of what it says
-pub read_rewritten : (s : List ℕ) (n : Numbers) (x : Made) (room : ℕ) → Bytes s → read_card s ≡ read.Card n → judge_card s ≡ answered x → length s ≤ room
-    → card_writing n (drop records_at s) room ≡ answered s
+pub read_rewritten : (s : List ℕ) (n : Numbers) (x : Made) (room : ℕ) → Bytes s → read_card s ≡ Ok n → judge_card s ≡ Ok x → length s ≤ room
+    → card_writing n (drop records_at s) room ≡ Ok s
 unfolding card_writing
 read_rewritten s n x room bs r j h =
     let k = read_means s n r in
     let text : card_text (input_in s n) ≡ s = ap (λ (y : Numbers). card_text (input_in s y)) k.1 ∙ text_kept s bs k.0 in
-    let taken : judge n (drop records_at s) ≡ answered x = sym (ap (judge_read s) r) ∙ j in
+    let taken : judge n (drop records_at s) ≡ Ok x = sym (ap (judge_read s) r) ∙ j in
     rw (taken, text, le-ltb most_card (length s) k.0.few, le-ltb room (length s) h)

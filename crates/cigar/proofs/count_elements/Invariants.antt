@@ -9,9 +9,9 @@ use Rattle.refusals.specs.Numbers.{most_segments}
 use Rattle.cigar.proofs.Counting.{counted_from}
 use Rattle.cigar.proofs.count_elements.Given as goal
 
-abbrev pub invariant-loop-next : goal.invariant-loop-next
-invariant-loop-next l =
+abbrev pub invariant-loop-step : goal.invariant-loop-step
+invariant-loop-step l =
     (l.n ≤ most_segments) × (l.at ≤ length l.text) × (counted_of (read_all most_segments l.text) ≡ counted_from l.n (read_all (most_segments - l.n) (drop l.at l.text)))
 
-abbrev pub decreases-loop-next : goal.decreases-loop-next
-decreases-loop-next l = length l.text - l.at
+abbrev pub decreases-loop-step : goal.decreases-loop-step
+decreases-loop-step l = length l.text - l.at

@@ -5,11 +5,11 @@ use borrow.Author.Tests.{le-ltb, lt-ltb}
 use Rattle.refusals.specs.Numbers.{most_count}
 use Rattle.cigar.proofs.finish.Goals as goal
 
-pub returns-then-n-lt-OVER : goal.returns-then-n-lt-OVER
-returns-then-n-lt-OVER c = simp (c.if-given.true, le-ltb most_count c.args.n (omega arith))
+pub returns-then-not-given : goal.returns-then-not-given
+returns-then-not-given c = simp c.if-not-given.true
 
-pub returns-then-given : goal.returns-then-given
-returns-then-given c = simp (c.if-given.true, lt-ltb most_count c.args.n (omega arith))
+pub returns-then-n-lt-OVER : goal.returns-then-n-lt-OVER
+returns-then-n-lt-OVER c = simp (c.if-not-given.false, le-ltb most_count c.args.n (omega arith))
 
 pub returns : goal.returns
-returns c = simp c.if-given.false
+returns c = simp (c.if-not-given.false, lt-ltb most_count c.args.n (omega arith))

@@ -1,15 +1,11 @@
 -- `cigar::step_at` meets its contract. The loop's invariant: what is to be found is what `element_from` finds from here, at the digits so far. The count stands for the true one,
--- or for any above the largest (`capped`). The measure is what is left of the text.
+-- or for any above the largest (`capped`).
 -- Assumes nothing.
 use mathlib.Core.Path.{◌≡◌}
-use Prim.Native.Nat.{◌-◌, ◌≤◌}
-use lib.ListN.{length, drop}
+use Prim.Native.Nat.{◌≤◌}
+use lib.ListN.{drop}
 use Rattle.cigar.specs.Text.{element_from, step_at}
 use Rattle.cigar.proofs.step_at.Given as goal
 
 abbrev pub invariant-loop-i : goal.invariant-loop-i
-invariant-loop-i l =
-    (l.i ≤ length l.text) × (l.n ≤ 2147483648) × (step_at l.text l.at ≡ element_from l.given l.n l.i (drop l.i l.text))
-
-abbrev pub decreases-loop-i : goal.decreases-loop-i
-decreases-loop-i l = length l.text - l.i
+invariant-loop-i l = (l.n ≤ 2147483648) × (step_at l.text l.at ≡ element_from l.given l.n l.i (drop l.i l.text))

@@ -2,16 +2,15 @@
 --     read_sound, read_room    of a text that is read
 --     step_sound               of the element that a step finds
 -- Assumes nothing.
-use Rattle.std.specs.Prelude.{◌≡◌, Bool, true, false, List, [], ◌∷◌, ℕ, ◌+◌, ◌-◌, ◌*◌, ◌≤◌, ltb, eqb, length, drop}
+use Rattle.std.specs.Prelude.{◌≡◌, Bool, true, false, List, [], ◌∷◌, ℕ, ◌+◌, ◌-◌, ◌*◌, ◌≤◌, ltb, eqb, length, drop, Some, None}
 use Rattle.std.proofs.Common.{subst, arith, ltb-false}
 use Rattle.std.proofs.lemmas.Bool.{eqb-false}
 use Rattle.whole.specs.laws.Whole.{by_test}
 use Rattle.refusals.specs.Numbers.{most_count}
-use Rattle.refusals.specs.Outcome.{answered, refused}
+use Rattle.refusals.specs.Outcome.{Ok, Err}
 use Rattle.cigar.specs.declared.Step.{Step}
-use Rattle.cigar.specs.declared.Step.TheVariants as step
 use Rattle.cigar.specs.Elements.{Element, is_letter}
-use Rattle.cigar.specs.Text.{is_digit, count_of, element_from, step_of, step_at, Reading, before, element, taken, read_from, read_all}
+use Rattle.cigar.specs.Text.{Finding, is_digit, count_of, element_from, step_of, step_at, Reading, before, element, taken, read_from, read_all}
 
 pub record Sound (x : Element) : Type 0 where
   pub small : x.count ≤ most_count
@@ -23,12 +22,12 @@ AllSound (x ∷ xs) = Sound x × AllSound xs
 
 -- sound elements, for which there was room
 abbrev Good : ℕ → Reading → Type 0
-Good room (answered es) = AllSound es × (length es ≤ room)
-Good room (refused k) = Unit
+Good room (Ok es) = AllSound es × (length es ≤ room)
+Good room (Err k) = Unit
 
 good_before : (room : ℕ) (x : Element) (r : Reading) → Sound x → (room ≡ 0 → ⊥) → Good (room - 1) r → Good room (before x r)
-good_before room x (answered es) s h g = ((s, g.0), omega arith)
-good_before room x (refused k) s h g = tt
+good_before room x (Ok es) s h g = ((s, g.0), omega arith)
+good_before room x (Err k) s h g = tt
 
 good_taken : (room n letter : ℕ) (r : Reading) → is_letter letter ≡ true → Good (room - 1) r → Good room (taken room (element n letter) r)
 good_taken room n letter r l g =
@@ -47,7 +46,7 @@ good_read (b ∷ s) room given n =
     by_test (is_letter b) (λ l. rw (d, l) (good_taken room (count_of given n) b (read_from (room - 1) false 0 s) l (good_read s (room - 1) false 0)))
     (λ l. rw (d, l) tt))
 
-module _ (room : ℕ) (text : List ℕ) {es : List Element} (e : read_all room text ≡ answered es) where
+module _ (room : ℕ) (text : List ℕ) {es : List Element} (e : read_all room text ≡ Ok es) where
   good : AllSound es × (length es ≤ room)
   good = subst (Good room) e (good_read text room false 0)
 
@@ -58,10 +57,10 @@ module _ (room : ℕ) (text : List ℕ) {es : List Element} (e : read_all room t
   read_room = good.1
 
 -- the element of a step is sound
-abbrev Fine : Step → Type 0
-Fine (step.Element n letter next) = Sound (element n letter)
-Fine (step.Refused k) = Unit
-Fine step.End = Unit
+abbrev Fine : Finding → Type 0
+Fine (Ok (Some s)) = Sound (element s.count s.letter)
+Fine (Err k) = Unit
+Fine (Ok None) = Unit
 
 fine_element : (s : List ℕ) (given : Bool) (n at : ℕ) → Fine (element_from given n at s)
 unfolding element_from
@@ -75,7 +74,7 @@ fine_element (b ∷ s) given n at =
     (λ e. rw (d, l, e) (record { small = ltb-false most_count (count_of given n) e; lettered = l })))
     (λ l. rw (d, l) tt))
 
-pub step_sound : (text : List ℕ) (at : ℕ) {n letter next : ℕ} → step_at text at ≡ step.Element n letter next → Sound (element n letter)
+pub step_sound : (text : List ℕ) (at : ℕ) {s : Step} → step_at text at ≡ Ok (Some s) → Sound (element s.count s.letter)
 unfolding step_of
 step_sound text at e = subst Fine e (go (drop at text))
   where

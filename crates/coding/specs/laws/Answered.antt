@@ -4,8 +4,8 @@ use Rattle.std.proofs.Math.Bool.{true, false}
 use Rattle.std.proofs.Math.Path.{sym, subst}
 use Rattle.std.proofs.Common.{ap}
 use Rattle.std.specs.Int.Signed.{le_z, lt_z}
-use Rattle.refusals.specs.Numbers.{n_outside}
-use Rattle.refusals.specs.Outcome.{answered, refused}
+use Rattle.refusals.specs.declared.Refusal.TheVariants.{NOutside}
+use Rattle.refusals.specs.Outcome.{Ok, Err}
 use Rattle.refusals.specs.laws.Outcomes.{clash, same}
 use Rattle.whole.specs.laws.Whole.{by_test, neither, order}
 use Rattle.numbering.specs.Numbers.{c_of_n, n_of_c}
@@ -23,7 +23,7 @@ pub record Crossed (strict : Bool) (len s e : ℕ) (a : CAsked) (n : NPosition) 
   pub fit : n_fits n ≡ true
 
 module _ (strict : Bool) (len : ℕ) where
-  position_crossed : (s e : ℕ) (a : CAsked) (n : NPosition) → n_position strict len s e a ≡ answered n → Crossed strict len s e a n
+  position_crossed : (s e : ℕ) (a : CAsked) (n : NPosition) → n_position strict len s e a ≡ Ok n → Crossed strict len s e a n
   unfolding n_position
   position_crossed s e a n h =
       let there : NPosition = record { base = n_of_c (pos s) (pos e) a.base; offset = a.offset } in
@@ -36,32 +36,32 @@ module _ (strict : Bool) (len : ℕ) where
       record { is = is; taken = subst (λ (x : NPosition). beyond strict len x.base ≡ false) is t; fit = subst (λ (x : NPosition). n_fits x ≡ true) is f })
       (λ f. absurd (clash (simp (t, f) at h))))
 
-  pub c_to_n_crossed : (s e : ℕ) (i : Interval CAsked) (n : Marked NPosition) → map_c_to_n strict len (cds s e) i ≡ answered n → Crossed strict len s e i.from n.interval.from × Crossed strict len s e i.to n.interval.to
+  pub c_to_n_crossed : (s e : ℕ) (i : Interval CAsked) (n : Marked NPosition) → map_c_to_n strict len (cds s e) i ≡ Ok n → Crossed strict len s e i.from n.interval.from × Crossed strict len s e i.to n.interval.to
   unfolding map_c_to_n
   c_to_n_crossed s e i n h =
       let (m, from, to) = ends_answered unmarked (n_position strict len s e i.from) (n_position strict len s e i.to) n h in
       (position_crossed s e i.from n.interval.from from, position_crossed s e i.to n.interval.to to)
 
-  pub c_to_n_fits : (c : Cds) (i : Interval CAsked) (n : Marked NPosition) → map_c_to_n strict len c i ≡ answered n → Fitted n_fits n.interval
+  pub c_to_n_fits : (c : Cds) (i : Interval CAsked) (n : Marked NPosition) → map_c_to_n strict len c i ≡ Ok n → Fitted n_fits n.interval
   unfolding map_c_to_n
   c_to_n_fits no_cds i n h = absurd (clash h)
   c_to_n_fits (cds s e) i n h = let (from, to) = c_to_n_crossed s e i n h in record { from = from.fit; to = to.fit }
 
-  pub n_to_c_fits : (c : Cds) (i : Interval NAsked) (a : Marked CPosition) → map_n_to_c strict len c i ≡ answered a → Fitted c_fits a.interval
+  pub n_to_c_fits : (c : Cds) (i : Interval NAsked) (a : Marked CPosition) → map_n_to_c strict len c i ≡ Ok a → Fitted c_fits a.interval
   unfolding map_n_to_c
   n_to_c_fits c i a h = fitting_fits c_fits (c_of_interval strict len c i) a h
 
-  pub c_to_n_plain : (c : Cds) (i : Interval CAsked) (n : Marked NPosition) → map_c_to_n strict len c i ≡ answered n → n.mark ≡ unmarked
+  pub c_to_n_plain : (c : Cds) (i : Interval CAsked) (n : Marked NPosition) → map_c_to_n strict len c i ≡ Ok n → n.mark ≡ unmarked
   unfolding map_c_to_n
   c_to_n_plain no_cds i n h = absurd (clash h)
   c_to_n_plain (cds s e) i n h = sym (ends_answered unmarked (n_position strict len s e i.from) (n_position strict len s e i.to) n h).0
 
-  pub n_to_c_plain : (c : Cds) (i : Interval NAsked) (a : Marked CPosition) → map_n_to_c strict len c i ≡ answered a → a.mark ≡ unmarked
+  pub n_to_c_plain : (c : Cds) (i : Interval NAsked) (a : Marked CPosition) → map_n_to_c strict len c i ≡ Ok a → a.mark ≡ unmarked
   unfolding map_n_to_c c_of_interval
   n_to_c_plain no_cds i a h = absurd (clash h)
   n_to_c_plain (cds s e) i a h = go (refuses15 strict len i) (fitting_is c_fits (c_of_interval strict len (cds s e) i) a h)
     where
-      go : (t : Bool) → (if t then refused n_outside else plainly (each (c_position s e) i)) ≡ answered a → a.mark ≡ unmarked
+      go : (t : Bool) → (if t then Err NOutside else plainly (each (c_position s e) i)) ≡ Ok a → a.mark ≡ unmarked
       go true k = absurd (clash k)
       go false k = sym (ap (λ (x : Marked CPosition). x.mark) (same k))
 
@@ -71,7 +71,7 @@ module _ (len s e : ℕ) where
   unfolding beyond
   not_zero n h = let (low, _) = neither (le_z n (pos 0)) (lt_z (pos len) n) h in never_zero (pos s) (pos e) n (omega order) (λ z. omega order)
 
-  pub strict_never_zero : (i : Interval NAsked) (a : Marked CPosition) → map_n_to_c true len (cds s e) i ≡ answered a → (a.interval.from.base.0 ≡ pos 0 → ⊥) × (a.interval.to.base.0 ≡ pos 0 → ⊥)
+  pub strict_never_zero : (i : Interval NAsked) (a : Marked CPosition) → map_n_to_c true len (cds s e) i ≡ Ok a → (a.interval.from.base.0 ≡ pos 0 → ⊥) × (a.interval.to.base.0 ≡ pos 0 → ⊥)
   unfolding map_n_to_c c_of_interval c_position
   strict_never_zero i a h =
       by_test (refuses15 true len i)
@@ -81,5 +81,5 @@ module _ (len s e : ℕ) where
       let is = same (rw t at there) in
       rw (← is) (not_zero i.from.base from, not_zero i.to.base to))
     where
-      there : c_of_interval true len (cds s e) i ≡ answered a
+      there : c_of_interval true len (cds s e) i ≡ Ok a
       there = fitting_is c_fits (c_of_interval true len (cds s e) i) a h

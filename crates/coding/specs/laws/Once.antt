@@ -2,7 +2,7 @@
 use Rattle.std.specs.Prelude.{ℕ, Bool, ◌≡◌, pos}
 use Rattle.std.proofs.Math.Path.{refl, sym}
 use Rattle.std.proofs.Common.{ap}
-use Rattle.refusals.specs.Outcome.{answered}
+use Rattle.refusals.specs.Outcome.{Ok}
 use Rattle.refusals.specs.laws.Outcomes.{clash}
 use Rattle.whole.specs.laws.Whole.{by_test}
 use Rattle.numbering.specs.Numbers.{n_of_c}
@@ -22,7 +22,7 @@ module _ (strict : Bool) (len s e : ℕ) where
   one_to_n a = refl
 
   -- what crosses over keeps its offset
-  pub offset_stays : (a : CAsked) (n : NPosition) → n_position strict len s e a ≡ answered n → n.offset ≡ a.offset
+  pub offset_stays : (a : CAsked) (n : NPosition) → n_position strict len s e a ≡ Ok n → n.offset ≡ a.offset
   unfolding n_position
   offset_stays a n =
       by_test (beyond strict len (n_of_c (pos s) (pos e) a.base))

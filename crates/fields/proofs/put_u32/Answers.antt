@@ -1,15 +1,14 @@
--- `fields::put_u32` meets its contract: its two halves are stored one behind the other.
--- Assumes nothing.
-use mathlib.Core.Path.{ap, ◌∙◌}
-use mathlib.Core.List.{List}
-use Prim.Native.Nat.{ℕ, ◌+◌, ◌/◌}
-use lib.Seq.{sets}
-use Rattle.fields.specs.Fields.{bytes16}
-use Rattle.fields.proofs.Halves.{halves_stored}
+-- The bytes that std gives the number (`low_first`) are stored one behind the other. Assumes nothing.
+use Rattle.std.specs.Prelude.{refl}
+use Rattle.std.proofs.Common.{sym, ◌∙◌, arith}
+use Rattle.std.proofs.lemmas.Slice.{put_mid-paste}
+use Rattle.std.proofs.lemmas.List.Edits.{sets-eq}
+use Rattle.fields.specs.Fields.{bytes32}
+use Rattle.fields.proofs.Places.{low_first}
 use Rattle.fields.proofs.put_u32.Goals as goal
 
 pub returns : goal.returns
 returns c =
-    c.put_u16-2.ensures
-    ∙ ap (λ (l : List ℕ). sets l (c.args.at + 2) (bytes16 (c.args.n / 65536))) c.put_u16.ensures
-    ∙ halves_stored c.args.buf.now c.args.at c.args.n
+    let a = c.args in
+    put_mid-paste a.at _ a.buf.now _ (bytes32 a.n) 4 (c.copy_from_slice.ensures.after ∙ c.to_le_bytes.ensures ∙ low_first a.n) (omega arith) refl
+    ∙ sym (sets-eq (bytes32 a.n) a.buf.now a.at c.requires)

@@ -1,8 +1,7 @@
--- `fields::u32_at` meets its contract: `le32` is its lower half and 65536 times its upper half (`two_halves`), which `u16_at` reads, each below 65536, so that the sum fits. Assumes nothing.
-use native.Mathlib.Omega.{arith}
-use Rattle.fields.proofs.Halves.{two_halves}
+-- `le32` is the four bytes from the place on (`four_bytes`). Assumes nothing.
+use Rattle.std.proofs.Common.{arith}
+use Rattle.fields.proofs.Places.{four_bytes}
 use Rattle.fields.proofs.u32_at.Goals as goal
 
 pub returns : goal.returns
-returns c =
-    omega (arith, two_halves c.args.s.now c.args.at c.requires)
+returns c = omega (arith, four_bytes c.args.s.now c.args.at c.requires)

@@ -1,39 +1,24 @@
--- `filling::finish` meets its contract: small totals are kept by `narrow` and stored behind the last segment, and what `clear_starts` and `clear_letters` ensure is the rest of `finished`. Assumes nothing.
-use mathlib.Core.Path.{ap, ◌∙◌}
+-- `filling::finish` meets its contract: small totals are kept by `narrow` and stored behind the last segment, and the rest is filled with zeros (`filled`), as `tables_finished` has it. Assumes nothing.
+use mathlib.Core.Path.{◌≡◌, ◌∙◌}
+use Prim.Native.Nat.{◌+◌, ◌≤◌}
 use native.Mathlib.Omega.{arith}
-use lib.ListN.{length, length-set}
-use lib.Seq.{length-sets}
+use lib.ListN.{length, set, length-set}
+use Rattle.refusals.specs.Numbers.{most_segments, most_starts}
 use Rattle.filling.proofs.Fills.{tables_eq}
+use Rattle.filling.proofs.Runs.{filled}
 use Rattle.filling.proofs.finish.Goals as goal
-
-pub clear_starts-requires : goal.clear_starts-requires
-clear_starts-requires c =
-    let l = length-set c.args.genome.now c.args.to.count c.narrow-on_genome.result in
-    (omega arith, omega arith)
-
-pub clear_starts-requires-2 : goal.clear_starts-requires-2
-clear_starts-requires-2 c =
-    let l = length-set c.args.transcript.now c.args.to.count c.narrow-on_transcript.result in
-    (omega arith, omega arith)
-
-pub clear_letters-requires : goal.clear_letters-requires
-clear_letters-requires c =
-    (omega (arith, c.requires.0.letters_long, c.requires.1.few), omega (arith, c.requires.0.letters_long))
-
-pub shape_of-genome : goal.shape_of-genome
-shape_of-genome c = ap length c.clear_starts.ensures ∙ simp (length-sets, length-set)
-
-pub shape_of-transcript : goal.shape_of-transcript
-shape_of-transcript c = ap length c.clear_starts-2.ensures ∙ simp (length-sets, length-set)
-
-pub shape_of-letters : goal.shape_of-letters
-shape_of-letters c = ap length c.clear_letters.ensures ∙ simp length-sets
 
 pub returns : goal.returns
 returns c =
-    let narrow2 = c.narrow-on_transcript in
-    let narrow = c.narrow-on_genome in
-    tables_eq
-    (rw (length-set c.args.genome.now c.args.to.count narrow.result ∙ c.requires.0.genome_long, narrow.ensures) at c.clear_starts.ensures)
-    (rw (length-set c.args.transcript.now c.args.to.count narrow2.result ∙ c.requires.0.transcript_long, narrow2.ensures) at c.clear_starts-2.ensures)
-    (rw c.requires.0.letters_long at c.clear_letters.ensures)
+    let a = c.args in
+    let n = a.to.count in
+    let g = c.narrow-on_genome in
+    let t = c.narrow-on_transcript in
+    let long_g : length (set a.genome.now n a.to.genome) ≡ most_starts = length-set a.genome.now n a.to.genome ∙ c.requires.0.genome_long in
+    let long_t : length (set a.transcript.now n a.to.transcript) ≡ most_starts = length-set a.transcript.now n a.to.transcript ∙ c.requires.0.transcript_long in
+    let few : n ≤ most_segments = c.requires.1.few in
+    rw (g.ensures, t.ensures, long_g, long_t, c.requires.0.letters_long)
+    (tables_eq
+    (filled (set a.genome.now n a.to.genome) c.fill.new.self (n + 1) most_starts 0 (omega arith) (omega arith) (rw (g.ensures, long_g) at c.fill.ensures.after (λ y h. h)))
+    (filled (set a.transcript.now n a.to.transcript) c.fill-2.new.self (n + 1) most_starts 0 (omega arith) (omega arith) (rw (t.ensures, long_t) at c.fill-2.ensures.after (λ y h. h)))
+    (filled a.letters.now c.fill-3.new.self n most_segments 0 (omega arith) (omega arith) (rw c.requires.0.letters_long at c.fill-3.ensures.after (λ y h. h))))

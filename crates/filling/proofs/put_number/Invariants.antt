@@ -8,6 +8,3 @@ use Rattle.filling.proofs.put_number.Given as goal
 abbrev pub invariant-loop-i : goal.invariant-loop-i
 invariant-loop-i l =
     (length l.exons ≡ length l.initial.exons) × (sets l.initial.exons l.from (replicate (l.to - l.from) l.number) ≡ sets l.exons l.i (replicate (l.to - l.i) l.number))
-
-abbrev pub decreases-loop-i : goal.decreases-loop-i
-decreases-loop-i l = l.to - l.i

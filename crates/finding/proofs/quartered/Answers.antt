@@ -1,14 +1,11 @@
 -- The loop keeps some segments left, no more than `most` and all in the table; where the table rises it keeps the segment sought among them (`Bracket`), of which there is one once `most` is one. Assumes nothing.
 use native.Mathlib.Omega.{arith}
 use lib.IntN.{pos}
-use Rattle.finding.proofs.Halving.{bracket_all, bracket_done, farthest_in, quarter_more}
+use Rattle.finding.proofs.Halving.{bracket_done, farthest_in, quarter_more}
 use Rattle.finding.proofs.quartered.Goals as goal
 
-pub loop-most-init : goal.loop-most-init
-loop-most-init c = (omega arith, omega arith, omega arith, λ up. bracket_all (omega arith))
-
 pub loop-most-preserved : goal.loop-most-preserved
-loop-most-preserved c =
+loop-most-preserved g c =
     let inv = c.loop-most.invariant in
     let a = c.args in (
       omega arith,
@@ -18,4 +15,4 @@ loop-most-preserved c =
     )
 
 pub returns : goal.returns
-returns c = record { within = omega arith; found = λ up. bracket_done (c.loop-most.invariant.3 up) (omega arith) (omega arith) }
+returns g c = record { within = omega arith; found = λ up. bracket_done (c.loop-most.invariant.3 up) (omega arith) (omega arith) }

@@ -6,7 +6,7 @@ use Rattle.finding.proofs.Halving.{Bracket}
 use Rattle.finding.proofs.quartered.Given as goal
 
 abbrev pub invariant-loop-most : goal.invariant-loop-most
-invariant-loop-most l = (1 ≤ l.left) × (l.left ≤ l.most) × (l.low + l.left ≤ l.count) × (Rising l.starts l.count → Bracket l.starts l.count (pos l.p) l.low (l.low + l.left - 1))
+invariant-loop-most g l = (1 ≤ l.left) × (l.left ≤ l.most) × (l.low + l.left ≤ l.count) × (Rising l.starts l.count → Bracket l.starts l.count (pos l.p) l.low (l.low + l.left - 1))
 
 abbrev pub decreases-loop-most : goal.decreases-loop-most
-decreases-loop-most l = l.most
+decreases-loop-most g l = l.most

@@ -8,17 +8,6 @@ use Rattle.whole.specs.laws.Machine.{entry, same_32, other_32}
 use Rattle.holding.specs.Holding.{cds_holds}
 use Rattle.holding.proofs.cds_holds.Goals as goal
 
-pub returns-then-bits-eq-NONE_GIVEN : goal.returns-then-bits-eq-NONE_GIVEN
-unfolding cds_holds
-returns-then-bits-eq-NONE_GIVEN c =
-    let bits : SFits w32 c.args.head.bits = record { sfits = c.struct_told-3-1.given.1.1.1.1.0.1 } in
-    rw (same_32 {b = pos 0} bits (record { sfits = omega arith }) c.if-bits-eq-NONE_GIVEN.true)
-
-pub overflow_cast-result : goal.overflow_cast-result
-overflow_cast-result c =
-    let end : SFits w32 c.args.head.end = record { sfits = c.struct_told-3-1.given.1.1.1.1.1.1.0.1 } in
-    simp (read end) (fits_wider end)
-
 pub returns-then-bits-eq-BOTH_GIVEN : goal.returns-then-bits-eq-BOTH_GIVEN
 unfolding cds_holds
 returns-then-bits-eq-BOTH_GIVEN c =
@@ -28,9 +17,3 @@ returns-then-bits-eq-BOTH_GIVEN c =
     let start : SFits w32 h.start = record { sfits = told.1.1.1.1.1.0.1 } in
     let end : SFits w32 h.end = record { sfits = told.1.1.1.1.1.1.0.1 } in
     simp (other_32 h.bits (pos 0) c.if-bits-eq-NONE_GIVEN.false, same_32 {b = pos 3} bits (record { sfits = omega arith }) c.if-bits-eq-BOTH_GIVEN.true, read start, read end, read (fits_wider end), entry c.ranges.length)
-
-pub returns : goal.returns
-unfolding cds_holds
-returns c =
-    let h = c.args.head in
-    simp (other_32 h.bits (pos 0) c.if-bits-eq-NONE_GIVEN.false, other_32 h.bits (pos 3) c.if-bits-eq-BOTH_GIVEN.false)

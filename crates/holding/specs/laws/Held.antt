@@ -5,8 +5,9 @@ use Rattle.std.proofs.lemmas.Bool.{false≢true}
 use Rattle.std.proofs.Math.Logic.{inl, inr, ⊎_elim}
 use Rattle.std.specs.Int.Signed.{le_z}
 use borrow.Author.Tests.{leb-true, le-leb}
-use Rattle.refusals.specs.Numbers.{most_records, most_segments, most_bases, not_together}
-use Rattle.refusals.specs.Outcome.{Outcome, answered, refused}
+use Rattle.refusals.specs.Numbers.{most_records, most_segments, most_bases}
+use Rattle.refusals.specs.declared.Refusal.TheVariants.{NotTogether}
+use Rattle.refusals.specs.Outcome.{Outcome, Ok, Err}
 use Rattle.refusals.specs.laws.Outcomes.{clash}
 use Rattle.whole.specs.Whole.{eq_z}
 use Rattle.whole.specs.laws.Whole.{order, by_test, both, both_of}
@@ -295,12 +296,12 @@ module _ {A : Type 0} (x : Lent) (ask : Source → Outcome A) where
   unfolding checked
   checked_held e = rw e
 
-  pub checked_broken : holds x ≡ false → checked x ask ≡ refused not_together
+  pub checked_broken : holds x ≡ false → checked x ask ≡ Err NotTogether
   unfolding checked
   checked_broken e = rw e
 
   -- where it is answered, what is lent holds together, and that is the question's own answer
-  pub checked_answered : (a : A) → checked x ask ≡ answered a → (holds x ≡ true) × (ask (source_of x) ≡ answered a)
+  pub checked_answered : (a : A) → checked x ask ≡ Ok a → (holds x ≡ true) × (ask (source_of x) ≡ Ok a)
   checked_answered a h =
       by_test (holds x)
       (λ e. (e, sym (checked_held e) ∙ h))

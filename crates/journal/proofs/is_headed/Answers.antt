@@ -1,5 +1,5 @@
 -- `journal::is_headed` meets its contract: the tests are those of `is_headed`. Assumes nothing.
-use borrow.Author.Tests.{lt-ltb, le-ltb}
+use Rattle.std.proofs.Common.{lt-ltb, le-ltb}
 use Rattle.journal.specs.Logs.{is_headed}
 use Rattle.journal.proofs.is_headed.Goals as goal
 

@@ -1,18 +1,17 @@
--- `journal::is_marked` meets its contract: the tests are those of `is_marked`. Assumes nothing.
-use mathlib.Core.Path.{refl}
-use native.Mathlib.Omega.{arith}
+-- `journal::is_marked` meets its contract: `starts_with` compares the three bytes of the mark, and a byte that is not there is none of them. Assumes nothing.
+use Rattle.std.proofs.Common.{◌≡◌, refl, List, [], ◌∷◌, ℕ, eqb, arith, ◌∙◌}
+use Rattle.std.proofs.lemmas.Bool.Decides.{nat_tests}
+use Rattle.std.specs.List.{starts_with}
+use Rattle.journal.specs.Layout.{mark}
 use Rattle.journal.specs.Logs.{is_marked}
 use Rattle.journal.proofs.is_marked.Goals as goal
 
-pub returns : goal.returns
+begins : (s : List ℕ) → starts_with eqb s mark ≡ is_marked s
 unfolding is_marked
-returns c = refl
+begins [] = refl
+begins (a ∷ []) = grind (arith, nat_tests)
+begins (a ∷ b ∷ []) = grind (arith, nat_tests)
+begins (a ∷ b ∷ c ∷ s) = grind (arith, nat_tests)
 
-pub bounds-log-0 : goal.bounds-log-0
-bounds-log-0 c = omega arith
-
-pub bounds-log-1 : goal.bounds-log-1
-bounds-log-1 c = omega arith
-
-pub bounds-log-2 : goal.bounds-log-2
-bounds-log-2 c = omega arith
+pub returns : goal.returns
+returns c = c.starts_with.ensures.value ∙ begins c.args.log.now

@@ -1,8 +1,8 @@
 -- `journal::put_first` meets its contract: the header is stored, and the entry behind it. Assumes nothing.
+use Rattle.refusals.specs.Outcome.{Ok}
 use mathlib.Core.Path.{◌≡◌, refl, sym, ap}
 use mathlib.Core.List.{◌++◌}
 use Prim.Native.Nat.{◌+◌}
-use native.Mathlib.Omega.{arith}
 use borrow.Author.Tests.{lt-ltb, le-ltb}
 use lib.ListN.{length}
 use Rattle.journal.specs.Layout.{entries_at}
@@ -11,7 +11,6 @@ use Rattle.entries.specs.Entries.{entry_bytes}
 use Rattle.journal.specs.Logs.{header_bytes}
 use Rattle.entries.specs.laws.RoundTrips.{entry_length}
 use Rattle.entries.specs.declared.Entry.{Entry}
-use Rattle.journal.specs.declared.Appended.TheVariants as appended
 use Rattle.entries.proofs.Stores.{then_stored}
 use Rattle.journal.proofs.put_first.Goals as goal
 
@@ -26,10 +25,4 @@ returns-then-log-size c =
 pub returns : goal.returns
 returns c =
     let a = c.args in
-    rw (entry_length a.entry, le-ltb _ _ c.if-log-size.false) record { value = ap appended.Length (sym (first_length a.entry)); log_after = then_stored header_bytes (entry_bytes a.entry) a.log.now 0 c.put_header.ensures c.put_entry.ensures }
-
-pub overflow_add-size : goal.overflow_add-size
-overflow_add-size c = omega arith
-
-pub shape_of-log : goal.shape_of-log
-shape_of-log c = omega arith
+    rw (entry_length a.entry, le-ltb _ _ c.if-log-size.false) record { value = ap Ok (sym (first_length a.entry)); log_after = then_stored header_bytes (entry_bytes a.entry) a.log.now 0 c.put_header.ensures c.put_entry.ensures }

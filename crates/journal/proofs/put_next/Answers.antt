@@ -1,4 +1,5 @@
 -- `journal::put_next` meets its contract: the size is known first, so that a refusal stores nothing. Assumes nothing.
+use Rattle.refusals.specs.Outcome.{Ok}
 use mathlib.Core.Path.{refl, sym, ap}
 use Prim.Native.Nat.{ℕ, ◌+◌, ◌≤◌, ◌<◌}
 use native.Mathlib.Omega.{arith}
@@ -6,7 +7,6 @@ use borrow.Author.Tests.{lt-ltb, le-ltb}
 use Rattle.refusals.specs.Numbers.{most_log}
 use Rattle.entries.specs.Layout.{entry_size}
 use Rattle.entries.specs.laws.RoundTrips.{entry_length}
-use Rattle.journal.specs.declared.Appended.TheVariants as appended
 use Rattle.journal.proofs.put_next.Goals as goal
 
 pub returns-then-used : goal.returns-then-used
@@ -25,13 +25,4 @@ pub returns : goal.returns
 returns c =
     let a = c.args in
     let small : a.used + entry_size ≤ most_log = omega arith in
-    rw (entry_length a.entry, le-ltb _ _ small, le-ltb _ _ c.if-log-size.false) record { value = ap (λ (n : ℕ). appended.Length (a.used + n)) (sym (entry_length a.entry)); log_after = c.put_entry.ensures }
-
-pub overflow_sub-t-5 : goal.overflow_sub-t-5
-overflow_sub-t-5 c = omega arith
-
-pub overflow_add-size : goal.overflow_add-size
-overflow_add-size c = omega arith
-
-pub shape_of-log : goal.shape_of-log
-shape_of-log c = omega arith
+    rw (entry_length a.entry, le-ltb _ _ small, le-ltb _ _ c.if-log-size.false) record { value = ap (λ (n : ℕ). Ok (a.used + n)) (sym (entry_length a.entry)); log_after = c.put_entry.ensures }

@@ -15,7 +15,7 @@ use Rattle.std.proofs.Math.ListN.{length, drop, length-drop}
 use Rattle.std.proofs.lemmas.List.Edits.{sets, sets-eq}
 use Rattle.std.proofs.Math.Seq.{length-take-le, get_or-take, take-append-le, drop-append-le}
 use Rattle.refusals.specs.Numbers.{most_log}
-use Rattle.refusals.specs.Outcome.{answered}
+use Rattle.refusals.specs.Outcome.{Ok}
 use Rattle.refusals.specs.laws.Outcomes.{clash, same}
 use Rattle.whole.specs.laws.Whole.{by_test, both}
 use Rattle.fields.specs.Fields.{little, le16}
@@ -36,7 +36,7 @@ record IsFitted (room used : ℕ) (text t : List ℕ) : Type 0 where
   small : used + length t ≤ most_log
   roomy : used + length t ≤ room
 
-fitted_means : (room used : ℕ) (t text : List ℕ) → fitted room used t ≡ answered text → IsFitted room used text t
+fitted_means : (room used : ℕ) (t text : List ℕ) → fitted room used t ≡ Ok text → IsFitted room used text t
 fitted_means room used t text e =
     by_test (ltb most_log (used + length t))
     (λ a. absurd (clash (simp a at e)))
@@ -49,7 +49,7 @@ pub record IsPut (s : List ℕ) (used : ℕ) (e : Entry) (text : List ℕ) : Typ
   pub roomy : used + length text ≤ length s
   pub text_is : ((used ≡ 0) × (text ≡ header_bytes ++ entry_bytes e)) ⊎ ((is_headed s used ≡ true) × (text ≡ entry_bytes e))
 
-pub put_means : (s : List ℕ) (used : ℕ) (e : Entry) (text : List ℕ) → appending s used e ≡ answered text → IsPut s used e text
+pub put_means : (s : List ℕ) (used : ℕ) (e : Entry) (text : List ℕ) → appending s used e ≡ Ok text → IsPut s used e text
 unfolding appending
 put_means s used e text h =
     by_test (ltb (length s) used)
@@ -119,7 +119,7 @@ unfolding all_canonical
 held_canonical not_begun = refl
 held_canonical (begun {s} {es} r) = (read_means s es r).sound
 
-module _ (s : List ℕ) (used : ℕ) (e : Entry) (text : List ℕ) (h : appending s used e ≡ answered text) where
+module _ (s : List ℕ) (used : ℕ) (e : Entry) (text : List ℕ) (h : appending s used e ≡ Ok text) where
   its : IsPut s used e text
   its = put_means s used e text h
 
@@ -142,7 +142,7 @@ module _ (s : List ℕ) (used : ℕ) (e : Entry) (text : List ℕ) (h : appendin
     grown = in_use s used text its.roomy ∙ joined (take_bytes used s bs) k (front_length s used text its.roomy)
 
     -- and it reads back as them
-    pub grown_reads : EntryFits e → canonical e ≡ true → read_log (take (used + length text) (sets s used text)) ≡ answered (es ++ e ∷ [])
+    pub grown_reads : EntryFits e → canonical e ≡ true → read_log (take (used + length text) (sets s used text)) ≡ Ok (es ++ e ∷ [])
     grown_reads f c =
         let n : length (log_bytes (es ++ e ∷ [])) ≡ used + length text =
         sym (ap length grown) ∙ ap length (in_use s used text its.roomy) ∙ grown_length s used text its.roomy in
@@ -176,14 +176,14 @@ headed_front s n h =
 
 -- ---- what takes an entry
 
-pub takes_first : (s : List ℕ) (e : Entry) → entries_at + entry_size ≤ length s → appending s 0 e ≡ answered (header_bytes ++ entry_bytes e)
+pub takes_first : (s : List ℕ) (e : Entry) → entries_at + entry_size ≤ length s → appending s 0 e ≡ Ok (header_bytes ++ entry_bytes e)
 unfolding appending
 takes_first s e h =
     let n : length (header_bytes ++ entry_bytes e) ≡ entries_at + entry_size = omega (arith, entry_length e) in
     rw (le-ltb (length s) 0 (omega arith), le-ltb most_log (0 + length (header_bytes ++ entry_bytes e)) (omega arith), le-ltb (length s) (0 + length (header_bytes ++ entry_bytes e)) (omega arith))
 
-pub takes_next : (s : List ℕ) (used : ℕ) (es : List Entry) (e : Entry) → used ≤ length s → read_log (take used s) ≡ answered es
-    → used + entry_size ≤ most_log → used + entry_size ≤ length s → appending s used e ≡ answered (entry_bytes e)
+pub takes_next : (s : List ℕ) (used : ℕ) (es : List Entry) (e : Entry) → used ≤ length s → read_log (take used s) ≡ Ok es
+    → used + entry_size ≤ most_log → used + entry_size ≤ length s → appending s used e ≡ Ok (entry_bytes e)
 unfolding appending
 takes_next s used es e w r m h =
     let i = read_means (take used s) es r in

@@ -12,7 +12,7 @@ use Rattle.std.proofs.Common.{sym, ap₂, ◌∙◌, arith, eq-eqb, eqb-true, le
 use Rattle.std.proofs.lemmas.Bool.{false≢true}
 use Rattle.std.proofs.Math.ListN.{length}
 use Rattle.refusals.specs.Numbers.{most_log}
-use Rattle.refusals.specs.Outcome.{answered}
+use Rattle.refusals.specs.Outcome.{Ok}
 use Rattle.refusals.specs.laws.Outcomes.{clash, same}
 use Rattle.whole.specs.laws.Whole.{by_test, both}
 use Rattle.fields.specs.Fields.{le16, bytes16}
@@ -82,7 +82,7 @@ module _ (es : List Entry) (fits : AllFit es) where
   written_headed = headed_by (log_bytes es) (length (log_bytes es)) (length es) refl refl (log_length es)
 
   -- what entries are written as reads back as them
-  pub reads_back_lem : all_canonical es ≡ true → length (log_bytes es) ≤ most_log → read_log (log_bytes es) ≡ answered es
+  pub reads_back_lem : all_canonical es ≡ true → length (log_bytes es) ≤ most_log → read_log (log_bytes es) ≡ Ok es
   unfolding read_log
   reads_back_lem c h = rw (le-ltb most_log (length (log_bytes es)) h, written_headed, written_in, c)
 
@@ -139,7 +139,7 @@ pub record IsLog (s : List ℕ) (es : List Entry) : Type 0 where
   pub sound : all_canonical es ≡ true
   pub are : es ≡ entries_in s
 
-pub read_means : (s : List ℕ) (es : List Entry) → read_log s ≡ answered es → IsLog s es
+pub read_means : (s : List ℕ) (es : List Entry) → read_log s ≡ Ok es → IsLog s es
 unfolding read_log
 read_means s es e =
     by_test (ltb most_log (length s))
@@ -153,13 +153,13 @@ read_means s es e =
     (λ u. absurd (clash (simp (t, u) at e))))
 
 -- every log that is read is what its entries are written as
-pub is_log : (s : List ℕ) (es : List Entry) → Bytes s → read_log s ≡ answered es → log_bytes es ≡ s
+pub is_log : (s : List ℕ) (es : List Entry) → Bytes s → read_log s ≡ Ok es → log_bytes es ≡ s
 is_log s es bs e =
     let k = read_means s es e in
     ap log_bytes k.are ∙ text_kept s bs k.headed
 
 -- and its entries fit
-pub read_fits : (s : List ℕ) (es : List Entry) → Bytes s → read_log s ≡ answered es → AllFit es
+pub read_fits : (s : List ℕ) (es : List Entry) → Bytes s → read_log s ≡ Ok es → AllFit es
 read_fits s es bs e =
     let k = read_means s es e in
     rw k.are (from_fit (count_of (length s)) s entries_at bs (omega (arith, k.headed.size_is)))

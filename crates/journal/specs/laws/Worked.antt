@@ -1,7 +1,8 @@
 -- Worked examples, which compute: an entry byte by byte, each reason for 35, and logs.
 use Rattle.std.specs.Prelude.{◌≡◌, refl, Bool, true, ◌&&◌, not, List, [], ◌∷◌, ◌++◌, ℕ, ℤ, pos, negsuc, replicate}
-use Rattle.refusals.specs.Numbers.{outside, n_outside, missing_end, no_room, no_log}
-use Rattle.refusals.specs.Outcome.{answered, refused}
+use Rattle.refusals.specs.Numbers.{number}
+use Rattle.refusals.specs.declared.Refusal.TheVariants.{Outside, NOutside, MissingEnd, NoRoom, NoLog}
+use Rattle.refusals.specs.Outcome.{Ok, Err}
 use Rattle.fields.specs.Fields.{le16, le32}
 use Rattle.layout.specs.Layout.{nowhere, refusal}
 use Rattle.taking.specs.Questions.{map_g_to_n, map_n_to_c, map_c_to_g}
@@ -59,7 +60,7 @@ text : entry_bytes (n gave on_c)
 unfolding entry_bytes question_bytes answer_bytes four_bytes four_numbers
 text = refl
 
-taken : all_canonical ((c gave on_g) ∷ (g gave refusal missing_end) ∷ (n gave on_c) ∷ []) ≡ true
+taken : all_canonical ((c gave on_g) ∷ (g gave refusal (number MissingEnd)) ∷ (n gave on_c) ∷ []) ≡ true
 unfolding all_canonical canonical holdable end_holdable sayable refusals_of is_nowhere tag_of_kind end_sayable exon_of_kind
 taken = refl
 
@@ -75,23 +76,23 @@ wrong =
     ∷ (asks map_c_to_g 1 4 0 (pos 7) (pos 0) (pos 9) (pos 0) gave on_g)
     -- a star outside c.
     ∷ (asks map_n_to_c 1 1 0 (pos 7) (pos 0) (pos 9) (pos 0) gave on_c)
-    ∷ (asks map_g_to_n 1 0 1 (pos 7) (pos 0) (pos 9) (pos 0) gave refusal outside)
+    ∷ (asks map_g_to_n 1 0 1 (pos 7) (pos 0) (pos 9) (pos 0) gave refusal (number Outside))
     -- a missing mark outside g.
     ∷ (asks map_c_to_g 1 2 0 (pos 0) (pos 0) (pos 9) (pos 0) gave on_g)
     ∷ (asks map_n_to_c 1 0 2 (pos 7) (pos 0) (pos 0) (pos 0) gave on_c)
     -- an offset on g.
-    ∷ (asks map_g_to_n 1 0 0 (pos 7) (pos 1) (pos 9) (pos 0) gave refusal outside)
+    ∷ (asks map_g_to_n 1 0 0 (pos 7) (pos 1) (pos 9) (pos 0) gave refusal (number Outside))
     ∷ (c gave says 1 0 (at (pos 24) (pos 0) 0 1) (at (pos 30) (pos 1) 0 2))
     -- a number under a missing mark
-    ∷ (asks map_g_to_n 1 0 2 (pos 7) (pos 0) (pos 9) (pos 0) gave refusal missing_end)
+    ∷ (asks map_g_to_n 1 0 2 (pos 7) (pos 0) (pos 9) (pos 0) gave refusal (number MissingEnd))
     -- an answer's star of no such value, and one outside c.
     ∷ (n gave says 3 0 (at (pos 1) (pos 0) 2 0) (at (pos 2) (pos 0) 0 0))
     ∷ (c gave says 1 0 (at (pos 24) (pos 0) 0 1) (at (pos 30) (pos 0) 1 2))
     -- a field that the kind or the tag does not use: an exon where there is no g., a refusal beside an answer, a position beside a refusal
     ∷ (n gave says 3 0 (at (pos 1) (pos 0) 0 1) (at (pos 2) (pos 0) 0 0))
-    ∷ (c gave says 1 outside (at (pos 24) (pos 0) 0 1) (at (pos 30) (pos 0) 0 2))
-    ∷ (g gave says 0 missing_end (at (pos 1) (pos 0) 0 0) nowhere)
-    ∷ (g gave says 0 missing_end nowhere (at (pos 0) (pos 0) 0 1))
+    ∷ (c gave says 1 (number Outside) (at (pos 24) (pos 0) 0 1) (at (pos 30) (pos 0) 0 2))
+    ∷ (g gave says 0 (number MissingEnd) (at (pos 1) (pos 0) 0 0) nowhere)
+    ∷ (g gave says 0 (number MissingEnd) nowhere (at (pos 0) (pos 0) 0 1))
     -- a tag above 3, and one not of the kind
     ∷ (c gave says 4 0 (at (pos 24) (pos 0) 0 1) (at (pos 30) (pos 0) 0 2))
     ∷ (c gave says 3 0 (at (pos 24) (pos 0) 0 1) (at (pos 30) (pos 0) 0 2))
@@ -99,7 +100,7 @@ wrong =
     -- exon 0 in an answer from g. or to g.
     ∷ (c gave says 1 0 (at (pos 24) (pos 0) 0 1) (at (pos 30) (pos 0) 0 0))
     -- a refusal that the kind cannot give, and none
-    ∷ (g gave refusal n_outside)
+    ∷ (g gave refusal (number NOutside))
     ∷ (g gave refusal 0)
     ∷ []
 
@@ -113,34 +114,34 @@ refused_each = refl
 
 -- ---- logs
 
-no_entry : read_log (81 ∷ 76 ∷ 71 ∷ 1 ∷ 0 ∷ []) ≡ answered []
+no_entry : read_log (81 ∷ 76 ∷ 71 ∷ 1 ∷ 0 ∷ []) ≡ Ok []
 unfolding read_log is_headed is_marked le16 entries_from all_canonical
 no_entry = refl
 
-another_mark : read_log (81 ∷ 76 ∷ 72 ∷ 1 ∷ 0 ∷ []) ≡ refused no_log
+another_mark : read_log (81 ∷ 76 ∷ 72 ∷ 1 ∷ 0 ∷ []) ≡ Err NoLog
 unfolding read_log is_headed is_marked le16
 another_mark = refl
 
-version_2 : read_log (81 ∷ 76 ∷ 71 ∷ 2 ∷ 0 ∷ []) ≡ refused no_log
+version_2 : read_log (81 ∷ 76 ∷ 71 ∷ 2 ∷ 0 ∷ []) ≡ Err NoLog
 unfolding read_log is_headed is_marked le16
 version_2 = refl
 
-byte_behind : read_log (log_bytes ((n gave on_c) ∷ []) ++ 0 ∷ []) ≡ refused no_log
+byte_behind : read_log (log_bytes ((n gave on_c) ∷ []) ++ 0 ∷ []) ≡ Err NoLog
 unfolding read_log is_headed is_marked le16 log_bytes entries_bytes entry_bytes question_bytes answer_bytes four_bytes four_numbers
 byte_behind = refl
 
-two_entries : read_log (log_bytes ((n gave on_c) ∷ (c gave on_g) ∷ [])) ≡ answered ((n gave on_c) ∷ (c gave on_g) ∷ [])
+two_entries : read_log (log_bytes ((n gave on_c) ∷ (c gave on_g) ∷ [])) ≡ Ok ((n gave on_c) ∷ (c gave on_g) ∷ [])
 unfolding read_log is_headed is_marked le16 le32 log_bytes entries_bytes entry_bytes question_bytes answer_bytes four_bytes four_numbers entries_from entry_at question_at answer_at all_canonical canonical holdable end_holdable sayable refusals_of is_nowhere tag_of_kind end_sayable exon_of_kind
 two_entries = refl
 
-not_a_header : appending (replicate 100 7) 49 (n gave on_c) ≡ refused no_log
+not_a_header : appending (replicate 100 7) 49 (n gave on_c) ≡ Err NoLog
 unfolding appending is_headed is_marked le16
 not_a_header = refl
 
-past_the_end : appending (replicate 48 7) 49 (n gave on_c) ≡ refused no_log
+past_the_end : appending (replicate 48 7) 49 (n gave on_c) ≡ Err NoLog
 unfolding appending
 past_the_end = refl
 
-no_room_lem : appending (replicate 48 7) 0 (n gave on_c) ≡ refused no_room
+no_room_lem : appending (replicate 48 7) 0 (n gave on_c) ≡ Err NoRoom
 unfolding appending entry_bytes question_bytes answer_bytes four_bytes four_numbers
 no_room_lem = refl

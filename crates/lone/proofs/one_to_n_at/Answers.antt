@@ -1,7 +1,6 @@
 -- `lone::one_to_n_at` meets its contract: as for `one_to_n`, where the segment with this number is the one that the finder says (`spot_at`). Assumes nothing.
 use mathlib.Core.Bool.{true}
 use mathlib.Core.Path.{◌≡◌, sym, ◌∙◌}
-use native.Mathlib.Omega.{arith}
 use lib.ListN.{get_or}
 use mir.Syntax.{w64}
 use Rattle.whole.specs.laws.Whole.{read, told}
@@ -22,12 +21,6 @@ test_is : (c : lts.After-is_inside tie.the-claims tie.handed_pre tie.handed_post
     let a = c.args in
     inside true (get_or a.genome.now a.at.count 0) (place_of_g a.at.first a.g) ≡ c.is_inside.result
 test_is c = sym (simp (c.last.ensures, place_is c.before.before) at c.is_inside.ensures)
-
-pub map_at-start-requires : goal.map_at-start-requires
-map_at-start-requires c =
-    let p = c.before.before.before.before.before in
-    let s = p.before in
-    record { number_lt_most_segments = omega (arith, s.requires.in_segment.on, s.requires.aligns.count_to); within = rw (told w64 p.place_of_g-p.result.0 c.struct_told-1.given.0.1) p.place_of_g-p.ensures.1 }
 
 pub found-exon-requires : goal.found-exon-requires
 found-exon-requires c =
@@ -54,9 +47,3 @@ returns c =
     let s = c.before.before.before.before in
     let a = s.args in
     sym (one_refused a.at _ _ s.requires.aligns true a.g (test_is c.before ∙ c.if-is_inside.false))
-
-pub last-requires-then-is_inside : goal.last-requires-then-is_inside
-last-requires-then-is_inside c = c.requires.aligns.count_to
-
-pub n_of_one-requires : goal.n_of_one-requires
-n_of_one-requires c = c.map_at-start.ensures.small

@@ -1,8 +1,8 @@
 -- g. to n. and back of one number, as the code goes: its end's spot follows from its start's, so that both ends are answered by one spot with one exon. Assumes nothing.
 use Rattle.std.specs.Prelude.{ℕ, List, ◌≡◌, refl, Bool, true, false, ℤ, get_or}
 use Rattle.std.proofs.Common.{ap, ◌∙◌}
-use Rattle.refusals.specs.Numbers.{outside}
-use Rattle.refusals.specs.Outcome.{refused}
+use Rattle.refusals.specs.declared.Refusal.TheVariants.{Outside}
+use Rattle.refusals.specs.Outcome.{Err}
 use Rattle.numbering.specs.Numbers.{place_of_n}
 use Rattle.whole.specs.laws.Whole.{by_test}
 use Rattle.segments.specs.Tables.{Tables}
@@ -60,7 +60,7 @@ module _ (a : Alignment) (x : Tables) (exons : List ℕ) (sound : Aligns a x) wh
         ∙ (ap (λ (s : Spot). n_joined a.forward (get_or x.transcript a.count 0) (found_exons a.forward (number_by a exons) its_spot s) its_spot s) (stop_of_place genome transcript _ _ _)
         ∙ ap (λ (i : Interval ℕ). n_joined a.forward (get_or x.transcript a.count 0) i its_spot (stop_of its_spot)) (both_found a.forward (number_by a exons) its_spot))
 
-    pub one_refused : inside strict (get_or x.genome a.count 0) its_place ≡ false → map_g_to_n strict (aligned_by a x exons) (record { from = g; to = g }) ≡ refused outside
+    pub one_refused : inside strict (get_or x.genome a.count 0) its_place ≡ false → map_g_to_n strict (aligned_by a x exons) (record { from = g; to = g }) ≡ Err Outside
     one_refused e = n_refused a x exons sound strict g g (rw e refl)
 
     -- by the segment that holds its place
@@ -93,7 +93,7 @@ module _ (a : Alignment) (x : Tables) (exons : List ℕ) (sound : Aligns a x) wh
         ∙ (ap (λ (s : Spot). g_joined a.forward a.first (chosen_exons a.forward (number_by a exons) spot_of_start s) spot_of_start s o u) (stop_of_place transcript genome _ _ _)
         ∙ ap (λ (i : Interval ℕ). g_joined a.forward a.first i spot_of_start (stop_of spot_of_start) o u) (both_chosen a.forward (number_by a exons) spot_of_start))
 
-    pub one_back_refused : inside strict (get_or x.transcript a.count 0) place_of_both ≡ false → fitting g_fits (g_of_ends strict (aligned_by a x exons) first_at second_at) ≡ refused outside
+    pub one_back_refused : inside strict (get_or x.transcript a.count 0) place_of_both ≡ false → fitting g_fits (g_of_ends strict (aligned_by a x exons) first_at second_at) ≡ Err Outside
     one_back_refused e = g_refused a x exons sound strict first_at second_at (rw e refl)
 
 -- n. to g. of a position that is both ends, which have no order

@@ -2,7 +2,7 @@
 use Rattle.std.specs.Prelude.{ℕ, Bool, true, ◌≡◌}
 use Rattle.std.proofs.Common.{arith}
 use Rattle.refusals.specs.Numbers.{most_records}
-use Rattle.refusals.specs.Outcome.{answered}
+use Rattle.refusals.specs.Outcome.{Ok}
 use Rattle.refusals.specs.laws.Outcomes.{clash, then_tells}
 use Rattle.whole.specs.laws.Whole.{by_test}
 use Rattle.segments.specs.Exons.{IsExon}
@@ -36,28 +36,28 @@ Numbered (aligned t) = (i : ℕ) → IsExon most_records (exon_number t i)
 Numbered (length_only n c) = Unit {0}
 
 module _ (strict : Bool) where
-  ask_g_to_n_lem : (q : Interval GAsked) (y : Source) → Numbered y → (a : Marked NPosition) → ask_g_to_n strict q y ≡ answered a → AnsweredAcross n_fits a
+  ask_g_to_n_lem : (q : Interval GAsked) (y : Source) → Numbered y → (a : Marked NPosition) → ask_g_to_n strict q y ≡ Ok a → AnsweredAcross n_fits a
   unfolding ask_g_to_n
   ask_g_to_n_lem q (aligned t) numbered a h =
       then_tells (given q) (map_g_to_n strict t) (AnsweredAcross n_fits)
       (λ i b e s. record { mark = g_to_n_across strict t most_records numbered i b s; fitted = g_to_n_fits strict t i b s }) a h
   ask_g_to_n_lem q (length_only n c) numbered a h = absurd (clash h)
 
-  ask_n_to_g_lem : (q : Interval NAsked) (y : Source) → Numbered y → (a : Marked GPosition) → ask_n_to_g strict q y ≡ answered a → AnsweredAcross g_fits a
+  ask_n_to_g_lem : (q : Interval NAsked) (y : Source) → Numbered y → (a : Marked GPosition) → ask_n_to_g strict q y ≡ Ok a → AnsweredAcross g_fits a
   unfolding ask_n_to_g
   ask_n_to_g_lem q (aligned t) numbered a h = record { mark = n_to_g_across strict t most_records numbered q a h; fitted = n_to_g_fits strict t q a h }
   ask_n_to_g_lem q (length_only n c) numbered a h = absurd (clash h)
 
-  ask_n_to_c_lem : (q : Interval NAsked) (y : Source) (a : Marked CPosition) → ask_n_to_c strict q y ≡ answered a → AnsweredPlainly c_fits a
+  ask_n_to_c_lem : (q : Interval NAsked) (y : Source) (a : Marked CPosition) → ask_n_to_c strict q y ≡ Ok a → AnsweredPlainly c_fits a
   unfolding ask_n_to_c
   ask_n_to_c_lem q y a h = record { mark = n_to_c_plain strict (length_of y) (coding_of y) q a h; fitted = n_to_c_fits strict (length_of y) (coding_of y) q a h }
 
-  ask_c_to_n_lem : (q : Interval CAsked) (y : Source) (a : Marked NPosition) → ask_c_to_n strict q y ≡ answered a → AnsweredPlainly n_fits a
+  ask_c_to_n_lem : (q : Interval CAsked) (y : Source) (a : Marked NPosition) → ask_c_to_n strict q y ≡ Ok a → AnsweredPlainly n_fits a
   unfolding ask_c_to_n
   ask_c_to_n_lem q y a h = record { mark = c_to_n_plain strict (length_of y) (coding_of y) q a h; fitted = c_to_n_fits strict (length_of y) (coding_of y) q a h }
 
   -- the mark of a chain is that of its step across the genome
-  ask_g_to_c_lem : (q : Interval GAsked) (y : Source) → Numbered y → (a : Marked CPosition) → ask_g_to_c strict q y ≡ answered a → AnsweredAcross c_fits a
+  ask_g_to_c_lem : (q : Interval GAsked) (y : Source) → Numbered y → (a : Marked CPosition) → ask_g_to_c strict q y ≡ Ok a → AnsweredAcross c_fits a
   unfolding ask_g_to_c
   ask_g_to_c_lem q y numbered =
       chain_tells asks_n (ask_g_to_n strict q y) (λ (i : Interval NAsked). ask_n_to_c strict i y) (AnsweredAcross c_fits)
@@ -66,7 +66,7 @@ module _ (strict : Bool) where
       let second = ask_n_to_c_lem _ y c s in
       record { mark = rw (second.mark, row_plain n.mark) first.mark; fitted = second.fitted })
 
-  ask_c_to_g_lem : (q : Interval CAsked) (y : Source) → Numbered y → (a : Marked GPosition) → ask_c_to_g strict q y ≡ answered a → AnsweredAcross g_fits a
+  ask_c_to_g_lem : (q : Interval CAsked) (y : Source) → Numbered y → (a : Marked GPosition) → ask_c_to_g strict q y ≡ Ok a → AnsweredAcross g_fits a
   unfolding ask_c_to_g
   ask_c_to_g_lem q y numbered =
       chain_tells asks_n (ask_c_to_n strict q y) (λ (i : Interval NAsked). ask_n_to_g strict i y) (AnsweredAcross g_fits)
@@ -84,20 +84,20 @@ held_numbered x e =
     (λ r. rw (source_of_length x r) tt)
 
 module _ (x : Lent) (strict : Bool) where
-  pub g_to_n_answered : (q : Interval GAsked) (a : Marked NPosition) → checked x (ask_g_to_n strict q) ≡ answered a → AnsweredAcross n_fits a
+  pub g_to_n_answered : (q : Interval GAsked) (a : Marked NPosition) → checked x (ask_g_to_n strict q) ≡ Ok a → AnsweredAcross n_fits a
   g_to_n_answered q a h = let (e, s) = checked_answered x (ask_g_to_n strict q) a h in ask_g_to_n_lem strict q (source_of x) (held_numbered x e) a s
 
-  pub n_to_g_answered : (q : Interval NAsked) (a : Marked GPosition) → checked x (ask_n_to_g strict q) ≡ answered a → AnsweredAcross g_fits a
+  pub n_to_g_answered : (q : Interval NAsked) (a : Marked GPosition) → checked x (ask_n_to_g strict q) ≡ Ok a → AnsweredAcross g_fits a
   n_to_g_answered q a h = let (e, s) = checked_answered x (ask_n_to_g strict q) a h in ask_n_to_g_lem strict q (source_of x) (held_numbered x e) a s
 
-  pub n_to_c_answered : (q : Interval NAsked) (a : Marked CPosition) → checked x (ask_n_to_c strict q) ≡ answered a → AnsweredPlainly c_fits a
+  pub n_to_c_answered : (q : Interval NAsked) (a : Marked CPosition) → checked x (ask_n_to_c strict q) ≡ Ok a → AnsweredPlainly c_fits a
   n_to_c_answered q a h = let (e, s) = checked_answered x (ask_n_to_c strict q) a h in ask_n_to_c_lem strict q (source_of x) a s
 
-  pub c_to_n_answered : (q : Interval CAsked) (a : Marked NPosition) → checked x (ask_c_to_n strict q) ≡ answered a → AnsweredPlainly n_fits a
+  pub c_to_n_answered : (q : Interval CAsked) (a : Marked NPosition) → checked x (ask_c_to_n strict q) ≡ Ok a → AnsweredPlainly n_fits a
   c_to_n_answered q a h = let (e, s) = checked_answered x (ask_c_to_n strict q) a h in ask_c_to_n_lem strict q (source_of x) a s
 
-  pub g_to_c_answered : (q : Interval GAsked) (a : Marked CPosition) → checked x (ask_g_to_c strict q) ≡ answered a → AnsweredAcross c_fits a
+  pub g_to_c_answered : (q : Interval GAsked) (a : Marked CPosition) → checked x (ask_g_to_c strict q) ≡ Ok a → AnsweredAcross c_fits a
   g_to_c_answered q a h = let (e, s) = checked_answered x (ask_g_to_c strict q) a h in ask_g_to_c_lem strict q (source_of x) (held_numbered x e) a s
 
-  pub c_to_g_answered : (q : Interval CAsked) (a : Marked GPosition) → checked x (ask_c_to_g strict q) ≡ answered a → AnsweredAcross g_fits a
+  pub c_to_g_answered : (q : Interval CAsked) (a : Marked GPosition) → checked x (ask_c_to_g strict q) ≡ Ok a → AnsweredAcross g_fits a
   c_to_g_answered q a h = let (e, s) = checked_answered x (ask_c_to_g strict q) a h in ask_c_to_g_lem strict q (source_of x) (held_numbered x e) a s

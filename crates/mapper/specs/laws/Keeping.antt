@@ -1,6 +1,6 @@
 -- A strict answer to one of the six mapping questions is also the lenient answer: strict mode only refuses more. Assumes nothing.
 use Rattle.std.proofs.Math.Bool.{true, false}
-use Rattle.refusals.specs.Numbers.{not_together}
+use Rattle.refusals.specs.declared.Refusal.TheVariants.{NotTogether}
 use Rattle.refusals.specs.Outcome.{Outcome}
 use Rattle.refusals.specs.Refusing.{Kept}
 use Rattle.refusals.specs.laws.Keeping.{kept_same, kept_then}
@@ -40,7 +40,7 @@ ask_c_to_n_lem q x = c_to_n_kept (length_of x) (coding_of x) q
 module _ (x : Lent) where
   checked_kept : {A : Type 0} (strict lenient : Source → Outcome A) → ((y : Source) → Kept (strict y) (lenient y)) → Kept (checked x strict) (checked x lenient)
   unfolding checked
-  checked_kept strict lenient k = kept_under (holds x) not_together (strict (source_of x)) (lenient (source_of x)) (k (source_of x))
+  checked_kept strict lenient k = kept_under (holds x) NotTogether (strict (source_of x)) (lenient (source_of x)) (k (source_of x))
 
   pub g_to_n_lenient : (q : Interval GAsked) → Kept (checked x (ask_g_to_n true q)) (checked x (ask_g_to_n false q))
   g_to_n_lenient q = checked_kept (ask_g_to_n true q) (ask_g_to_n false q) (ask_g_to_n_lem q)

@@ -1,8 +1,8 @@
 -- What each question is where what is lent lies on the genome: the mappings over how it lies. Assumes nothing.
-use Rattle.std.specs.Prelude.{ℕ, ◌≡◌, Bool, get_or}
+use Rattle.std.specs.Prelude.{ℕ, ◌≡◌, Bool, Option, get_or}
 use Rattle.std.proofs.Math.Path.{ap}
 use Rattle.std.proofs.Common.{◌∙◌}
-use Rattle.refusals.specs.Outcome.{answered, and_then, through}
+use Rattle.refusals.specs.Outcome.{Ok, and_then, through}
 use Rattle.holding.specs.Holding.{Lent, checked}
 use Rattle.positions.specs.Positions.{Interval, GAsked, NAsked, CAsked, asks_n}
 use Rattle.positions.specs.Answers.{chain}
@@ -12,12 +12,12 @@ use Rattle.spots.specs.Aligned.{aligned_by}
 use Rattle.spots.specs.declared.Alignment.{Alignment}
 use Rattle.knowing.specs.Knowing.{known_of, paper_coding}
 use Rattle.knowing.specs.laws.Known.{Lies, known_lies, ask_lying}
-use Rattle.knowing.specs.declared.Coding.{Coding}
+use Rattle.knowing.specs.declared.Cds.{Cds}
 use Rattle.knowing.specs.declared.Known.TheVariants as known
 use Rattle.chaining.specs.Given.{given, codes}
 use Rattle.mapper.specs.Asking.{ask_g_to_n, ask_n_to_g, ask_n_to_c, ask_c_to_n, ask_g_to_c, ask_c_to_g, ask_coding, ask_in_bounds}
 
-module _ (x : Lent) (a : Alignment) (c : Coding) (k : known_of x ≡ known.Aligned a c) where
+module _ (x : Lent) (a : Alignment) (c : Option Cds) (k : known_of x ≡ Ok (known.Aligned a c)) where
   abbrev fact : Lies x a c
   fact = known_lies x a c k
 
@@ -55,7 +55,7 @@ module _ (x : Lent) (a : Alignment) (c : Coding) (k : known_of x ≡ known.Align
       ask_lying x (ask_c_to_g strict q) k
       ∙ ap (λ (n : ℕ). chain asks_n (map_c_to_n strict n (paper_coding c) q) (map_n_to_g strict (aligned_by a x.tables x.exons))) fact.length
 
-  pub lying_coding : checked x ask_coding ≡ answered (codes (paper_coding c))
+  pub lying_coding : checked x ask_coding ≡ Ok (codes (paper_coding c))
   unfolding ask_coding
   lying_coding = ask_lying x ask_coding k
 

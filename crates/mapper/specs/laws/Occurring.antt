@@ -1,6 +1,6 @@
 -- Each refusal of each question's row occurs: a question that is refused with it, computed. With the rows of `Refusing` the sets are exact. Assumes nothing.
-use Rattle.std.specs.Prelude.{true, false, [], ◌∷◌, map, ◌≡◌, refl, ℤ, pos, negsuc}
-use Rattle.refusals.specs.Outcome.{refused}
+use Rattle.std.specs.Prelude.{true, false, Some, None, [], ◌∷◌, map, ◌≡◌, refl, ℤ, pos, negsuc}
+use Rattle.refusals.specs.Outcome.{Err}
 use Rattle.whole.specs.Fits.{fits, fit_of}
 use Rattle.numbering.specs.Numbers.{n_of_place, place_of_n, plain_c, c_of_n, n_of_c, skip_zero}
 use Rattle.cigar.specs.Elements.{letter_i, letter_m, letter_n, is_letter, kind_of, genome, transcript, total}
@@ -9,7 +9,7 @@ use Rattle.finding.specs.Finding.{first_below, index_of}
 use Rattle.segments.specs.Places.{nearer, spot_in, map_by_tables, map_place}
 use Rattle.segments.specs.Exons.{goes_on, numbers_hold, numbers_from, exon_found, exon_chosen}
 use Rattle.holding.specs.Holding.{Lent, lent, cds_holds, records_hold, length_holds, holds, source_of, checked}
-use Rattle.positions.specs.Positions.{Interval, GAsked, at, missing, NAsked, CAsked}
+use Rattle.positions.specs.Positions.{Interval, GAsked, NAsked, CAsked}
 use Rattle.coding.specs.Coding.{beyond, c_position, c_of_interval, map_n_to_c, n_position, map_c_to_n}
 use Rattle.spots.specs.Mapping.{inside, turned, n_of_spot, whole_n, map_g_to_n, g_of_spot, g_of_ends, map_n_to_g}
 use Rattle.mapper.specs.Asking.{ask_g_to_n, ask_n_to_g, ask_n_to_c, ask_c_to_n, ask_g_to_c, ask_c_to_g, ask_coding, ask_in_bounds}
@@ -45,10 +45,10 @@ broken = lent_a (pos 2) (pos 3)
 -- ---- what is asked: an interval of one number
 
 abbrev g : ℤ → Interval GAsked
-g a = record { from = at a; to = at a }
+g a = record { from = Some a; to = Some a }
 
 abbrev no_end : Interval GAsked
-no_end = record { from = at (pos 11); to = missing }
+no_end = record { from = Some (pos 11); to = None }
 
 abbrev n : ℤ → ℤ → Interval NAsked
 n a o = record { from = record { base = a; offset = o }; to = record { base = a; offset = o } }
@@ -77,7 +77,7 @@ pub g_to_n_occurs :
     ∷ checked of_length (ask_g_to_n true (g (pos 11)))
     ∷ checked coding (ask_g_to_n true no_end)
     ∷ checked broken (ask_g_to_n true (g (pos 11)))
-    ∷ [] ≡ map refused g_to_n_refusals
+    ∷ [] ≡ map Err g_to_n_refusals
 unfolding computing
 g_to_n_occurs = refl
 
@@ -87,7 +87,7 @@ pub n_to_g_occurs :
     ∷ checked coding (ask_n_to_g true (n (pos 1) most))
     ∷ checked of_length (ask_n_to_g true (n (pos 1) (pos 0)))
     ∷ checked broken (ask_n_to_g true (n (pos 1) (pos 0)))
-    ∷ [] ≡ map refused n_to_g_refusals
+    ∷ [] ≡ map Err n_to_g_refusals
 unfolding computing
 n_to_g_occurs = refl
 
@@ -97,7 +97,7 @@ pub n_to_c_occurs :
     ∷ checked coding (ask_n_to_c true (n (pos 0) (pos 0)))
     ∷ checked of_length (ask_n_to_c false (n least (pos 0)))
     ∷ checked broken (ask_n_to_c true (n (pos 1) (pos 0)))
-    ∷ [] ≡ map refused n_to_c_refusals
+    ∷ [] ≡ map Err n_to_c_refusals
 unfolding computing
 n_to_c_occurs = refl
 
@@ -107,7 +107,7 @@ pub c_to_n_occurs :
     ∷ checked coding (ask_c_to_n true (c (negsuc 3) (pos 0)))
     ∷ checked of_length (ask_c_to_n false (c most (pos 0)))
     ∷ checked broken (ask_c_to_n true (c (pos 1) (pos 0)))
-    ∷ [] ≡ map refused c_to_n_refusals
+    ∷ [] ≡ map Err c_to_n_refusals
 unfolding computing
 c_to_n_occurs = refl
 
@@ -120,7 +120,7 @@ pub g_to_c_occurs :
     ∷ checked of_length (ask_g_to_c true (g (pos 11)))
     ∷ checked coding (ask_g_to_c true no_end)
     ∷ checked broken (ask_g_to_c true (g (pos 11)))
-    ∷ [] ≡ map refused g_to_c_refusals
+    ∷ [] ≡ map Err g_to_c_refusals
 unfolding computing
 g_to_c_occurs = refl
 
@@ -131,12 +131,12 @@ pub c_to_g_occurs :
     ∷ checked coding (ask_c_to_g true (c (negsuc 2) most))
     ∷ checked of_length (ask_c_to_g true (c (pos 1) (pos 0)))
     ∷ checked broken (ask_c_to_g true (c (pos 1) (pos 0)))
-    ∷ [] ≡ map refused c_to_g_refusals
+    ∷ [] ≡ map Err c_to_g_refusals
 unfolding computing
 c_to_g_occurs = refl
 
 -- no kind
-pub coding_occurs : checked broken ask_coding ∷ [] ≡ map refused coding_refusals
+pub coding_occurs : checked broken ask_coding ∷ [] ≡ map Err coding_refusals
 unfolding computing
 coding_occurs = refl
 
@@ -145,6 +145,6 @@ pub in_bounds_occurs :
     checked of_length (ask_in_bounds (g (pos 11)))
     ∷ checked coding (ask_in_bounds no_end)
     ∷ checked broken (ask_in_bounds (g (pos 11)))
-    ∷ [] ≡ map refused in_bounds_refusals
+    ∷ [] ≡ map Err in_bounds_refusals
 unfolding computing
 in_bounds_occurs = refl

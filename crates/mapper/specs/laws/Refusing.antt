@@ -1,12 +1,14 @@
 -- Which refusals a question to what a host lends can give: one row for each question, of either kind of transcript and in either mode. Assumes nothing.
-use Rattle.std.specs.Prelude.{ℕ, Bool, cond, List, [], ◌∷◌, ◌≡◌, eqb, ℤ, ◌-ℤ◌}
+use Rattle.std.specs.Prelude.{ℕ, Bool, Some, None, cond, List, [], ◌∷◌, ◌≡◌, eqb, ℤ, ◌-ℤ◌}
 use Rattle.std.proofs.Math.Bool.{true, false}
 use Rattle.std.proofs.lemmas.Bool.{false≢true}
 use Rattle.std.proofs.Math.Path.{refl}
 use Rattle.std.proofs.Math.IntN.{pos}
 use Rattle.std.specs.Int.Signed.{le_z, lt_z}
-use Rattle.refusals.specs.Numbers.{not_coding, outside, n_outside, c_outside, too_wide, no_genome, missing_end, not_together}
-use Rattle.refusals.specs.Outcome.{Outcome, answered, refused}
+use Rattle.refusals.specs.declared.Refusal.{Refusal}
+use Rattle.refusals.specs.declared.Refusal.TheVariants.{NotCoding, Outside, NOutside, COutside, TooWide, NoGenome, MissingEnd, NotTogether}
+use Rattle.refusals.specs.Numbers.{number}
+use Rattle.refusals.specs.Outcome.{Outcome, Ok, Err}
 use Rattle.refusals.specs.Refusing.{one_of, Only}
 use Rattle.refusals.specs.laws.Outcomes.{clash}
 use Rattle.refusals.specs.laws.Refusing.{only_through, only_then}
@@ -16,7 +18,7 @@ use Rattle.transcript.specs.Transcript.{Source, Cds, genome_length, transcript_l
 use Rattle.transcript.specs.Transcript.Source.{aligned, length_only}
 use Rattle.transcript.specs.Transcript.Cds.{no_cds, cds}
 use Rattle.holding.specs.Holding.{Lent, holds, source_of, checked}
-use Rattle.positions.specs.Positions.{Interval, each, GAsked, at, missing, NAsked, CAsked, NPosition, asks_n}
+use Rattle.positions.specs.Positions.{Interval, each, GAsked, NAsked, CAsked, NPosition, asks_n}
 use Rattle.positions.specs.Answers.{Marked}
 use Rattle.positions.specs.laws.Refusing.{only_if, only_chain}
 use Rattle.coding.specs.Coding.{beyond, map_c_to_n}
@@ -47,115 +49,115 @@ module _ (len : ℕ) where
       let below : lt_z back (pos len) ≡ true = omega (order, dif n (pos 1), dif (pos len) (pos 1), dif (pos len -ℤ pos 1) (n -ℤ pos 1)) in
       simp (up, above, below)
 
-  c_to_n_taken : (strict : Bool) (c : Cds) (i : Interval CAsked) (n : Marked NPosition) → map_c_to_n strict len c i ≡ answered n → (beyond strict len n.interval.from.base ≡ false) × (beyond strict len n.interval.to.base ≡ false)
+  c_to_n_taken : (strict : Bool) (c : Cds) (i : Interval CAsked) (n : Marked NPosition) → map_c_to_n strict len c i ≡ Ok n → (beyond strict len n.interval.from.base ≡ false) × (beyond strict len n.interval.to.base ≡ false)
   unfolding map_c_to_n
   c_to_n_taken strict no_cds i n h = absurd (clash h)
   c_to_n_taken strict (cds s e) i n h = let (from, to) = c_to_n_crossed strict len s e i n h in (from.taken, to.taken)
 
 -- ---- the questions: 14, 15 and 16 in strict mode alone
 
-module _ (ks : List ℕ) where
-  pub given_only : one_of missing_end ks ≡ true → (q : Interval GAsked) → Only ks (given q)
+module _ (ks : List Refusal) where
+  pub given_only : one_of MissingEnd ks ≡ true → (q : Interval GAsked) → Only ks (given q)
   given_only m q = go q.from q.to
     where
       go : (a b : GAsked) → Only ks (given_ends a b)
-      go (at a) (at b) = record { only = tt }
-      go (at a) missing = record { only = m }
-      go missing b = record { only = m }
+      go (Some a) (Some b) = record { only = tt }
+      go (Some a) None = record { only = m }
+      go None b = record { only = m }
 
-  module _ (strict : Bool) (w : one_of too_wide ks ≡ true) where
-    ask_g_to_n_lem : (strict ≡ true → one_of outside ks ≡ true) → one_of no_genome ks ≡ true → one_of missing_end ks ≡ true → (q : Interval GAsked) (x : Source) → Only ks (ask_g_to_n strict q x)
+  module _ (strict : Bool) (w : one_of TooWide ks ≡ true) where
+    ask_g_to_n_lem : (strict ≡ true → one_of Outside ks ≡ true) → one_of NoGenome ks ≡ true → one_of MissingEnd ks ≡ true → (q : Interval GAsked) (x : Source) → Only ks (ask_g_to_n strict q x)
     unfolding ask_g_to_n
     ask_g_to_n_lem o n m q (aligned t) = only_then ks (given q) (map_g_to_n strict t) (given_only m q) (λ i e. g_to_n_only ks strict o w t i)
     ask_g_to_n_lem o n m q (length_only len c) = record { only = n }
 
-    ask_n_to_g_lem : (strict ≡ true → one_of outside ks ≡ true) → one_of no_genome ks ≡ true → (q : Interval NAsked) (x : Source) → Only ks (ask_n_to_g strict q x)
+    ask_n_to_g_lem : (strict ≡ true → one_of Outside ks ≡ true) → one_of NoGenome ks ≡ true → (q : Interval NAsked) (x : Source) → Only ks (ask_n_to_g strict q x)
     unfolding ask_n_to_g
     ask_n_to_g_lem o n q (aligned t) = n_to_g_only ks strict o w t q
     ask_n_to_g_lem o n q (length_only len c) = record { only = n }
 
-    ask_n_to_c_lem : one_of not_coding ks ≡ true → (strict ≡ true → one_of n_outside ks ≡ true) → (q : Interval NAsked) (x : Source) → Only ks (ask_n_to_c strict q x)
+    ask_n_to_c_lem : one_of NotCoding ks ≡ true → (strict ≡ true → one_of NOutside ks ≡ true) → (q : Interval NAsked) (x : Source) → Only ks (ask_n_to_c strict q x)
     unfolding ask_n_to_c
     ask_n_to_c_lem d o q x = n_to_c_only ks strict d o w (length_of x) (coding_of x) q
 
-    ask_c_to_n_lem : one_of not_coding ks ≡ true → (strict ≡ true → one_of c_outside ks ≡ true) → (q : Interval CAsked) (x : Source) → Only ks (ask_c_to_n strict q x)
+    ask_c_to_n_lem : one_of NotCoding ks ≡ true → (strict ≡ true → one_of COutside ks ≡ true) → (q : Interval CAsked) (x : Source) → Only ks (ask_c_to_n strict q x)
     unfolding ask_c_to_n
     ask_c_to_n_lem d o q x = c_to_n_only ks strict d o w (length_of x) (coding_of x) q
 
-    pub ask_g_to_c_lem : one_of not_coding ks ≡ true → (strict ≡ true → one_of outside ks ≡ true) → (strict ≡ true → one_of n_outside ks ≡ true) → one_of no_genome ks ≡ true → one_of missing_end ks ≡ true → (q : Interval GAsked) (x : Source) → Only ks (ask_g_to_c strict q x)
+    pub ask_g_to_c_lem : one_of NotCoding ks ≡ true → (strict ≡ true → one_of Outside ks ≡ true) → (strict ≡ true → one_of NOutside ks ≡ true) → one_of NoGenome ks ≡ true → one_of MissingEnd ks ≡ true → (q : Interval GAsked) (x : Source) → Only ks (ask_g_to_c strict q x)
     unfolding ask_g_to_c
     ask_g_to_c_lem d o u n m q x = only_chain ks asks_n (ask_g_to_n strict q x) (λ (i : Interval NAsked). ask_n_to_c strict i x) (ask_g_to_n_lem o n m q x) (λ a e. ask_n_to_c_lem d u (each asks_n a.interval) x)
 
-    ask_c_to_g_lem : one_of not_coding ks ≡ true → (strict ≡ true → one_of c_outside ks ≡ true) → one_of no_genome ks ≡ true → (q : Interval CAsked) (x : Source) → Only ks (ask_c_to_g strict q x)
+    ask_c_to_g_lem : one_of NotCoding ks ≡ true → (strict ≡ true → one_of COutside ks ≡ true) → one_of NoGenome ks ≡ true → (q : Interval CAsked) (x : Source) → Only ks (ask_c_to_g strict q x)
     unfolding ask_c_to_g ask_c_to_n ask_n_to_g
     ask_c_to_g_lem d o n q x = only_chain ks asks_n (ask_c_to_n strict q x) (λ (i : Interval NAsked). ask_n_to_g strict i x) (ask_c_to_n_lem d o q x) (second x)
       where
-        second : (y : Source) (a : Marked NPosition) → ask_c_to_n strict q y ≡ answered a → Only ks (ask_n_to_g strict (each asks_n a.interval) y)
+        second : (y : Source) (a : Marked NPosition) → ask_c_to_n strict q y ≡ Ok a → Only ks (ask_n_to_g strict (each asks_n a.interval) y)
         second (aligned t) a e =
             let len = transcript_length t in
             let (from, to) = c_to_n_taken len strict t.coding q a e in
             n_to_g_inside ks strict w t (each asks_n a.interval) (taken_inside len strict t.forward a.interval.from.base from) (taken_inside len strict t.forward a.interval.to.base to)
         second (length_only len c) a e = record { only = n }
 
-  ask_in_bounds_lem : one_of no_genome ks ≡ true → one_of missing_end ks ≡ true → (q : Interval GAsked) (x : Source) → Only ks (ask_in_bounds q x)
+  ask_in_bounds_lem : one_of NoGenome ks ≡ true → one_of MissingEnd ks ≡ true → (q : Interval GAsked) (x : Source) → Only ks (ask_in_bounds q x)
   unfolding ask_in_bounds
   ask_in_bounds_lem n m q (aligned t) = only_through ks (lies_in_bounds t.first (genome_length t)) (given q) (given_only m q)
   ask_in_bounds_lem n m q (length_only len c) = record { only = n }
 
   -- 23 comes before the question's own
-  pub checked_only : {A : Type 0} (x : Lent) (ask : Source → Outcome A) → one_of not_together ks ≡ true → ((y : Source) → Only ks (ask y)) → Only ks (checked x ask)
+  pub checked_only : {A : Type 0} (x : Lent) (ask : Source → Outcome A) → one_of NotTogether ks ≡ true → ((y : Source) → Only ks (ask y)) → Only ks (checked x ask)
   unfolding checked
-  checked_only x ask r o = only_if ks (holds x) not_together (ask (source_of x)) (o (source_of x)) (λ e. r)
+  checked_only x ask r o = only_if ks (holds x) NotTogether (ask (source_of x)) (o (source_of x)) (λ e. r)
 
 -- ---- the rows: of each question the refusals that it can give
 
-abbrev pub g_to_n_refusals : List ℕ
-g_to_n_refusals = outside ∷ too_wide ∷ no_genome ∷ missing_end ∷ not_together ∷ []
+abbrev pub g_to_n_refusals : List Refusal
+g_to_n_refusals = Outside ∷ TooWide ∷ NoGenome ∷ MissingEnd ∷ NotTogether ∷ []
 
-abbrev pub n_to_g_refusals : List ℕ
-n_to_g_refusals = outside ∷ too_wide ∷ no_genome ∷ not_together ∷ []
+abbrev pub n_to_g_refusals : List Refusal
+n_to_g_refusals = Outside ∷ TooWide ∷ NoGenome ∷ NotTogether ∷ []
 
-abbrev pub n_to_c_refusals : List ℕ
-n_to_c_refusals = not_coding ∷ n_outside ∷ too_wide ∷ not_together ∷ []
+abbrev pub n_to_c_refusals : List Refusal
+n_to_c_refusals = NotCoding ∷ NOutside ∷ TooWide ∷ NotTogether ∷ []
 
-abbrev pub c_to_n_refusals : List ℕ
-c_to_n_refusals = not_coding ∷ c_outside ∷ too_wide ∷ not_together ∷ []
+abbrev pub c_to_n_refusals : List Refusal
+c_to_n_refusals = NotCoding ∷ COutside ∷ TooWide ∷ NotTogether ∷ []
 
-abbrev pub g_to_c_refusals : List ℕ
-g_to_c_refusals = not_coding ∷ outside ∷ n_outside ∷ too_wide ∷ no_genome ∷ missing_end ∷ not_together ∷ []
+abbrev pub g_to_c_refusals : List Refusal
+g_to_c_refusals = NotCoding ∷ Outside ∷ NOutside ∷ TooWide ∷ NoGenome ∷ MissingEnd ∷ NotTogether ∷ []
 
 -- not 14: what strict c. to n. gives lies in the transcript
-abbrev pub c_to_g_refusals : List ℕ
-c_to_g_refusals = not_coding ∷ c_outside ∷ too_wide ∷ no_genome ∷ not_together ∷ []
+abbrev pub c_to_g_refusals : List Refusal
+c_to_g_refusals = NotCoding ∷ COutside ∷ TooWide ∷ NoGenome ∷ NotTogether ∷ []
 
-abbrev pub coding_refusals : List ℕ
-coding_refusals = not_together ∷ []
+abbrev pub coding_refusals : List Refusal
+coding_refusals = NotTogether ∷ []
 
-abbrev pub in_bounds_refusals : List ℕ
-in_bounds_refusals = no_genome ∷ missing_end ∷ not_together ∷ []
+abbrev pub in_bounds_refusals : List Refusal
+in_bounds_refusals = NoGenome ∷ MissingEnd ∷ NotTogether ∷ []
 
 -- what is left of a row in lenient mode: 14, 15 and 16 belong to strict mode
-abbrev pub lenient : List ℕ → List ℕ
+abbrev pub lenient : List Refusal → List Refusal
 lenient [] = []
-lenient (k ∷ ks) = cond (one_of k (outside ∷ n_outside ∷ c_outside ∷ [])) (lenient ks) (k ∷ lenient ks)
+lenient (k ∷ ks) = cond (one_of k (Outside ∷ NOutside ∷ COutside ∷ [])) (lenient ks) (k ∷ lenient ks)
 
 -- a row in strict mode, or in lenient mode
-abbrev pub in_mode : Bool → List ℕ → List ℕ
+abbrev pub in_mode : Bool → List Refusal → List Refusal
 in_mode strict ks = cond strict ks (lenient ks)
 
 -- in either mode the row has them
-lenient_in : (k : ℕ) (ks : List ℕ) → one_of k (lenient ks) ≡ true → one_of k ks ≡ true
+lenient_in : (k : Refusal) (ks : List Refusal) → one_of k (lenient ks) ≡ true → one_of k ks ≡ true
 lenient_in k [] h = h
-lenient_in k (x ∷ xs) h = by_test (eqb k x) (λ e. rw e) (λ e. rw e (lenient_in k xs (left e (one_of x (outside ∷ n_outside ∷ c_outside ∷ [])) h)))
+lenient_in k (x ∷ xs) h = by_test (eqb (number k) (number x)) (λ e. rw e) (λ e. rw e (lenient_in k xs (left e (one_of x (Outside ∷ NOutside ∷ COutside ∷ [])) h)))
   where
-    left : eqb k x ≡ false → (dropped : Bool) → one_of k (cond dropped (lenient xs) (x ∷ lenient xs)) ≡ true → one_of k (lenient xs) ≡ true
+    left : eqb (number k) (number x) ≡ false → (dropped : Bool) → one_of k (cond dropped (lenient xs) (x ∷ lenient xs)) ≡ true → one_of k (lenient xs) ≡ true
     left e true h = h
     left e false h = rw e at h
 
-pub in_row : {A : Type 0} (strict : Bool) (ks : List ℕ) (o : Outcome A) → Only (in_mode strict ks) o → Only ks o
+pub in_row : {A : Type 0} (strict : Bool) (ks : List Refusal) (o : Outcome A) → Only (in_mode strict ks) o → Only ks o
 in_row true ks o h = h
-in_row false ks (answered a) h = record { only = tt }
-in_row false ks (refused k) h = record { only = lenient_in k ks h.only }
+in_row false ks (Ok a) h = record { only = tt }
+in_row false ks (Err k) h = record { only = lenient_in k ks h.only }
 
 -- lenient mode is not strict
 not_strict : {X : Type 0} → false ≡ true → X

@@ -1,19 +1,10 @@
 -- Two stretches that overlap make one (`stretched`). Assumes nothing.
 use Rattle.std.proofs.Common.{◌&&◌, ◌∙◌, ap₂, arith}
-use Rattle.numbered.specs.laws.All.{from_start, stretched}
+use Rattle.numbered.specs.laws.All.{stretched}
 use Rattle.numbered.proofs.steps_hold.Goals as goal
-
-pub returns-then-to-lt4 : goal.returns-then-to-lt4
-returns-then-to-lt4 c = c.steps_in.ensures ∙ from_start _ _
-
-pub returns-then-to-lt8 : goal.returns-then-to-lt8
-returns-then-to-lt8 c = c.with_bits.ensures ∙ ap₂ ◌&&◌ c.steps_in-front.ensures c.steps_in-back.ensures ∙ stretched _ _ _ _ (omega arith) (omega arith)
 
 pub returns-then-to-lt16 : goal.returns-then-to-lt16
 returns-then-to-lt16 c = ap₂ ◌&&◌ c.stepped_in-front.ensures c.stepped_in-back.ensures ∙ stretched _ _ _ _ (omega arith) (omega arith)
 
-pub returns-then-to-lt32 : goal.returns-then-to-lt32
-returns-then-to-lt32 c = c.with_bits-then-to-lt32.ensures ∙ ap₂ ◌&&◌ c.steps_in-front-then-to-lt32.ensures c.steps_in-back-then-to-lt32.ensures ∙ stretched _ _ _ _ (omega arith) (omega arith)
-
 pub returns : goal.returns
-returns c = c.with_bits-2.ensures ∙ ap₂ ◌&&◌ c.steps_in-front-2.ensures c.steps_in-back-2.ensures ∙ stretched _ _ _ _ (omega arith) (omega arith)
+returns c = c.with_bits.ensures ∙ ap₂ ◌&&◌ c.steps_in-front.ensures c.steps_in-back.ensures ∙ stretched _ _ _ _ (omega arith) (omega arith)

@@ -8,7 +8,6 @@ use Rattle.spots.specs.Mapping.{turned}
 use Rattle.positions.specs.Paper.{paper_n_asked}
 use Rattle.spots.specs.laws.Spans.{g_answered, g_refused, t_inside}
 use Rattle.segments.specs.Tables.{tables}
-use Rattle.segments.specs.laws.Sizes.{wider}
 use Rattle.places.proofs.g_of_ends.Goals as goal
 use Rattle.places.proofs.g_of_ends.Tie as tie
 use Rattle.places.proofs.g_of_ends.Lts as lts
@@ -38,27 +37,6 @@ test_is c =
     let p = q.before in
     sym (simp (p.last-len.ensures, to_is q, from_is p) at c.are_inside.ensures)
 
--- two numbers with the same bits are one number
-pub returns-then-x-y : goal.returns-then-x-y
-returns-then-x-y c =
-    let u = c.before in
-    let o = u.before in
-    let y = o.before.before in
-    let x = y.before in
-    let a = x.args in
-    let first = told w32 a.a.base x.struct_told-1.given.0.1 in
-    let second = told w32 a.b.base y.struct_told-2-1.given.0.1 in
-    let bits = o.if-x-y.true in
-    let one : a.a.base ≡ a.b.base = cc in
-    rw (← one)
-    (simp (first, told w32 a.a.offset o.struct_told-then-x-y-1.given.1.0.1, told w32 a.b.offset u.struct_told-then-x-y-2-1.given.1.0.1) at c.g_of_one.ensures)
-
-pub chosen_exons-numbers-requires : goal.chosen_exons-numbers-requires
-chosen_exons-numbers-requires c =
-    let x = c.before.before in
-    let s = x.before.before.before.before.before.before.before.before.before in
-    (x.spot_of_n-start.ensures.small.1, c.spot_of_n-stop.ensures.small.1, s.requires.count_to)
-
 pub returns-then-are_inside : goal.returns-then-are_inside
 returns-then-are_inside c =
     let e = c.before.before.before in
@@ -81,6 +59,3 @@ returns c =
     let s = c.before.before.before.before.before.before.before.before in
     let a = s.args in
     sym (g_refused a.at _ _ s.requires a.strict (paper_n_asked a.a) (paper_n_asked a.b) (test_is c.before ∙ c.if-are_inside.false))
-
-pub g_answer-requires : goal.g_answer-requires
-g_answer-requires c = let y = c.before.before.before.before in (wider y.spot_of_n-start.ensures.small.0, wider y.spot_of_n-stop.ensures.small.0)

@@ -4,7 +4,6 @@ use Rattle.whole.specs.laws.Whole.{read}
 use Rattle.spots.specs.laws.Spans.{n_answered, n_refused, g_inside}
 use Rattle.spots.specs.Mapping.{place_of_g}
 use Rattle.segments.specs.Tables.{tables}
-use Rattle.segments.specs.laws.Sizes.{wider}
 use Rattle.places.proofs.to_n.Goals as goal
 use Rattle.places.proofs.to_n.Tie as tie
 use Rattle.places.proofs.to_n.Lts as lts
@@ -23,23 +22,6 @@ test_is : (c : lts.After-are_inside tie.the-claims tie.handed_pre tie.handed_pos
 test_is c =
     let q = c.before.before in
     sym (simp (c.last.ensures, to_is q, from_is q.before) at c.are_inside.ensures)
-
--- two numbers with the same bits are one number
-pub returns-then-from-to : goal.returns-then-from-to
-returns-then-from-to c =
-    let s = c.before.before in
-    let a = s.args in
-    let from = read s.ranges.from in
-    let to = read s.ranges.to in
-    let bits = c.if-from-to.true in
-    let one : a.from ≡ a.to = cc in
-    rw (← one) (simp from at c.one_to_n.ensures)
-
-pub found_exons-numbers-requires : goal.found_exons-numbers-requires
-found_exons-numbers-requires c =
-    let x = c.before in
-    let s = x.before.before.before.before.before.before.before in
-    (x.spot_of_g-a.ensures.small.1, c.spot_of_g-b.ensures.small.1, s.requires.count_to)
 
 pub returns-then-are_inside : goal.returns-then-are_inside
 returns-then-are_inside c =
@@ -60,9 +42,3 @@ returns c =
     let s = c.before.before.before.before.before.before in
     let a = s.args in
     sym (n_refused a.at _ _ s.requires a.strict a.from a.to (test_is c.before ∙ c.if-are_inside.false))
-
-pub last-requires-then-are_inside : goal.last-requires-then-are_inside
-last-requires-then-are_inside c = c.requires.count_to
-
-pub n_answer-requires : goal.n_answer-requires
-n_answer-requires c = let y = c.before.before in (wider y.spot_of_g-a.ensures.small.0, wider y.spot_of_g-b.ensures.small.0)

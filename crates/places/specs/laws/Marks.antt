@@ -3,8 +3,9 @@ use Rattle.std.specs.Prelude.{ℕ, Bool, not, ◌&&◌, ◌||◌, List, ◌≡�
 use Rattle.std.proofs.Math.Bool.{true, false, or_comm}
 use Rattle.std.proofs.Math.Path.{refl, subst}
 use Rattle.std.proofs.Common.{ap}
-use Rattle.refusals.specs.Numbers.{outside}
-use Rattle.refusals.specs.Outcome.{answered, refused}
+use Rattle.refusals.specs.declared.Refusal.{Refusal}
+use Rattle.refusals.specs.declared.Refusal.TheVariants.{Outside}
+use Rattle.refusals.specs.Outcome.{Ok, Err}
 use Rattle.refusals.specs.laws.Outcomes.{clash, same}
 use Rattle.whole.specs.laws.Whole.{by_test}
 use Rattle.numbering.specs.Numbers.{place_of_n}
@@ -60,8 +61,8 @@ mark_of_lem false true exons = refl
 mark_of_lem false false exons = refl
 
 -- an interval of two spots that passed a test
-spots_marked : {P : Type 0} (from to : Side) (es : List Element) (forward : Bool) (p q : ℤ) (test : Bool) (k : ℕ) (exons : Interval ℕ) (i : Interval P) (a : Marked P)
-    → (if test then answered (record { mark = mark_of ((map_place from to es p start forward).sure && (map_place from to es q stop forward).sure) exons; interval = i }) else refused k) ≡ answered a
+spots_marked : {P : Type 0} (from to : Side) (es : List Element) (forward : Bool) (p q : ℤ) (test : Bool) (k : Refusal) (exons : Interval ℕ) (i : Interval P) (a : Marked P)
+    → (if test then Ok (record { mark = mark_of ((map_place from to es p start forward).sure && (map_place from to es q stop forward).sure) exons; interval = i }) else Err k) ≡ Ok a
     → MarkedIf (fell from es p || fell from es q) a.mark
 spots_marked {P} from to es forward p q true k exons i a e =
     subst (MarkedIf (fell from es p || fell from es q)) (ap (λ (x : Marked P). x.mark) (same e))
@@ -78,18 +79,18 @@ abbrev pub n_fell : Transcript → ℤ → Bool
 n_fell t n = fell transcript t.elements (turned t.forward (transcript_length t) (place_of_n n))
 
 module _ (strict : Bool) (t : Transcript) where
-  pub g_to_n_marked : (i : Interval ℤ) (a : Marked NPosition) → map_g_to_n strict t i ≡ answered a → MarkedIf (g_fell t i.from || g_fell t i.to) a.mark
+  pub g_to_n_marked : (i : Interval ℤ) (a : Marked NPosition) → map_g_to_n strict t i ≡ Ok a → MarkedIf (g_fell t i.from || g_fell t i.to) a.mark
   unfolding map_g_to_n whole_n
   g_to_n_marked i a e =
       let p = place_of_g t.first i.from in
       let q = place_of_g t.first i.to in
-      spots_marked genome transcript t.elements t.forward p q (inside strict (genome_length t) p && inside strict (genome_length t) q) outside _ _ a (fitting_is n_fits (whole_n strict t i) a e)
+      spots_marked genome transcript t.elements t.forward p q (inside strict (genome_length t) p && inside strict (genome_length t) q) Outside _ _ a (fitting_is n_fits (whole_n strict t i) a e)
 
-  ends_marked : (u v : NAsked) (a : Marked GPosition) → g_of_ends strict t u v ≡ answered a → MarkedIf (n_fell t u.base || n_fell t v.base) a.mark
+  ends_marked : (u v : NAsked) (a : Marked GPosition) → g_of_ends strict t u v ≡ Ok a → MarkedIf (n_fell t u.base || n_fell t v.base) a.mark
   unfolding g_of_ends
-  ends_marked u v a e = spots_marked transcript genome t.elements true _ _ (n_inside strict t u && n_inside strict t v) outside _ _ a e
+  ends_marked u v a e = spots_marked transcript genome t.elements true _ _ (n_inside strict t u && n_inside strict t v) Outside _ _ a e
 
-  pub n_to_g_marked : (i : Interval NAsked) (a : Marked GPosition) → map_n_to_g strict t i ≡ answered a → MarkedIf (n_fell t i.from.base || n_fell t i.to.base) a.mark
+  pub n_to_g_marked : (i : Interval NAsked) (a : Marked GPosition) → map_n_to_g strict t i ≡ Ok a → MarkedIf (n_fell t i.from.base || n_fell t i.to.base) a.mark
   unfolding map_n_to_g
   n_to_g_marked i a e = subst (λ (gaps : Bool). MarkedIf gaps a.mark) (go t.forward) (ends_marked _ _ a (fitting_is g_fits _ a e))
     where

@@ -17,9 +17,9 @@ use Rattle.std.proofs.lemmas.Bool.{false≢true}
 use mathlib.Core.List.{List, [], ◌∷◌, ◌++◌, append_assoc}
 use Rattle.std.proofs.Math.ListN.{length, length-append}
 use borrow.Author.Tests.{eqb-true, eq-eqb, ne_eqb, le-ltb}
-use Rattle.refusals.specs.Numbers.{not_together}
-use Rattle.refusals.specs.Outcome.{Outcome, answered, refused, and_then, through}
-use Rattle.refusals.specs.Refusing.{one_of}
+use Rattle.refusals.specs.declared.Refusal.{Refusal}
+use Rattle.refusals.specs.declared.Refusal.TheVariants.{NotTogether}
+use Rattle.refusals.specs.Outcome.{Outcome, Ok, Err, and_then, through}
 use Rattle.refusals.specs.laws.Outcomes.{clash, same}
 use Rattle.whole.specs.Whole.{eq_z}
 use Rattle.whole.specs.laws.Whole.{by_test, both}
@@ -33,7 +33,7 @@ use Rattle.journal.specs.laws.LogTrips.{from_length, read_means}
 use Rattle.entries.specs.declared.Entry.{Entry}
 use Rattle.asking.specs.Asking.{asked, recorded}
 use Rattle.playback.specs.Lines.{line_of, lines_of, most_entries, all_lines, most_replay}
-use Rattle.playback.specs.Replay.{same_position, same_answer, differs, indices_from, differing, replay_text, replayed, roomed, replaying}
+use Rattle.playback.specs.Replay.{is_listed, same_position, same_answer, differs, indices_from, differing, replay_text, replayed, roomed, replaying}
 use Rattle.playback.specs.laws.Lines.{all_lines_next, all_lines_rise, all_lines_none, all_lines_few, line_short}
 
 -- ---- two answers
@@ -127,7 +127,7 @@ module _ (x : Lent) where
       (λ t. rw t (lower rest))
 
   -- no index below the first
-  none_below : (i j : ℕ) (es : List Entry) → j < i → one_of j (indices_from x i es) ≡ false
+  none_below : (i j : ℕ) (es : List Entry) → j < i → is_listed j (indices_from x i es) ≡ false
   unfolding indices_from
   none_below i j [] h = refl
   none_below i j (e ∷ es) h =
@@ -135,7 +135,7 @@ module _ (x : Lent) where
       (λ t. rw (t, ne_eqb j i (λ q. omega arith)) (none_below (i + 1) j es (omega arith)))
       (λ t. rw t (none_below (i + 1) j es (omega arith)))
 
-  pub listed_where : (i k : ℕ) (es : List Entry) (d : Entry) → k < length es → one_of (i + k) (indices_from x i es) ≡ differs x (get_or es k d)
+  pub listed_where : (i k : ℕ) (es : List Entry) (d : Entry) → k < length es → is_listed (i + k) (indices_from x i es) ≡ differs x (get_or es k d)
   unfolding indices_from
   listed_where i k [] d h = absurd (omega arith)
   listed_where i zero (e ∷ es) d h =
@@ -147,8 +147,8 @@ module _ (x : Lent) where
       by_test (differs x e)
       (λ t.
       rw (t, ne_eqb (i + suc k) i (λ q. omega arith))
-      (subst (λ (m : ℕ). one_of m (indices_from x (i + 1) es) ≡ differs x (get_or es k d)) (sym n) (listed_where (i + 1) k es d (omega arith))))
-      (λ t. rw t (subst (λ (m : ℕ). one_of m (indices_from x (i + 1) es) ≡ differs x (get_or es k d)) (sym n) (listed_where (i + 1) k es d (omega arith))))
+      (subst (λ (m : ℕ). is_listed m (indices_from x (i + 1) es) ≡ differs x (get_or es k d)) (sym n) (listed_where (i + 1) k es d (omega arith))))
+      (λ t. rw t (subst (λ (m : ℕ). is_listed m (indices_from x (i + 1) es) ≡ differs x (get_or es k d)) (sym n) (listed_where (i + 1) k es d (omega arith))))
 
   few_indices : (i : ℕ) (es : List Entry) → length (indices_from x i es) ≤ length es
   unfolding indices_from
@@ -184,20 +184,20 @@ nothing_written x r = ap replay_text (nothing_differs x _ r)
 -- ---- by what is lent and what is read
 
 module _ (x : Lent) (log : List ℕ) where
-  pub replay_broken : (room : ℕ) → holds x ≡ false → replaying x log room ≡ refused not_together
+  pub replay_broken : (room : ℕ) → holds x ≡ false → replaying x log room ≡ Err NotTogether
   unfolding replaying replayed checked
   replay_broken room h = rw h
 
   module _ (held : holds x ≡ true) where
-    pub replayed_answered : (es : List Entry) → read_log log ≡ answered es → replayed x log ≡ answered (replay_text (differing x es))
+    pub replayed_answered : (es : List Entry) → read_log log ≡ Ok es → replayed x log ≡ Ok (replay_text (differing x es))
     unfolding replayed checked
     replayed_answered es r = rw (held, r)
 
-    pub replay_answered : (room : ℕ) (es : List Entry) → read_log log ≡ answered es → replaying x log room ≡ roomed room (replay_text (differing x es))
+    pub replay_answered : (room : ℕ) (es : List Entry) → read_log log ≡ Ok es → replaying x log room ≡ roomed room (replay_text (differing x es))
     unfolding replaying
     replay_answered room es r = rw (replayed_answered es r)
 
-    pub replay_refused : (room k : ℕ) → read_log log ≡ refused k → replaying x log room ≡ refused k
+    pub replay_refused : (room : ℕ) (k : Refusal) → read_log log ≡ Err k → replaying x log room ≡ Err k
     unfolding replaying replayed checked
     replay_refused room k r = rw (held, r)
 
@@ -215,23 +215,23 @@ replay_short x es h =
     omega (arith, all_lines_few (length es) h, text_length (differing x es))
 
 -- a log that is read has few entries
-few_entries : (log : List ℕ) (es : List Entry) → read_log log ≡ answered es → length es ≤ most_entries
+few_entries : (log : List ℕ) (es : List Entry) → read_log log ≡ Ok es → length es ≤ most_entries
 few_entries log es e =
     let k = read_means log es e in
     omega (arith, k.few, k.headed.size_is, ap length k.are ∙ from_length _ log entries_at)
 
-pub replayed_short : (x : Lent) (log text : List ℕ) → replayed x log ≡ answered text → length text ≤ most_replay
+pub replayed_short : (x : Lent) (log text : List ℕ) → replayed x log ≡ Ok text → length text ≤ most_replay
 unfolding replayed checked
 replayed_short x log text e = by_test (holds x) (λ h. go (read_log log) refl (rw h at e)) (λ h. absurd (clash (rw h at e)))
   where
-    go : (o : Outcome (List Entry)) → read_log log ≡ o → through (λ (es : List Entry). replay_text (differing x es)) o ≡ answered text → length text ≤ most_replay
-    go (answered es) r q = rw (← same q) (replay_short x es (few_entries log es r))
-    go (refused k) r q = absurd (clash q)
+    go : (o : Outcome (List Entry)) → read_log log ≡ o → through (λ (es : List Entry). replay_text (differing x es)) o ≡ Ok text → length text ≤ most_replay
+    go (Ok es) r q = rw (← same q) (replay_short x es (few_entries log es r))
+    go (Err k) r q = absurd (clash q)
 
 pub replay_roomy : (x : Lent) (log : List ℕ) (room : ℕ) → most_replay ≤ room → replaying x log room ≡ replayed x log
 unfolding replaying
 replay_roomy x log room h = go (replayed x log) refl
   where
     go : (o : Outcome (List ℕ)) → replayed x log ≡ o → and_then o (roomed room) ≡ o
-    go (answered text) e = rw (le-ltb room (length text) (omega (arith, replayed_short x log text e)))
-    go (refused k) e = refl
+    go (Ok text) e = rw (le-ltb room (length text) (omega (arith, replayed_short x log text e)))
+    go (Err k) e = refl

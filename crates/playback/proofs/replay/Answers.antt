@@ -2,62 +2,48 @@
 -- Assumes nothing.
 use mathlib.Core.Path.{◌≡◌, refl, sym, ap, ◌∙◌}
 use mathlib.Core.Bool.{true}
-use mathlib.Core.List.{List}
-use Prim.Native.Nat.{ℕ}
 use lib.ListN.{length}
+use Rattle.std.proofs.lemmas.Result.{err_from_is_err_and}
 use Rattle.spelling.specs.Write.{written_answer, buffer_after}
 use Rattle.holding.specs.Holding.{Lent, lent, holds}
 use Rattle.journal.specs.Layout.{entries_at}
 use Rattle.journal.specs.Logs.{entries_from}
 use Rattle.playback.proofs.laws.Replay.{replay_broken, replay_answered, replay_refused}
-use Rattle.playback.proofs.Reading.{Reads, reads, refuses}
+use Rattle.playback.proofs.Reading.{reads, refuses}
 use Rattle.playback.proofs.replay.Goals as goal
-use Rattle.playback.proofs.replay.Tie as tie
-use Rattle.playback.proofs.replay.Lts as lts
+use Rattle.playback.proofs.replay.Goals.{Start, Else-not-is_held}
 
-abbrev lent_at : lts.Start tie.the-claims tie.handed_pre tie.handed_post tie.handed_clauses → Lent
+abbrev lent_at : Start → Lent
 lent_at s = lent s.args.head s.args.genome.now s.args.transcript.now s.args.letters.now s.args.exons.now
 
--- the transcript holds together
-module _ (c : lts.After-read_log tie.the-claims tie.handed_pre tie.handed_post tie.handed_clauses) where
-  abbrev start : lts.Start tie.the-claims tie.handed_pre tie.handed_post tie.handed_clauses
-  start = c.before.before.before.before.before
+held : (c : Else-not-is_held) → holds (lent c.args.head c.args.genome.now c.args.transcript.now c.args.letters.now c.args.exons.now) ≡ true
+held c = sym c.is_held.ensures ∙ c.if-not-is_held.false
 
-  abbrev log : List ℕ
-  log = start.args.log.now
-
-  held : holds (lent_at start) ≡ true
-  held = sym c.is_held.ensures ∙ c.if-is_held.true
-
--- the log is read
-module _ (c : lts.Past-After-known_told tie.the-claims tie.handed_pre tie.handed_post tie.handed_clauses) where
-  abbrev at_log : lts.After-read_log tie.the-claims tie.handed_pre tie.handed_post tie.handed_clauses
-  at_log = c.before
-
-  known : Reads (log at_log) c.in-Entries.count
-  known = reads (log at_log) c.in-Entries.count (sym at_log.read_log.ensures ∙ c.in-Entries.is)
+pub returns-then-not-is_held : goal.returns-then-not-is_held
+returns-then-not-is_held c =
+    let x = lent_at (goal.at.returns-then-not-is_held c).Start in
+    rw (replay_broken x c.args.log.now (length c.args.buffer.now) (sym c.is_held.ensures ∙ c.if-not-is_held.true)) record { value = refl; buffer_after = refl }
 
 pub list-requires : goal.list-requires
-list-requires c = ((known c.before.before).few, (known c.before.before).within)
+list-requires c =
+    let known = reads c.args.log.now c.in_ok-count.count (sym c.read_log.ensures ∙ c.in_ok-count.was) in
+    (known.few, known.within)
 
-pub returns-in-Entries : goal.returns-in-Entries
-returns-in-Entries c =
-    let k = c.before.before.before.before.before in
-    let l = at_log k in
-    let s = start l in
+pub returns : goal.returns
+returns c =
+    let a = c.args in
+    let log = a.log.now in
+    let x = lent_at (goal.at.returns c).Start in
+    let known = reads log c.in_ok-count.count (sym c.read_log.ensures ∙ c.in_ok-count.was) in
     let e = c.list.ensures in
-    let room = length s.args.buffer.now in
-    let same = replay_answered (lent_at s) (log l) (held l) room (entries_from k.in-Entries.count (log l) entries_at) (known k).read in
-    record { value = e.value ∙ sym (ap written_answer same); buffer_after = e.buffer_after ∙ sym (ap (buffer_after s.args.buffer.now) same) }
+    let same = replay_answered x log (held (goal.at.returns c).Else-not-is_held) (length a.buffer.now) (entries_from c.in_ok-count.count log entries_at) known.read in
+    record { value = e.value ∙ sym (ap written_answer same); buffer_after = e.buffer_after ∙ sym (ap (buffer_after a.buffer.now) same) }
 
-pub returns-in-Refused : goal.returns-in-Refused
-returns-in-Refused c =
-    let k = c.in-Refused in
-    let l = c.before.before in
-    let s = start l in
-    rw (replay_refused (lent_at s) (log l) (held l) (length s.args.buffer.now) k.k (refuses (log l) k.k (sym l.read_log.ensures ∙ k.is))) record { value = refl; buffer_after = refl }
-
-pub returns-else-is_held : goal.returns-else-is_held
-returns-else-is_held c =
-    let s = c.before.before.before.before.before in
-    rw (replay_broken (lent_at s) s.args.log.now (length s.args.buffer.now) (sym c.is_held.ensures ∙ c.if-is_held.false)) record { value = refl; buffer_after = refl }
+pub returns-in_err-count : goal.returns-in_err-count
+returns-in_err-count c =
+    let a = c.args in
+    let log = a.log.now in
+    let x = lent_at (goal.at.returns-in_err-count c).Start in
+    let p = err_from_is_err_and c.from_residual.result c.from_residual.ensures.1 in
+    let said = refuses log _ (sym c.read_log.ensures ∙ c.in_err-count.was) in
+    rw (p.1, p.2, replay_refused x log (held (goal.at.returns-in_err-count c).Else-not-is_held) (length a.buffer.now) _ said) record { value = refl; buffer_after = refl }

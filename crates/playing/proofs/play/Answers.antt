@@ -5,6 +5,7 @@ use mathlib.Core.List.{List}
 use Prim.Native.Nat.{ℕ}
 use native.Mathlib.Omega.{arith}
 use lib.ListN.{length}
+use Rattle.refusals.specs.Numbers.{number}
 use Rattle.refusals.specs.Outcome.{Outcome}
 use Rattle.cigar.specs.Lent.{at_front}
 use Rattle.spelling.specs.Write.{written_answer, buffer_after}
@@ -43,10 +44,10 @@ module _ (c : lts.Past-After-known_told tie.the-claims tie.handed_pre tie.handed
   text = (entry call).args.text.now
 
   abbrev head : Head
-  head = c.in-Transcript.head
+  head = c.in-Ok.head
 
   makes_head : Makes (judge_card card) head
-  makes_head = makes (judge_card card) head (sym call.build_card.ensures.value ∙ c.in-Transcript.is)
+  makes_head = makes (judge_card card) head (sym call.build_card.ensures.value ∙ c.in-Ok.is)
 
   abbrev left : Lent
   left = lent head call.build_card.new.genome call.build_card.new.transcript call.build_card.new.letters call.build_card.new.exons
@@ -62,11 +63,11 @@ module _ (c : lts.Past-After-known_told tie.the-claims tie.handed_pre tie.handed
       ∙ replay_roomy (lent_by makes_head.made) log (length text) (entry call).requires
       ∙ sym (played_made card log makes_head.made makes_head.judged)
 
-pub returns-in-Text : goal.returns-in-Text
-returns-in-Text c =
+pub returns-in-Ok-replay : goal.returns-in-Ok-replay
+returns-in-Ok-replay c =
     let h = c.before.before.before.before.before.before in
     let r = c.replay.ensures in
-    let n = c.in-Text in
+    let n = c.in-Ok-replay in
     let t = text_is (played (card h) (log h)) n.n (sym (ap written_answer (played_is h)) ∙ sym r.value ∙ n.is) in
     let short = replayed_short (lent_by (makes_head h).made) (log h) t.text (sym (played_made (card h) (log h) (makes_head h).made (makes_head h).judged) ∙ t.outcome) in record {
       value = t.size ∙ sym (ap (λ (o : Outcome (List ℕ)). length (played_text o)) t.outcome);
@@ -78,24 +79,24 @@ returns-in-Text c =
       exons_after = (call h).build_card.ensures.exons_after;
     }
 
-pub returns-in-Refused-replay : goal.returns-in-Refused-replay
-returns-in-Refused-replay c =
+pub returns-in-Err-replay : goal.returns-in-Err-replay
+returns-in-Err-replay c =
     let h = c.before.before.before.before.before.before.before.before.before.before in
     let r = c.replay.ensures in
-    let k = c.in-Refused-replay in
+    let k = c.in-Err-replay in
     let p = c.put_refusal.ensures in
     let o = refused_is (played (card h) (log h)) k.k (sym (ap written_answer (played_is h)) ∙ sym r.value ∙ k.is) in
     let kept = r.buffer_after ∙ ap (buffer_after (text h)) (played_is h ∙ o) in
-    let put : Put (text h) c.put_refusal.new.buffer 0 c.put_refusal.result (refusal_text k.k) = rw kept at p.put in
+    let put : Put (text h) c.put_refusal.new.buffer 0 c.put_refusal.result (refusal_text (number k.k)) = rw kept at p.put in
     let w = put_front (put_as (sym (ap played_text o)) put) (omega (arith, p.within, (entry (call h)).requires)) in
     record { value = w.0; within = omega (arith, p.within); text_after = w.1; letters_after = (call h).build_card.ensures.letters_after; exons_after = (call h).build_card.ensures.exons_after }
 
-pub returns-in-Refused : goal.returns-in-Refused
-returns-in-Refused c =
+pub returns-in-Err : goal.returns-in-Err
+returns-in-Err c =
     let b = c.before.before.before.before.before.before in
     let a = (entry b).args in
-    let k = c.in-Refused in
-    let p = c.put_refusal-in-Refused.ensures in
+    let k = c.in-Err in
+    let p = c.put_refusal-in-Err.ensures in
     let o = played_refused a.card.now a.log.now k.k (refuses (judge_card a.card.now) k.k (sym b.build_card.ensures.value ∙ k.is)) in
     let w = put_front (put_as (sym (ap played_text o)) p.put) (omega (arith, p.within, (entry b).requires)) in
     record { value = w.0; within = omega (arith, p.within); text_after = w.1; letters_after = b.build_card.ensures.letters_after; exons_after = b.build_card.ensures.exons_after }

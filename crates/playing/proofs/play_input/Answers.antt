@@ -14,20 +14,20 @@ use Rattle.building.specs.Afterwards.{tables_after, exons_after}
 use Rattle.card.specs.laws.Putting.{put_as, put_front}
 use Rattle.playing.specs.Played.{played, played_text, card_to, input_played}
 use Rattle.playing.specs.laws.Played.{input_made_lem, input_played_lem, no_input_made, no_input_played}
-use Rattle.playing.proofs.CardEnds.{Ends, ends, cut}
+use Rattle.playing.proofs.CardEnds.{Ends, ends}
 use Rattle.playing.proofs.play_input.Goals as goal
-use Rattle.playing.proofs.play_input.Goals.{In-At}
+use Rattle.playing.proofs.play_input.Goals.{In-Ok}
 
 -- the card is there
-module _ (c : In-At) where
+module _ (c : In-Ok) where
   abbrev input : List ℕ
   input = c.args.input.now
 
   abbrev to : ℕ
-  to = c.in-At.to
+  to = c.in-Ok.to
 
   there : Ends input to
-  there = ends input to (sym c.card_end.ensures ∙ c.in-At.is)
+  there = ends input to (sym c.card_end.ensures ∙ c.in-Ok.is)
 
   played_is : played (card_to input to) (take (length input - to) (drop to input)) ≡ input_played input
   played_is =
@@ -36,41 +36,41 @@ module _ (c : In-At) where
 
 pub slice_bounds-play-count : goal.slice_bounds-play-count
 slice_bounds-play-count c =
-    let here = (goal.at.slice_bounds-play-count c).In-At in
+    let here = (goal.at.slice_bounds-play-count c).In-Ok in
     omega (arith, (there here).after, (there here).within)
 
 pub slice_bounds-play-start : goal.slice_bounds-play-start
 slice_bounds-play-start c =
-    let here = (goal.at.slice_bounds-play-start c).In-At in
+    let here = (goal.at.slice_bounds-play-start c).In-Ok in
     omega (arith, (there here).after, (there here).within)
 
 pub slice_bounds-play-end : goal.slice_bounds-play-end
 slice_bounds-play-end c =
-    let here = (goal.at.slice_bounds-play-end c).In-At in
+    let here = (goal.at.slice_bounds-play-end c).In-Ok in
     omega (arith, (there here).after, (there here).within)
 
-pub slice_bounds-play-count-in-At : goal.slice_bounds-play-count-in-At
-slice_bounds-play-count-in-At c =
-    let here = (goal.at.slice_bounds-play-count-in-At c).In-At in
+pub slice_bounds-play-count-in-Ok : goal.slice_bounds-play-count-in-Ok
+slice_bounds-play-count-in-Ok c =
+    let here = (goal.at.slice_bounds-play-count-in-Ok c).In-Ok in
     omega (arith, (there here).after, (there here).within)
 
-pub slice_bounds-play-start-in-At : goal.slice_bounds-play-start-in-At
-slice_bounds-play-start-in-At c =
-    let here = (goal.at.slice_bounds-play-start-in-At c).In-At in
+pub slice_bounds-play-start-in-Ok : goal.slice_bounds-play-start-in-Ok
+slice_bounds-play-start-in-Ok c =
+    let here = (goal.at.slice_bounds-play-start-in-Ok c).In-Ok in
     omega (arith, (there here).after, (there here).within)
 
-pub returns-in-At : goal.returns-in-At
-returns-in-At c =
-    let here = (goal.at.returns-in-At c).In-At in
+pub returns-in-Ok : goal.returns-in-Ok
+returns-in-Ok c =
+    let here = (goal.at.returns-in-Ok c).In-Ok in
     let a = c.args in
     let e = c.play.ensures in
     let made = sym (input_made_lem (input here) (to here) (there here).outcome) in record { value = e.value ∙ ap (λ (o : Outcome (List ℕ)). length (played_text o)) (played_is here); within = e.within; text_after = e.text_after ∙ ap (λ (o : Outcome (List ℕ)). at_front (played_text o) a.text.now) (played_is here); letters_after = e.letters_after ∙ ap (λ (j : Outcome Made). tables_after j (tables a.genome.now a.transcript.now a.letters.now)) made; exons_after = e.exons_after ∙ ap (λ (j : Outcome Made). exons_after j a.exons.now) made }
 
-pub returns-in-Refused : goal.returns-in-Refused
-returns-in-Refused c =
+pub returns-in-Err : goal.returns-in-Err
+returns-in-Err c =
     let a = c.args in
-    let k = c.in-Refused in
+    let k = c.in-Err in
     let p = c.put_refusal.ensures in
-    let o = cut a.input.now k.k (sym c.card_end.ensures ∙ k.is) in
+    let o = sym c.card_end.ensures ∙ k.is in
     let made = no_input_made a.input.now k.k o in
     let w = put_front (put_as (sym (ap played_text (no_input_played a.input.now k.k o))) p.put) (omega (arith, p.within, c.requires)) in record { value = w.0; within = omega (arith, p.within); text_after = w.1; letters_after = sym (ap (λ (j : Outcome Made). tables_after j (tables a.genome.now a.transcript.now a.letters.now)) made); exons_after = sym (ap (λ (j : Outcome Made). exons_after j a.exons.now) made) }

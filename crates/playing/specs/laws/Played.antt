@@ -4,9 +4,10 @@
 --     made_holds    what a card makes holds together, so 23 is never written
 --     played_same   a log whose entries were all recorded on the transcript of a card is played as `0` and a newline
 -- Assumes nothing.
+use Rattle.refusals.specs.declared.Refusal.{Refusal}
 use Rattle.std.specs.Prelude.{ℕ, ◌≡◌, true, List, [], ◌∷◌, drop}
 use Rattle.std.proofs.Common.{ap, ◌∙◌}
-use Rattle.refusals.specs.Outcome.{answered, refused}
+use Rattle.refusals.specs.Outcome.{Ok, Err}
 use Rattle.holding.specs.Holding.{holds}
 use Rattle.judging.specs.Judging.{Made}
 use Rattle.building.proofs.laws.Standing.{built_holds}
@@ -21,41 +22,41 @@ use Rattle.playback.proofs.laws.Replay.{AllRecorded, replayed_answered, nothing_
 -- ---- by what the card makes
 
 module _ (card log : List ℕ) where
-  pub played_made : (m : Made) → judge_card card ≡ answered m → played card log ≡ replayed (lent_by m) log
+  pub played_made : (m : Made) → judge_card card ≡ Ok m → played card log ≡ replayed (lent_by m) log
   unfolding played
   played_made m e = rw e
 
-  pub played_refused : (k : ℕ) → judge_card card ≡ refused k → played card log ≡ refused k
+  pub played_refused : (k : Refusal) → judge_card card ≡ Err k → played card log ≡ Err k
   unfolding played
   played_refused k e = rw e
 
 -- ---- by where the card of an input ends
 
 module _ (s : List ℕ) where
-  pub input_made_lem : (to : ℕ) → card_end s ≡ answered to → input_made s ≡ judge_card (card_to s to)
+  pub input_made_lem : (to : ℕ) → card_end s ≡ Ok to → input_made s ≡ judge_card (card_to s to)
   unfolding input_made
   input_made_lem to e = rw e
 
-  pub input_played_lem : (to : ℕ) → card_end s ≡ answered to → input_played s ≡ played (card_to s to) (drop to s)
+  pub input_played_lem : (to : ℕ) → card_end s ≡ Ok to → input_played s ≡ played (card_to s to) (drop to s)
   unfolding input_played
   input_played_lem to e = rw e
 
-  pub no_input_made : (k : ℕ) → card_end s ≡ refused k → input_made s ≡ refused k
+  pub no_input_made : (k : Refusal) → card_end s ≡ Err k → input_made s ≡ Err k
   unfolding input_made
   no_input_made k e = rw e
 
-  pub no_input_played : (k : ℕ) → card_end s ≡ refused k → input_played s ≡ refused k
+  pub no_input_played : (k : Refusal) → card_end s ≡ Err k → input_played s ≡ Err k
   unfolding input_played
   no_input_played k e = rw e
 
 -- ---- the card that made the log
 
-module _ (card : List ℕ) (m : Made) (taken : judge_card card ≡ answered m) where
+module _ (card : List ℕ) (m : Made) (taken : judge_card card ≡ Ok m) where
   pub made_holds : holds (lent_by m) ≡ true
   made_holds = built_holds m (card_sane card m taken)
 
-  pub played_same : (log : List ℕ) (es : List Entry) → read_log log ≡ answered es → AllRecorded (lent_by m) es → played card log ≡ answered (48 ∷ 10 ∷ [])
+  pub played_same : (log : List ℕ) (es : List Entry) → read_log log ≡ Ok es → AllRecorded (lent_by m) es → played card log ≡ Ok (48 ∷ 10 ∷ [])
   played_same log es read recorded =
       played_made card log m taken
       ∙ replayed_answered (lent_by m) log made_holds es read
-      ∙ ap answered (nothing_written (lent_by m) recorded)
+      ∙ ap Ok (nothing_written (lent_by m) recorded)

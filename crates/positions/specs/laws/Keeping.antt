@@ -1,24 +1,25 @@
 -- A strict answer is also the lenient answer: the steps of an answer. Assumes nothing.
-use Rattle.std.specs.Prelude.{ℕ, Bool, true, false, if◌then◌else◌}
-use Rattle.refusals.specs.Outcome.{Outcome, refused}
+use Rattle.refusals.specs.declared.Refusal.{Refusal}
+use Rattle.std.specs.Prelude.{Bool, true, false, if◌then◌else◌}
+use Rattle.refusals.specs.Outcome.{Outcome, Err}
 use Rattle.refusals.specs.Refusing.{Kept}
 use Rattle.refusals.specs.laws.Keeping.{kept_same, kept_through, kept_both, kept_then}
 use Rattle.positions.specs.Positions.{Interval, each}
 use Rattle.positions.specs.Answers.{Mark, Answer, ends, after, chain, fitting}
 
 -- a test that strict mode alone makes: a refusal where it fails, and where it passes
-pub kept_if : {A : Type 0} (test : Bool) (k : ℕ) (o : Outcome A) → Kept (if test then o else refused k) o
+pub kept_if : {A : Type 0} (test : Bool) (k : Refusal) (o : Outcome A) → Kept (if test then o else Err k) o
 kept_if true k o = kept_same o
 kept_if false k o = record { kept = λ h. absurd h }
 
-pub kept_unless : {A : Type 0} (test : Bool) (k : ℕ) (o : Outcome A) → Kept (if test then refused k else o) o
+pub kept_unless : {A : Type 0} (test : Bool) (k : Refusal) (o : Outcome A) → Kept (if test then Err k else o) o
 kept_unless true k o = record { kept = λ h. absurd h }
 kept_unless false k o = kept_same o
 
 -- a test that both modes make
-pub kept_under : {A : Type 0} (test : Bool) (k : ℕ) (o q : Outcome A) → Kept o q → Kept (if test then o else refused k) (if test then q else refused k)
+pub kept_under : {A : Type 0} (test : Bool) (k : Refusal) (o q : Outcome A) → Kept o q → Kept (if test then o else Err k) (if test then q else Err k)
 kept_under true k o q h = h
-kept_under false k o q h = kept_same (refused k)
+kept_under false k o q h = kept_same (Err k)
 
 pub kept_fitting : {P : Type 0} (fit : P → Bool) (a b : Answer P) → Kept a b → Kept (fitting fit a) (fitting fit b)
 kept_fitting fit a b k = kept_then a b _ _ k (λ x. kept_same _)

@@ -1,20 +1,15 @@
 -- Two answers that a contract allows are equal: what an answer says in the paper's terms says all of it. Assumes nothing.
 use Rattle.std.specs.Prelude.{ℕ, ◌≡◌, refl, Bool, true, false}
 use Rattle.std.proofs.Common.{sym, ap, ◌∙◌}
-use Rattle.refusals.specs.Outcome.{Outcome, answered, refused}
-use Rattle.positions.specs.Positions.{Interval, GPosition, NPosition, CPosition}
-use Rattle.positions.specs.Answers.{Mark, certain, uncertain, unmarked, Answer}
-use Rattle.positions.specs.Paper.{paper_g, paper_n, paper_c, paper_n_plain, paper_c_plain, paper_said}
-use Rattle.positions.specs.declared.Exons as code_exons
-use Rattle.positions.specs.declared.GInterval as code_g
-use Rattle.positions.specs.declared.NInterval as code_n
-use Rattle.positions.specs.declared.CInterval as code_c
-use Rattle.positions.specs.declared.GAnswer as code_g_answer
-use Rattle.positions.specs.declared.NAnswer as code_n_answer
-use Rattle.positions.specs.declared.CAnswer as code_c_answer
-use Rattle.positions.specs.declared.NPlain as code_n_plain
-use Rattle.positions.specs.declared.CPlain as code_c_plain
-use Rattle.positions.specs.declared.Said as code_said
+use Rattle.refusals.specs.Outcome.{Outcome, Ok, Err, through}
+use Rattle.positions.specs.Positions.{Interval, each, GPosition, NPosition, CPosition}
+use Rattle.positions.specs.Answers.{Mark, certain, uncertain, unmarked, exons_of, mark_of, Answer}
+use Rattle.positions.specs.Answers as paper
+use Rattle.positions.specs.Paper.{paper_marked, paper_unmarked, paper_g_position, paper_n_position, paper_c_position, paper_g, paper_n, paper_c, paper_n_plain, paper_c_plain}
+use Rattle.positions.specs.declared.GPosition as code_g
+use Rattle.positions.specs.declared.NPosition as code_n
+use Rattle.positions.specs.declared.CPosition as code_c
+use Rattle.positions.specs.declared.Marked.{Marked}
 
 -- a reading that can be undone reads no two values alike
 undone : {A B : Type 0} (read : A → B) (back : B → A) → ((a : A) → back (read a) ≡ a) → (x : B) (a b : A) → read a ≡ x → read b ≡ x → a ≡ b
@@ -22,87 +17,62 @@ undone read back is x a b e f = sym (is a) ∙ ap back (e ∙ sym f) ∙ is b
 
 -- ---- back from the paper's terms
 
-abbrev back_g : Interval GPosition → code_g.GInterval
-back_g i = record { from = record { base = i.from.base }; to = record { base = i.to.base } }
+abbrev back_g : GPosition → code_g.GPosition
+back_g a = record { base = a.base }
 
-abbrev back_n : Interval NPosition → code_n.NInterval
-back_n i = record { from = record { base = i.from.base; offset = i.from.offset }; to = record { base = i.to.base; offset = i.to.offset } }
+abbrev back_n : NPosition → code_n.NPosition
+back_n a = record { base = a.base; offset = a.offset }
 
-abbrev back_c : Interval CPosition → code_c.CInterval
-back_c i =
-    record {
-      from = record { base = i.from.base.0; star = i.from.base.1; offset = i.from.offset };
-      to = record { base = i.to.base.0; star = i.to.base.1; offset = i.to.offset };
-    }
+abbrev back_c : CPosition → code_c.CPosition
+back_c a = record { base = a.base.0; star = a.base.1; offset = a.offset }
 
-abbrev back_exons : Interval ℕ → code_exons.Exons
-back_exons i = record { from = i.from; to = i.to }
+abbrev is_certain : Mark → Bool
+is_certain (certain exons) = true
+is_certain (uncertain exons) = false
+is_certain unmarked = false
 
--- the variant of a mark, with its numbers; an answer that bears none is not one of these
-abbrev variant : {I A : Type 0} → Mark → (I → code_exons.Exons → A) → (I → code_exons.Exons → A) → I → A
-variant (certain exons) sure unsure i = sure i (back_exons exons)
-variant (uncertain exons) sure unsure i = unsure i (back_exons exons)
-variant unmarked sure unsure i = sure i (record { from = 0; to = 0 })
+abbrev back_marked : {C P : Type 0} → (P → C) → paper.Marked P → Marked C
+back_marked back a = record { certain = is_certain a.mark; exons = exons_of a.mark; interval = each back a.interval }
 
--- an answer of an enum whose variants are these, with its interval taken back
-abbrev back : {P I A : Type 0} → (I → code_exons.Exons → A) → (I → code_exons.Exons → A) → (ℕ → A) → (Interval P → I) → Answer P → A
-back sure unsure refusal interval (answered a) = variant a.mark sure unsure (interval a.interval)
-back sure unsure refusal interval (refused k) = refusal k
+-- what one position says is undone by `back`, so what an answer of such positions says is
+module _ {C P : Type 0} (says : C → P) (back : P → C) (is : (a : C) → back (says a) ≡ a) where
+  interval_is : (i : Interval C) → each back (each says i) ≡ i
+  interval_is i = rw (is i.from, is i.to)
 
--- the same where no variant bears a mark
-abbrev back_plain : {P I A : Type 0} → (I → A) → (ℕ → A) → (Interval P → I) → Answer P → A
-back_plain told refusal interval (answered a) = told (interval a.interval)
-back_plain told refusal interval (refused k) = refusal k
+  mark_is : (sure : Bool) (exons : Interval ℕ) → (is_certain (mark_of sure exons) ≡ sure) × (exons_of (mark_of sure exons) ≡ exons)
+  mark_is true exons = (refl, refl)
+  mark_is false exons = (refl, refl)
 
-abbrev back_said : Outcome Bool → code_said.Said
-back_said (answered true) = code_said.TheVariants.Yes
-back_said (answered false) = code_said.TheVariants.No
-back_said (refused k) = code_said.TheVariants.Refused k
+  marked_is : (a : Outcome (Marked C)) → through (back_marked back) (through (paper_marked says) a) ≡ a
+  marked_is (Ok m) = let (sure, exons) = mark_is m.certain m.exons in rw (sure, exons, interval_is m.interval)
+  marked_is (Err k) = refl
 
--- ---- of each kind of answer, two that say the same are the same
+  marked_same : (x : Answer P) (a b : Outcome (Marked C)) → through (paper_marked says) a ≡ x → through (paper_marked says) b ≡ x → a ≡ b
+  marked_same = undone (through (paper_marked says)) (through (back_marked back)) marked_is
 
-pub g_same : (x : Answer GPosition) (a b : code_g_answer.GAnswer) → paper_g a ≡ x → paper_g b ≡ x → a ≡ b
-g_same = undone paper_g (back code_g_answer.TheVariants.Certain code_g_answer.TheVariants.Uncertain code_g_answer.TheVariants.Refused back_g) is
-  where
-    is : (a : code_g_answer.GAnswer) → back code_g_answer.TheVariants.Certain code_g_answer.TheVariants.Uncertain code_g_answer.TheVariants.Refused back_g (paper_g a) ≡ a
-    is (code_g_answer.TheVariants.Certain i exons) = refl
-    is (code_g_answer.TheVariants.Uncertain i exons) = refl
-    is (code_g_answer.TheVariants.Refused k) = refl
+  unmarked_is : (a : Outcome (Interval C)) → through (λ (m : paper.Marked P). each back m.interval) (through (paper_unmarked says) a) ≡ a
+  unmarked_is (Ok i) = rw (interval_is i)
+  unmarked_is (Err k) = refl
 
-pub n_same : (x : Answer NPosition) (a b : code_n_answer.NAnswer) → paper_n a ≡ x → paper_n b ≡ x → a ≡ b
-n_same = undone paper_n (back code_n_answer.TheVariants.Certain code_n_answer.TheVariants.Uncertain code_n_answer.TheVariants.Refused back_n) is
-  where
-    is : (a : code_n_answer.NAnswer) → back code_n_answer.TheVariants.Certain code_n_answer.TheVariants.Uncertain code_n_answer.TheVariants.Refused back_n (paper_n a) ≡ a
-    is (code_n_answer.TheVariants.Certain i exons) = refl
-    is (code_n_answer.TheVariants.Uncertain i exons) = refl
-    is (code_n_answer.TheVariants.Refused k) = refl
+  unmarked_same : (x : Answer P) (a b : Outcome (Interval C)) → through (paper_unmarked says) a ≡ x → through (paper_unmarked says) b ≡ x → a ≡ b
+  unmarked_same = undone (through (paper_unmarked says)) (through (λ (m : paper.Marked P). each back m.interval)) unmarked_is
 
-pub c_same : (x : Answer CPosition) (a b : code_c_answer.CAnswer) → paper_c a ≡ x → paper_c b ≡ x → a ≡ b
-c_same = undone paper_c (back code_c_answer.TheVariants.Certain code_c_answer.TheVariants.Uncertain code_c_answer.TheVariants.Refused back_c) is
-  where
-    is : (a : code_c_answer.CAnswer) → back code_c_answer.TheVariants.Certain code_c_answer.TheVariants.Uncertain code_c_answer.TheVariants.Refused back_c (paper_c a) ≡ a
-    is (code_c_answer.TheVariants.Certain i exons) = refl
-    is (code_c_answer.TheVariants.Uncertain i exons) = refl
-    is (code_c_answer.TheVariants.Refused k) = refl
+-- ---- of each kind of answer, two that say the same are the same; a yes or a no is its own reading
 
-pub n_plain_same : (x : Answer NPosition) (a b : code_n_plain.NPlain) → paper_n_plain a ≡ x → paper_n_plain b ≡ x → a ≡ b
-n_plain_same = undone paper_n_plain (back_plain code_n_plain.TheVariants.Told code_n_plain.TheVariants.Refused back_n) is
-  where
-    is : (a : code_n_plain.NPlain) → back_plain code_n_plain.TheVariants.Told code_n_plain.TheVariants.Refused back_n (paper_n_plain a) ≡ a
-    is (code_n_plain.TheVariants.Told i) = refl
-    is (code_n_plain.TheVariants.Refused k) = refl
+pub g_same : (x : Answer GPosition) (a b : Outcome (Marked code_g.GPosition)) → paper_g a ≡ x → paper_g b ≡ x → a ≡ b
+g_same = marked_same paper_g_position back_g (λ a. refl)
 
-pub c_plain_same : (x : Answer CPosition) (a b : code_c_plain.CPlain) → paper_c_plain a ≡ x → paper_c_plain b ≡ x → a ≡ b
-c_plain_same = undone paper_c_plain (back_plain code_c_plain.TheVariants.Told code_c_plain.TheVariants.Refused back_c) is
-  where
-    is : (a : code_c_plain.CPlain) → back_plain code_c_plain.TheVariants.Told code_c_plain.TheVariants.Refused back_c (paper_c_plain a) ≡ a
-    is (code_c_plain.TheVariants.Told i) = refl
-    is (code_c_plain.TheVariants.Refused k) = refl
+pub n_same : (x : Answer NPosition) (a b : Outcome (Marked code_n.NPosition)) → paper_n a ≡ x → paper_n b ≡ x → a ≡ b
+n_same = marked_same paper_n_position back_n (λ a. refl)
 
-pub said_same : (x : Outcome Bool) (a b : code_said.Said) → paper_said a ≡ x → paper_said b ≡ x → a ≡ b
-said_same = undone paper_said back_said is
-  where
-    is : (a : code_said.Said) → back_said (paper_said a) ≡ a
-    is code_said.TheVariants.Yes = refl
-    is code_said.TheVariants.No = refl
-    is (code_said.TheVariants.Refused k) = refl
+pub c_same : (x : Answer CPosition) (a b : Outcome (Marked code_c.CPosition)) → paper_c a ≡ x → paper_c b ≡ x → a ≡ b
+c_same = marked_same paper_c_position back_c (λ a. refl)
+
+pub n_plain_same : (x : Answer NPosition) (a b : Outcome (Interval code_n.NPosition)) → paper_n_plain a ≡ x → paper_n_plain b ≡ x → a ≡ b
+n_plain_same = unmarked_same paper_n_position back_n (λ a. refl)
+
+pub c_plain_same : (x : Answer CPosition) (a b : Outcome (Interval code_c.CPosition)) → paper_c_plain a ≡ x → paper_c_plain b ≡ x → a ≡ b
+c_plain_same = unmarked_same paper_c_position back_c (λ a. refl)
+
+pub said_same : (x a b : Outcome Bool) → a ≡ x → b ≡ x → a ≡ b
+said_same x a b e f = e ∙ sym f

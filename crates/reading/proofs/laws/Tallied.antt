@@ -1,10 +1,11 @@
 -- The records are tallied one by one: from the sums up to a record, the tally of the rest. Assumes nothing.
+use Rattle.refusals.specs.declared.Refusal.{Refusal}
 use Rattle.std.proofs.Math.Path.{◌≡◌, sym, ap, ap₂}
 use Rattle.std.specs.Prelude.{refl, Bool, true, false, List, [], ◌∷◌, ◌++◌, ℕ, ◌+◌, ◌-◌, ◌<◌}
 use Rattle.std.proofs.Common.{◌∙◌, arith, length-append}
 use Rattle.std.proofs.Math.ListN.{length}
 use Rattle.std.proofs.lemmas.List.{length-reverse}
-use Rattle.refusals.specs.Outcome.{answered, refused, and_then}
+use Rattle.refusals.specs.Outcome.{Ok, Err, and_then, Outcome}
 use Rattle.cigar.specs.Elements.{Element, Side, genome, transcript, total}
 use Rattle.cigar.specs.Text.{Reading}
 use Rattle.records.specs.Records.{Record, next_at, record_at, records_from}
@@ -14,8 +15,6 @@ use Rattle.transcript.specs.Building.{Exon, parts_of, gap, elements_after, eleme
 use Rattle.reading.specs.Reading.{Exons, spanned, genome_end_of, between, exon_of, read_first, read_next, exons_after, exons_of}
 use Rattle.reading.specs.Tallies.{nothing, sums_of, one_on, sums_on, tallied, tallied_after, tallied_all}
 use Rattle.reading.specs.declared.Sums.{Sums}
-use Rattle.reading.specs.declared.Tally.{Tally}
-use Rattle.reading.specs.declared.Tally.TheVariants as tally
 use Rattle.reading.specs.laws.Texts.{sums_eq, on_one, on_none}
 use Rattle.reading.specs.laws.Spans.{before_all, ahead, followed}
 
@@ -71,13 +70,13 @@ either_strand forward (x ∷ xs) =
 -- a record in front of others, after one that ends at e; and in front of all
 one_after : (e : ℕ) (s : Sums) (x : Exon) (xs : Exons) → tallied_after e s (before_all x xs) ≡ tallied_after x.alt_end (sums_on (one_on s (gap e x)) x.parts) xs
 unfolding elements_after
-one_after e s x (answered xs) = ap tally.Sums (on_one s (gap e x) _ ∙ on_parts true (one_on s (gap e x)) x _)
-one_after e s x (refused k) = refl
+one_after e s x (Ok xs) = ap Ok (on_one s (gap e x) _ ∙ on_parts true (one_on s (gap e x)) x _)
+one_after e s x (Err k) = refl
 
 one_first : (x : Exon) (xs : Exons) → tallied_all (before_all x xs) ≡ tallied_after x.alt_end (sums_on nothing x.parts) xs
 unfolding elements_of
-one_first x (answered xs) = ap tally.Sums (on_nothing _ ∙ on_parts true nothing x _)
-one_first x (refused k) = refl
+one_first x (Ok xs) = ap Ok (on_nothing _ ∙ on_parts true nothing x _)
+one_first x (Err k) = refl
 
 module _ (s : List ℕ) (k at : ℕ) (some : 0 < k) where
   abbrev here : Record
@@ -88,62 +87,62 @@ module _ (s : List ℕ) (k at : ℕ) (some : 0 < k) where
 
   -- a record after the record p: its own tally goes on, or refuses
   module _ (p : Record) (from : Sums) where
-    abbrev all : Tally
+    abbrev all : Outcome Sums
     all = tallied_after (genome_end_of p) from (exons_after from.count (records_from k s at))
 
-    abbrev own : Tally
+    abbrev own : Outcome Sums
     own = tallied (one_on from (between p here)) (spanned here (read_next from.count here))
 
     -- the records after it, by the number of its elements
     abbrev after : ℕ → Exons
     after n = exons_after (from.count + 1 + n) others
 
-    pub rest_sums : {to : Sums} → tally.Sums to ≡ own → all ≡ tallied_after (genome_end_of here) to (exons_after to.count others)
+    pub rest_sums : {to : Sums} → Ok to ≡ own → all ≡ tallied_after (genome_end_of here) to (exons_after to.count others)
     unfolding exons_after
     rest_sums {to} q = rw (records_one k s at some, followed here (read_next from.count here) after) (go (spanned here (read_next from.count here)) q)
       where
-        go : (r : Reading) → tally.Sums to ≡ tallied (one_on from (between p here)) r
+        go : (r : Reading) → Ok to ≡ tallied (one_on from (between p here)) r
             → tallied_after (genome_end_of p) from (and_then r (ahead here after)) ≡ tallied_after (genome_end_of here) to (exons_after to.count others)
-        go (answered es) q =
+        go (Ok es) q =
             let is : to ≡ sums_on (one_on from (between p here)) es = cc in
             rw is (one_after (genome_end_of p) from (exon_of here es) (exons_after (from.count + 1 + length es) others))
-        go (refused i) q = let z : ◌≡◌ {A = ℕ} 0 1 = cc in absurd (omega arith)
+        go (Err i) q = let z : ◌≡◌ {A = ℕ} 0 1 = cc in absurd (omega arith)
 
-    pub rest_refused : {i : ℕ} → tally.Refused i ≡ own → all ≡ tally.Refused i
+    pub rest_refused : {i : Refusal} → Err i ≡ own → all ≡ Err i
     unfolding exons_after
     rest_refused {i} q = rw (records_one k s at some, followed here (read_next from.count here) after) (go (spanned here (read_next from.count here)) q)
       where
-        go : (r : Reading) → tally.Refused i ≡ tallied (one_on from (between p here)) r
-            → tallied_after (genome_end_of p) from (and_then r (ahead here after)) ≡ tally.Refused i
-        go (answered es) q = let z : ◌≡◌ {A = ℕ} 0 1 = cc in absurd (omega arith)
-        go (refused j) q = sym q
+        go : (r : Reading) → Err i ≡ tallied (one_on from (between p here)) r
+            → tallied_after (genome_end_of p) from (and_then r (ahead here after)) ≡ Err i
+        go (Ok es) q = let z : ◌≡◌ {A = ℕ} 0 1 = cc in absurd (omega arith)
+        go (Err j) q = sym q
 
   -- the first record
   abbrev after_first : ℕ → Exons
   after_first n = exons_after n others
 
-  pub first_sums : {to : Sums} → tally.Sums to ≡ tallied nothing (spanned here (read_first here))
+  pub first_sums : {to : Sums} → Ok to ≡ tallied nothing (spanned here (read_first here))
       → tallied_all (exons_of (records_from k s at)) ≡ tallied_after (genome_end_of here) to (exons_after to.count others)
   unfolding exons_of
   first_sums {to} q = rw (records_one k s at some, followed here (read_first here) after_first) (go (spanned here (read_first here)) q)
     where
-      go : (r : Reading) → tally.Sums to ≡ tallied nothing r
+      go : (r : Reading) → Ok to ≡ tallied nothing r
           → tallied_all (and_then r (ahead here after_first)) ≡ tallied_after (genome_end_of here) to (exons_after to.count others)
-      go (answered es) q =
+      go (Ok es) q =
           let is : to ≡ sums_on nothing es = cc in
           let n : length es ≡ to.count = omega (arith, ap (λ (t : Sums). t.count) is) in
-          one_first (exon_of here es) (exons_after (length es) others) ∙ ap₂ (λ (t : Sums) (i : ℕ). tallied_after (genome_end_of here) t (exons_after i others)) (sym is) n
-      go (refused i) q = let z : ◌≡◌ {A = ℕ} 0 1 = cc in absurd (omega arith)
+          one_first (exon_of here es) (exons_after (length es) others) ∙ ap₂ (λ (t : Sums) (n : ℕ). tallied_after (genome_end_of here) t (exons_after n others)) (sym is) n
+      go (Err i) q = let z : ◌≡◌ {A = ℕ} 0 1 = cc in absurd (omega arith)
 
-  pub first_refused : {i : ℕ} → tally.Refused i ≡ tallied nothing (spanned here (read_first here)) → tallied_all (exons_of (records_from k s at)) ≡ tally.Refused i
+  pub first_refused : {i : Refusal} → Err i ≡ tallied nothing (spanned here (read_first here)) → tallied_all (exons_of (records_from k s at)) ≡ Err i
   unfolding exons_of
   first_refused {i} q = rw (records_one k s at some, followed here (read_first here) after_first) (go (spanned here (read_first here)) q)
     where
-      go : (r : Reading) → tally.Refused i ≡ tallied nothing r → tallied_all (and_then r (ahead here after_first)) ≡ tally.Refused i
-      go (answered es) q = let z : ◌≡◌ {A = ℕ} 0 1 = cc in absurd (omega arith)
-      go (refused j) q = sym q
+      go : (r : Reading) → Err i ≡ tallied nothing r → tallied_all (and_then r (ahead here after_first)) ≡ Err i
+      go (Ok es) q = let z : ◌≡◌ {A = ℕ} 0 1 = cc in absurd (omega arith)
+      go (Err j) q = sym q
 
 -- none is left
-pub rest_none : (s : List ℕ) (k at e : ℕ) (from : Sums) → k ≡ 0 → tallied_after e from (exons_after from.count (records_from k s at)) ≡ tally.Sums from
+pub rest_none : (s : List ℕ) (k at e : ℕ) (from : Sums) → k ≡ 0 → tallied_after e from (exons_after from.count (records_from k s at)) ≡ Ok from
 unfolding exons_after elements_after
-rest_none s k at e from h = rw (records_none k s at h) (ap tally.Sums (on_none from))
+rest_none s k at e from h = rw (records_none k s at h) (ap Ok (on_none from))

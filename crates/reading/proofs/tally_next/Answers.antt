@@ -1,4 +1,6 @@
 -- `reading::tally_next` meets its contract: a large CIGAR and a full table are refused (`next_large`, `next_full`); otherwise the text (`next_read`) is tallied from the sums with the gap, with 32. Assumes nothing.
+use Rattle.reading.specs.declared.Sums.{Sums}
+use Rattle.refusals.specs.Outcome.{Outcome}
 use mathlib.Core.Path.{sym, ap, ◌∙◌}
 use native.Mathlib.Omega.{arith}
 use Rattle.cigar.specs.Text.{Reading}
@@ -6,12 +8,11 @@ use Rattle.records.specs.Records.{record_at}
 use Rattle.reading.specs.Reading.{between, spanned}
 use Rattle.reading.specs.Tallies.{one_on, tallied}
 use Rattle.reading.specs.laws.Sizes.{next_large, next_full, next_read}
-use Rattle.reading.specs.declared.Tally.{Tally}
 use Rattle.reading.proofs.tally_next.Goals as goal
 use Rattle.reading.proofs.tally_next.Goals.{Start}
 
 -- a reading's tally, from the sums with the gap and with 32
-abbrev told : Start → Reading → Tally
+abbrev told : Start → Reading → Outcome Sums
 told s read =
     let here = record_at s.args.s.now s.args.at in
     tallied (one_on s.args.from (between (record_at s.args.s.now s.args.previous) here)) (spanned here read)

@@ -1,4 +1,4 @@
--- `reading::tally_text` meets its contract: the loop keeps that the whole tally is that of the text that is left, from the sums so far; each step's case has its law. Assumes nothing.
+-- `reading::tally_text` meets its contract: the loop keeps that the whole tally is that of the text that is left, from the sums so far. Assumes nothing.
 use mathlib.Core.Path.{◌≡◌}
 use Prim.Native.Nat.{◌-◌, ◌≤◌}
 use lib.ListN.{length, drop}
@@ -7,10 +7,10 @@ use Rattle.cigar.specs.Text.{read_all}
 use Rattle.reading.specs.Tallies.{tallied, Bounded}
 use Rattle.reading.proofs.tally_text.Given as goal
 
-abbrev pub invariant-loop-count : goal.invariant-loop-count
-invariant-loop-count l =
+abbrev pub invariant-loop-step : goal.invariant-loop-step
+invariant-loop-step l =
     (l.at ≤ length l.text) × Bounded l.sums
     × (tallied l.initial.sums (read_all (most_segments - l.initial.sums.count) l.text) ≡ tallied l.sums (read_all (most_segments - l.sums.count) (drop l.at l.text)))
 
-abbrev pub decreases-loop-count : goal.decreases-loop-count
-decreases-loop-count l = length l.text - l.at
+abbrev pub decreases-loop-step : goal.decreases-loop-step
+decreases-loop-step l = length l.text - l.at

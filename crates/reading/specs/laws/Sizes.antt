@@ -2,8 +2,9 @@
 use Rattle.std.specs.Prelude.{◌≡◌, true, false, List, ℕ, ◌+◌, ◌-◌, ◌≤◌, ◌<◌, length, take, drop, ltb}
 use Rattle.std.proofs.Common.{◌∙◌, arith, length-drop, length-take-le}
 use borrow.Author.Tests.{lt-ltb, le-ltb, eq-eqb, ne_eqb}
-use Rattle.refusals.specs.Numbers.{too_much, most_text, most_segments}
-use Rattle.refusals.specs.Outcome.{refused}
+use Rattle.refusals.specs.Numbers.{most_text, most_segments}
+use Rattle.refusals.specs.declared.Refusal.TheVariants.{TooMuch}
+use Rattle.refusals.specs.Outcome.{Err}
 use Rattle.cigar.specs.Text.{read_all}
 use Rattle.records.specs.Layout.{cigar_text}
 use Rattle.records.specs.Records.{size_at, next_at, record_at}
@@ -31,7 +32,7 @@ module _ (s : List ℕ) (at : ℕ) (stands : Stands s at) where
   small : next_at s at - (at + cigar_text) ≤ most_text → ltb most_text (length text) ≡ false
   small h = le-ltb most_text (length text) (omega (arith, size))
 
-  pub first_large : most_text < next_at s at - (at + cigar_text) → read_first (record_at s at) ≡ refused too_much
+  pub first_large : most_text < next_at s at - (at + cigar_text) → read_first (record_at s at) ≡ Err TooMuch
   unfolding read_first record_at
   first_large h = rw (large h)
 
@@ -39,11 +40,11 @@ module _ (s : List ℕ) (at : ℕ) (stands : Stands s at) where
   unfolding read_first record_at
   first_read h = rw (small h)
 
-  pub next_large : (used : ℕ) → most_text < next_at s at - (at + cigar_text) → read_next used (record_at s at) ≡ refused too_much
+  pub next_large : (used : ℕ) → most_text < next_at s at - (at + cigar_text) → read_next used (record_at s at) ≡ Err TooMuch
   unfolding read_next record_at
   next_large used h = rw (large h)
 
-  pub next_full : (used : ℕ) → next_at s at - (at + cigar_text) ≤ most_text → used ≡ most_segments → read_next used (record_at s at) ≡ refused too_much
+  pub next_full : (used : ℕ) → next_at s at - (at + cigar_text) ≤ most_text → used ≡ most_segments → read_next used (record_at s at) ≡ Err TooMuch
   unfolding read_next record_at
   next_full used h e = rw (small h, eq-eqb used most_segments e)
 

@@ -1,12 +1,9 @@
 -- `records::are_records` meets its contract. The loop keeps that the whole is right just where the rest is. Assumes nothing.
 use mathlib.Core.Path.{◌≡◌}
-use Prim.Native.Nat.{◌≤◌}
+use Prim.Native.Nat.{◌-◌, ◌≤◌}
 use lib.ListN.{length}
 use Rattle.records.specs.Records.{exactly}
 use Rattle.records.proofs.are_records.Given as goal
 
-abbrev pub invariant-loop-left : goal.invariant-loop-left
-invariant-loop-left l = (l.at ≤ length l.s) × (exactly l.count l.s 0 ≡ exactly l.left l.s l.at)
-
-abbrev pub decreases-loop-left : goal.decreases-loop-left
-decreases-loop-left l = l.left
+abbrev pub invariant-loop : goal.invariant-loop
+invariant-loop l = (l.at ≤ length l.s) × (exactly l.count l.s 0 ≡ exactly (l.count - l.counter) l.s l.at)

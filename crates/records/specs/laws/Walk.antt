@@ -1,9 +1,10 @@
 -- What is shown of the definitions of Walk. Assumes nothing.
+use Rattle.refusals.specs.Outcome.{Err, Test, no_fault}
 use Rattle.std.specs.Prelude.{ℕ, zero, suc, ◌+◌, ◌-◌, ◌≤◌, ◌<◌, Bool, true, false, ◌&&◌, List, [], ◌∷◌, ◌≡◌, refl, eqb, leb, ℤ, pos, negsuc, nat_abs, length, if◌then◌else◌}
 use Rattle.std.proofs.Common.{arith, true≢false, sym, ap, subst, ◌∙◌, ltb-false, leb-true, le-leb}
 use Rattle.std.specs.Int.Signed.{lt_z}
 use Rattle.std.proofs.lemmas.Bool.{lt-leb}
-use Rattle.refusals.specs.Numbers.{bad_bound}
+use Rattle.refusals.specs.declared.Refusal.TheVariants.{BadBound}
 use Rattle.whole.specs.laws.Whole.{both}
 use Rattle.records.specs.Layout.{cigar_text}
 use Rattle.records.specs.Records.{Record, next_at, record_at, exactly, records_from}
@@ -68,19 +69,19 @@ pub faults_one : (forward : Bool) (p : Record) (n : ℕ) (s : List ℕ) (at : �
 unfolding faults_after
 faults_one forward p n s at h = rw (records_one n s at h)
 
-pub faults_none : (forward : Bool) (p : Record) (n : ℕ) (s : List ℕ) (at : ℕ) → n ≡ 0 → faults_after forward p (records_from n s at) ≡ 0
+pub faults_none : (forward : Bool) (p : Record) (n : ℕ) (s : List ℕ) (at : ℕ) → n ≡ 0 → faults_after forward p (records_from n s at) ≡ no_fault
 unfolding faults_after
 faults_none forward p n s at e = rw (records_none n s at e)
 
-pub no_faults : (forward : Bool) (n : ℕ) (s : List ℕ) (at : ℕ) → n ≡ 0 → faults forward (records_from n s at) ≡ 0
+pub no_faults : (forward : Bool) (n : ℕ) (s : List ℕ) (at : ℕ) → n ≡ 0 → faults forward (records_from n s at) ≡ no_fault
 unfolding faults
 no_faults forward n s at e = rw (records_none n s at e)
 
-not_refused : (t : Bool) (x : ℕ) → (if t then bad_bound else x) ≡ 0 → (t ≡ false) × (x ≡ 0)
-not_refused true x h = absurd (omega arith)
+not_refused : (t : Bool) (x : Test) → (if t then Err BadBound else x) ≡ no_fault → (t ≡ false) × (x ≡ no_fault)
+not_refused true x h = cc
 not_refused false x h = (refl, h)
 
-pub own_sound : (r : Record) → own_fault r ≡ 0 → Placed r
+pub own_sound : (r : Record) → own_fault r ≡ no_fault → Placed r
 unfolding own_fault span_fault
 own_sound r h =
     let a = not_refused _ _ (clear (span_fault r.alt_start r.alt_end) (span_fault r.tx_start r.tx_end) h).0 in
@@ -88,7 +89,7 @@ own_sound r h =
     record { start_whole = a.0; end_whole = b.0; in_order = (not_refused _ _ b.1).0 }
 
 -- a record does not start below the end of the one before it
-pub pair_ordered : (forward : Bool) (p r : Record) → pair_fault forward p r ≡ 0 → lt_z r.alt_start p.alt_end ≡ false
+pub pair_ordered : (forward : Bool) (p r : Record) → pair_fault forward p r ≡ no_fault → lt_z r.alt_start p.alt_end ≡ false
 unfolding pair_fault start_fault
 pair_ordered forward p r h = (not_refused _ _ (clear (start_fault p.alt_end r.alt_start) _ h).0).0
 
@@ -100,7 +101,7 @@ whole_order (negsuc a) b h k l = absurd (true≢false h)
 pub beside_order : {p r : Record} → Beside p r → nat_abs p.alt_end ≤ nat_abs r.alt_start
 beside_order {p} {r} b = whole_order p.alt_end r.alt_start b.end_whole b.start_whole b.in_order
 
-pub ordered : (forward : Bool) (p : Record) (rs : List Record) → own_fault p ≡ 0 → faults_after forward p rs ≡ 0 → Ordered p rs
+pub ordered : (forward : Bool) (p : Record) (rs : List Record) → own_fault p ≡ no_fault → faults_after forward p rs ≡ no_fault → Ordered p rs
 unfolding faults_after
 ordered forward p [] own rest = tt
 ordered forward p (r ∷ rs) own rest =
@@ -120,7 +121,7 @@ turn {s} {previous} {n} {at} h w =
     let o = subst (Ordered (record_at s previous)) (records_one n s at h) w.order in
     record { stands = b.stands; beside = o.0; next = record { exact = b.others; inside = b.stands.numbers; order = o.1 } }
 
-pub ready : (forward : Bool) (n : ℕ) (s : List ℕ) → 0 < n → exactly n s 0 ≡ true → faults forward (records_from n s 0) ≡ 0 → Ready n s
+pub ready : (forward : Bool) (n : ℕ) (s : List ℕ) → 0 < n → exactly n s 0 ≡ true → faults forward (records_from n s 0) ≡ no_fault → Ready n s
 ready forward n s h e f =
     let b = begins n s 0 h e in
     let k = clear (own_fault (record_at s 0)) _ (sym (faults_first forward n s 0 h) ∙ f) in

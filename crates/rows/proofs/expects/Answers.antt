@@ -6,19 +6,19 @@ use mir.Syntax.{w64}
 use Rattle.whole.specs.laws.Whole.{told}
 use Rattle.segments.specs.laws.Gathering.{all_none, all_more, all_done}
 use Rattle.rows.specs.Rows.{is_word, expected}
-use borrow.Author.Rules.{rules}
+use native.Mathlib.Omega.{arith}
 use Rattle.rows.proofs.expects.Goals as goal
 
 pub loop-i-init : goal.loop-i-init
-loop-i-init c = (search rules, all_none _)
+loop-i-init c = all_none _
 
 pub loop-i-preserved : goal.loop-i-preserved
 loop-i-preserved c =
     let a = c.args in
     let l = c.loop-i in
     let word = told w64 (get_or a.words l.i (pos 0)) c.is_word-arg-1.given in
-    (search rules, all_more _ _ l.invariant.1 (c.is_word-same.ensures ∙ ap (is_word a.row.now l.i) word))
+    all_more _ _ l.invariant (c.is_word-same.ensures ∙ ap (is_word a.row.now l.i) word)
 
 pub returns : goal.returns
 unfolding expected
-returns c = all_done _ _ _ c.loop-i.invariant.1 c.loop-i.invariant.0 c.loop-i-test.false
+returns c = all_done _ _ _ c.loop-i.invariant (omega arith) (omega arith)

@@ -1,4 +1,5 @@
 -- `spelling::element_size` meets its contract: the tests that led to each `return` say which case of `judged` holds. Assumes nothing.
+use Rattle.refusals.specs.Outcome.{Ok}
 use mathlib.Core.Path.{◌≡◌, refl, sym, ap, ◌∙◌}
 use mathlib.Core.Bool.{true, false}
 use Prim.Native.Nat.{ℕ}
@@ -8,28 +9,19 @@ use lib.Signed.{lt_z}
 use Rattle.whole.specs.laws.Whole.{read}
 use Rattle.cigar.specs.Elements.{is_letter}
 use Rattle.spelling.specs.Write.{element_text}
-use Rattle.spelling.specs.declared.Written.TheVariants as answer
 use Rattle.spelling.proofs.Writing.{alone_long}
 use Rattle.spelling.proofs.element_size.Goals as goal
 
 pub returns-then-count-lt0 : goal.returns-then-count-lt0
 returns-then-count-lt0 c =
-    let l : is_letter c.args.letter ≡ true = sym c.is_letter.ensures ∙ c.if-is_letter.true in
+    let l : is_letter c.args.letter ≡ true = sym c.is_letter.ensures ∙ c.if-not-is_letter.false in
     let b : lt_z c.args.count (pos 0) ≡ true = rw (read c.ranges.count) at c.if-count-lt0.true in
     rw (l, b) (refl, tt)
 
-pub unsigned-n-requires : goal.unsigned-n-requires
-unsigned-n-requires c = c.if-count-lt0.false
-
-pub returns-then-is_letter : goal.returns-then-is_letter
-returns-then-is_letter c =
-    let l : is_letter c.args.letter ≡ true = sym c.is_letter.ensures ∙ c.if-is_letter.true in
-    let kept = read c.ranges.count in
-    let b : lt_z c.args.count (pos 0) ≡ false = rw kept at c.if-count-lt0.false in
-    let size = c.element_len-size.ensures.0 ∙ ap (λ (n : ℕ). length (element_text n c.args.letter)) (c.unsigned-n.ensures ∙ ap nat_abs kept) in
-    rw (l, b) (ap answer.Text (size ∙ sym (alone_long (nat_abs c.args.count) c.args.letter)), c.element_len-size.ensures.1)
-
 pub returns : goal.returns
 returns c =
-    let l : is_letter c.args.letter ≡ false = sym c.is_letter.ensures ∙ c.if-is_letter.false in
-    rw l (refl, tt)
+    let l : is_letter c.args.letter ≡ true = sym c.is_letter.ensures ∙ c.if-not-is_letter.false in
+    let kept = read c.ranges.count in
+    let b : lt_z c.args.count (pos 0) ≡ false = rw kept at c.if-count-lt0.false in
+    let size = c.element_len.ensures.0 ∙ ap (λ (n : ℕ). length (element_text n c.args.letter)) (c.unsigned.ensures ∙ ap nat_abs kept) in
+    rw (l, b) (ap Ok (size ∙ sym (alone_long (nat_abs c.args.count) c.args.letter)), c.element_len.ensures.1)

@@ -12,7 +12,7 @@ use Rattle.std.proofs.Math.Decide.{dec_lt, ℕ_discrete}
 use Rattle.std.proofs.Math.Seq.{append_snoc}
 use Rattle.whole.specs.laws.Whole.{by_test}
 use Rattle.refusals.specs.Numbers.{most_count}
-use Rattle.refusals.specs.Outcome.{answered, refused}
+use Rattle.refusals.specs.Outcome.{Ok, Err}
 use Rattle.cigar.specs.Bytes.{ascii}
 use Rattle.cigar.specs.Elements.{Element, is_letter}
 use Rattle.cigar.specs.laws.Letters.{digit_bounds, digit_yes, letter_no_digit}
@@ -64,14 +64,14 @@ read_element room n letter s r h l =
           ∙ read_letter room true n letter s r h l)
     ]
 
-pub read_back : (room : ℕ) (es : List Element) → AllSound es → length es ≤ room → read_all room (elements_text es) ≡ answered es
+pub read_back : (room : ℕ) (es : List Element) → AllSound es → length es ≤ room → read_all room (elements_text es) ≡ Ok es
 unfolding elements_text read_from
 read_back room [] h r = refl
 read_back room (x ∷ es) h r =
     read_element room x.count x.letter (elements_text es) (omega arith) h.0.small h.0.lettered
     ∙ ap (before x) (read_back (room - 1) es h.1 (omega arith))
 
-pub read_again : (room : ℕ) (text : List ℕ) {es : List Element} → read_all room text ≡ answered es → read_all room (elements_text es) ≡ answered es
+pub read_again : (room : ℕ) (text : List ℕ) {es : List Element} → read_all room text ≡ Ok es → read_all room (elements_text es) ≡ Ok es
 read_again room text {es} e = read_back room es (read_sound room text e) (read_room room text e)
 
 -- ---- a text that was read is no longer when it is written
@@ -82,8 +82,8 @@ so_far given n = if given then length (decimal n) else 0
 
 -- the text of a reading's elements has at most k bytes
 abbrev Short : ℕ → Reading → Type 0
-Short k (answered es) = length (elements_text es) ≤ k
-Short k (refused number) = Unit
+Short k (Ok es) = length (elements_text es) ≤ k
+Short k (Err number) = Unit
 
 -- one digit more is at most one byte more
 digit_long : (n d : ℕ) → d < 10 → length (decimal (n * 10 + d)) ≤ length (decimal n) + 1
@@ -112,12 +112,12 @@ short_element false n letter = rw (text_one 1 letter refl) (omega arith)
 
 short_before : (k : ℕ) (x : Element) (r : Reading) → Short k r → Short (length (element_text x.count x.letter) + k) (before x r)
 unfolding elements_text
-short_before k x (answered es) h = omega (arith, length-append (element_text x.count x.letter) (elements_text es))
-short_before k x (refused number) h = tt
+short_before k x (Ok es) h = omega (arith, length-append (element_text x.count x.letter) (elements_text es))
+short_before k x (Err number) h = tt
 
 short_wider : (k m : ℕ) (r : Reading) → k ≤ m → Short k r → Short m r
-short_wider k m (answered es) h s = omega arith
-short_wider k m (refused number) h s = tt
+short_wider k m (Ok es) h s = omega arith
+short_wider k m (Err number) h s = tt
 
 short_taken : (k room : ℕ) (x : Element) (r : Reading) → Short k r → Short (length (element_text x.count x.letter) + k) (taken room x r)
 short_taken k room x r h =
@@ -147,11 +147,11 @@ short_read (b ∷ s) room given n z =
     (short_taken (length s + 0) room x rest (short_read s (room - 1) false 0 (λ _. refl)))))
     (λ l. rw (d, l) tt))
 
-pub shorter : (room : ℕ) (text : List ℕ) {es : List Element} → read_all room text ≡ answered es → length (elements_text es) ≤ length text
+pub shorter : (room : ℕ) (text : List ℕ) {es : List Element} → read_all room text ≡ Ok es → length (elements_text es) ≤ length text
 unfolding so_far
 shorter room text e = omega (arith, subst (Short (length text + 0)) e (short_read text room false 0 (λ _. refl)))
 
 pub p14 : (let text : List ℕ = ascii "M0X3=" in let es : List Element = element 1 (code "M") ∷ element 0 (code "X") ∷ element 3 (code "=") ∷ [] in
-    (read_text text ≡ answered es) × (elements_text es ≡ text))
+    (read_text text ≡ Ok es) × (elements_text es ≡ text))
 unfolding is_letter read_text read_from digits_by decimal element_text elements_text
 p14 = (refl, refl)

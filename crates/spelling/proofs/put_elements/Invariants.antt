@@ -1,9 +1,6 @@
 -- `spelling::put_elements` meets its contract. The loop keeps that the buffer, once what is left is stored to it, is the buffer that is promised. Assumes nothing.
-use mathlib.Core.Path.{◌≡◌}
-use mathlib.Core.List.{List}
-use Prim.Native.Nat.{ℕ, ◌+◌, ◌-◌, ◌≤◌}
-use lib.ListN.{length}
-use lib.Seq.{sets}
+use Rattle.std.proofs.Common.{◌≡◌, List, ℕ, ◌+◌, ◌≤◌, length}
+use Rattle.std.proofs.lemmas.List.Edits.{sets}
 use Rattle.refusals.specs.Outcome.{Answered}
 use Rattle.cigar.specs.Text.{Reading, elements_in}
 use Rattle.spelling.specs.Write.{elements_text, elements_given}
@@ -16,9 +13,6 @@ in_text r = elements_text (elements_in r)
 
 abbrev pub invariant-loop-i : goal.invariant-loop-i
 invariant-loop-i l =
-    (l.i ≤ l.number) × (length l.buffer ≡ length l.initial.buffer) × Answered (left_of l.counts l.letters l.number l.i)
+    (l.i ≤ l.number) × Answered (left_of l.counts l.letters l.number l.i)
     × (l.at + length (in_text (left_of l.counts l.letters l.number l.i)) ≤ length l.buffer)
     × (sets l.buffer l.at (in_text (left_of l.counts l.letters l.number l.i)) ≡ sets l.initial.buffer 0 (in_text (elements_given l.counts l.letters l.number)))
-
-abbrev pub decreases-loop-i : goal.decreases-loop-i
-decreases-loop-i l = l.number - l.i

@@ -1,9 +1,9 @@
--- `spots::g_of_place` meets its contract: a place below 2^38, a first start and an offset that `sign` has turned make sums that fit 64 bits, so that `g_end` is asked of `gEndAt`'s sum. Assumes nothing.
+-- `spots::g_of_place` meets its contract: a place below 2^38, a first start and an offset that `sign` has turned make sums that fit 64 bits, so that `g_end` is asked of `g_end_at`'s sum. Assumes nothing.
 use mathlib.Core.Path.{◌≡◌}
 use mir.Syntax.{w64}
 use mir.Val.{to_z, of_z}
 use Rattle.spots.specs.Mapping.{signed}
-use Rattle.whole.specs.laws.Whole.{read, told, widened, fits_wider, i32_38, fits_40, fits_42}
+use Rattle.whole.specs.laws.Whole.{read, told, widened, i32_38, fits_40, fits_42}
 use Rattle.whole.specs.laws.Machine.{entry}
 use Rattle.spots.proofs.Sizes.{signed_40, from_first_40, from_one_40, with_own_42}
 use Rattle.spots.proofs.g_of_place.Goals as goal
@@ -14,25 +14,6 @@ place_is c = told w64 c.args.p.0 c.struct_told-1.given.0.1
 
 own_is : (c : After-sign-own) → c.sign-own.result ≡ signed c.args.forward c.args.offset
 own_is c = rw (widened c.ranges.offset) at c.sign-own.ensures
-
-pub overflow_cast-given : goal.overflow_cast-given
-overflow_cast-given c =
-    let f = c.ranges.offset in
-    simp (read f) (fits_wider f)
-
-pub sign-own-requires : goal.sign-own-requires
-sign-own-requires c =
-    let f = c.ranges.offset in
-    simp (widened f) (i32_38 f)
-
-pub overflow_add-g : goal.overflow_add-g
-overflow_add-g c =
-    simp (place_is (goal.at.overflow_add-g c).After-struct_told-1, entry c.ranges.first) (fits_40 (from_first_40 c.requires c.ranges.first))
-
-pub overflow_add-g-2 : goal.overflow_add-g-2
-overflow_add-g-2 c =
-    let first = fits_40 (from_first_40 c.requires c.ranges.first) in
-    simp (place_is (goal.at.overflow_add-g-2 c).After-struct_told-1, entry c.ranges.first, read first) (fits_40 (from_one_40 c.requires c.ranges.first))
 
 pub overflow_add-g-3 : goal.overflow_add-g-3
 overflow_add-g-3 c =

@@ -1,5 +1,4 @@
 -- `spots::spot_at_g` meets its contract: tables that hold together rise, so that the number at hand is the finder's, and what the tables map the place to is what their elements do. Assumes nothing.
-use native.Mathlib.Omega.{arith}
 use mathlib.Core.List.{[]}
 use mathlib.Core.Path.{◌≡◌, sym, ◌∙◌}
 use mir.Syntax.{w64}
@@ -21,11 +20,6 @@ held c = holds_means _ _ c.requires.0.segments
 
 number_is : (c : lts.Start tie.the-claims tie.handed_pre tie.handed_post tie.handed_clauses) → let a = c.args in a.number ≡ index_of a.genome.now a.at.count a.p.0
 number_is c = c.requires.2.here (held c).genome_rises
-
-pub map_at-requires : goal.map_at-requires
-map_at-requires c =
-    let s = c.before in
-    record { number_lt_most_segments = omega (arith, s.requires.2.on, s.requires.0.count_to); within = rw (told w64 s.args.p.0 c.struct_told-1.given.0.1) s.requires.1 }
 
 by_tables : (c : lts.After-map_at tie.the-claims tie.handed_pre tie.handed_post tie.handed_clauses) → let a = c.args in
     spot_said c.map_at.result ≡ map_by_tables a.genome.now a.transcript.now a.letters.now a.at.count a.p.0 start a.at.forward

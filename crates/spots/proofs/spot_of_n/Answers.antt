@@ -3,7 +3,7 @@ use mathlib.Core.List.{[]}
 use Rattle.spots.specs.laws.Spans.{on_genome, same_number}
 use Rattle.spots.proofs.spot_of_n.Goals as goal
 
-pub returns : goal.returns
-returns c =
+pub returns-clause-small : goal.returns-clause-small
+returns-clause-small c =
     let said = c.transcript_to_genome.ensures in
-    record { said = said.said; small = (said.small, same_number said.said (on_genome c.args.at _ [] c.requires.0 _ _)) }
+    (said.small, same_number said.said (on_genome c.args.at _ [] c.requires.0 _ _))

@@ -1,8 +1,8 @@
 -- g. to n. and back of a transcript that lies on the genome, as the code goes: the lengths are the tables' last entries, 14 is tested first, and 17 is asked of each end. Assumes nothing.
 use Rattle.std.specs.Prelude.{ℕ, ◌<◌, List, ◌≡◌, Bool, true, false, ◌&&◌, ℤ, get_or}
 use Rattle.std.proofs.Common.{arith, sym, subst}
-use Rattle.refusals.specs.Numbers.{outside}
-use Rattle.refusals.specs.Outcome.{refused}
+use Rattle.refusals.specs.declared.Refusal.TheVariants.{Outside}
+use Rattle.refusals.specs.Outcome.{Err}
 use Rattle.numbering.specs.Numbers.{place_of_n}
 use Rattle.segments.specs.Tables.{Tables, read}
 use Rattle.cigar.specs.Elements.{genome, transcript}
@@ -72,7 +72,7 @@ module _ (a : Alignment) (x : Tables) (exons : List ℕ) (sound : Aligns a x) wh
     unfolding map_g_to_n whole_n n_of_spot n_joined
     n_answered e = simp (span_is, length_is, e, ← found_is n_from n_to) (ends_fit n_fits _ _ _)
 
-    pub n_refused : g_inside ≡ false → map_g_to_n strict (aligned_by a x exons) (record { from = from; to = to }) ≡ refused outside
+    pub n_refused : g_inside ≡ false → map_g_to_n strict (aligned_by a x exons) (record { from = from; to = to }) ≡ Err Outside
     unfolding map_g_to_n whole_n
     n_refused e = simp (span_is, e)
 
@@ -97,7 +97,7 @@ module _ (a : Alignment) (x : Tables) (exons : List ℕ) (sound : Aligns a x) wh
     unfolding g_of_ends g_of_spot g_joined
     g_answered e = simp (length_is, e, ← chosen_is s_from s_to) (ends_fit g_fits _ _ _)
 
-    pub g_refused : t_inside ≡ false → fitting g_fits (g_of_ends strict (aligned_by a x exons) u v) ≡ refused outside
+    pub g_refused : t_inside ≡ false → fitting g_fits (g_of_ends strict (aligned_by a x exons) u v) ≡ Err Outside
     unfolding g_of_ends
     g_refused e = simp (length_is, e)
 

@@ -1,22 +1,13 @@
 -- Two stretches that overlap make one (`stretched`), of the flag and of the bits alike. Assumes nothing.
 use Rattle.std.proofs.Common.{◌&&◌, ◌∙◌, ap₂, arith}
-use Rattle.numbered.specs.laws.All.{from_start, stretched}
+use Rattle.numbered.specs.laws.All.{stretched}
 use Rattle.stepping.proofs.steps.Goals as goal
-
-pub returns-then-count-lt4 : goal.returns-then-count-lt4
-returns-then-count-lt4 c = let all = c.steps_in.ensures in record { same_value = all.same_value ∙ from_start _ _; by_index = λ k. all.by_index k ∙ from_start _ _ }
-
-pub returns-then-count-lt8 : goal.returns-then-count-lt8
-returns-then-count-lt8 c =
-    let front = c.steps_in-front.ensures in
-    let back = c.steps_in-back.ensures in record { same_value = c.both_seen.ensures.same_value ∙ ap₂ ◌&&◌ front.same_value back.same_value ∙ stretched _ _ _ _ (omega arith) (omega arith); by_index = λ k. c.both_seen.ensures.by_index k ∙ ap₂ ◌&&◌ (front.by_index k) (back.by_index k) ∙ stretched _ _ _ _ (omega arith) (omega arith) }
-
-pub returns-then-count-lt16 : goal.returns-then-count-lt16
-returns-then-count-lt16 c =
-    let front = c.steps_in-front-then-count-lt16.ensures in
-    let back = c.steps_in-back-then-count-lt16.ensures in record { same_value = c.both_seen-then-count-lt16.ensures.same_value ∙ ap₂ ◌&&◌ front.same_value back.same_value ∙ stretched _ _ _ _ (omega arith) (omega arith); by_index = λ k. c.both_seen-then-count-lt16.ensures.by_index k ∙ ap₂ ◌&&◌ (front.by_index k) (back.by_index k) ∙ stretched _ _ _ _ (omega arith) (omega arith) }
 
 pub returns : goal.returns
 returns c =
-    let front = c.steps_in-front-2.ensures in
-    let back = c.steps_in-back-2.ensures in record { same_value = c.both_seen-2.ensures.same_value ∙ ap₂ ◌&&◌ front.same_value back.same_value ∙ stretched _ _ _ _ (omega arith) (omega arith); by_index = λ k. c.both_seen-2.ensures.by_index k ∙ ap₂ ◌&&◌ (front.by_index k) (back.by_index k) ∙ stretched _ _ _ _ (omega arith) (omega arith) }
+    let front = c.steps_in-front.ensures in
+    let back = c.steps_in-back.ensures in
+    record {
+      same_value = c.both_seen.ensures.same_value ∙ ap₂ ◌&&◌ front.same_value back.same_value ∙ stretched _ _ _ _ (omega arith) (omega arith);
+      by_index = λ k. c.both_seen.ensures.by_index k ∙ ap₂ ◌&&◌ (front.by_index k) (back.by_index k) ∙ stretched _ _ _ _ (omega arith) (omega arith);
+    }

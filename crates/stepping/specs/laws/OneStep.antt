@@ -1,5 +1,5 @@
 -- One segment's steps, computed with differences that wrap. Assumes nothing.
-use Rattle.std.specs.Prelude.{◌≡◌, ℕ, ◌+◌, ◌%◌, ◌^◌, ◌<◌, ◌≤◌, true, ◌&&◌, bit_or, nat_le, nat_lt}
+use Rattle.std.specs.Prelude.{◌≡◌, ℕ, ◌+◌, ◌-◌, ◌%◌, ◌^◌, ◌<◌, ◌≤◌, true, ◌&&◌, bit_or, nat_le, nat_lt}
 use Rattle.std.proofs.Common.{lt_of_le_of_lt, arith, pow_pos, leb-true, leb-false, ltb-true, lt-ltb}
 use Rattle.std.specs.Int.Bits.{or_add_and}
 use Rattle.std.proofs.lemmas.Nat.{and_le_l, and_le_r, or_lt}
@@ -14,6 +14,10 @@ wrapped_is a b d a< b< d< e =
     by_test (nat_le b a)
     (λ t. let l = leb-true b a t in rw t (omega arith))
     (λ t. let l = leb-false b a t in rw t (omega arith))
+
+-- and as the machine takes it
+pub wraps : (a b : ℕ) → a < 2 ^ 32 → b < 2 ^ 32 → (a + (2 ^ 32 - b)) % 2 ^ 32 ≡ wrapped a b
+wraps a b a< b< = wrapped_is a b ((a + (2 ^ 32 - b)) % 2 ^ 32) a< b< (omega arith) (omega arith)
 
 -- the bits of two numbers together
 pub within_or : (k a b : ℕ) → within k (bit_or a b) ≡ (within k a && within k b)

@@ -16,8 +16,8 @@ use Rattle.std.proofs.Math.Dec.{ltb}
 use Rattle.std.proofs.lemmas.List.{length-reverse, length-map}
 use Rattle.std.proofs.Math.ListN.{get_or-map}
 use borrow.Author.Tests.{lt-ltb, le-ltb}
-use Rattle.refusals.specs.Numbers.{no_room, no_base}
-use Rattle.refusals.specs.Outcome.{answered, refused, and_then}
+use Rattle.refusals.specs.declared.Refusal.TheVariants.{NoRoom, NoBase}
+use Rattle.refusals.specs.Outcome.{Ok, Err, and_then}
 use Rattle.refusals.specs.laws.Outcomes.{clash, same}
 use Rattle.strands.specs.Turned.{partner_in, partner, is_base, complement, are_bases, turned, on_strand, fitting, turning}
 use Rattle.strands.specs.laws.Letters.{complement_base, base_kept, complement_twice}
@@ -111,27 +111,27 @@ turned_at s i h l =
 -- ---- into a lent buffer
 
 module _ (s : List ℕ) (room : ℕ) where
-  pub turning_other : are_bases s ≡ false → turning s room ≡ refused no_base
+  pub turning_other : are_bases s ≡ false → turning s room ≡ Err NoBase
   unfolding turning
   turning_other e = rw e
 
-  pub turning_long : are_bases s ≡ true → room < length s → turning s room ≡ refused no_room
+  pub turning_long : are_bases s ≡ true → room < length s → turning s room ≡ Err NoRoom
   unfolding turning
   turning_long e h = rw (e, turned_length s, lt-ltb room (length s) h)
 
-  pub turning_fits : are_bases s ≡ true → length s ≤ room → turning s room ≡ answered (turned s)
+  pub turning_fits : are_bases s ≡ true → length s ≤ room → turning s room ≡ Ok (turned s)
   unfolding turning
   turning_fits e h = rw (e, turned_length s, le-ltb room (length s) h)
 
   -- what was written, turned into a buffer of the same size
-  pub turning_back : (t : List ℕ) → turning s room ≡ answered t → turning t room ≡ answered s
+  pub turning_back : (t : List ℕ) → turning s room ≡ Ok t → turning t room ≡ Ok s
   unfolding turning
   turning_back t = judged (are_bases s) refl
     where
-      fitted : are_bases s ≡ true → (y : Bool) → ltb room (length (turned s)) ≡ y → cond y (refused no_room) (answered (turned s)) ≡ answered t → turning t room ≡ answered s
+      fitted : are_bases s ≡ true → (y : Bool) → ltb room (length (turned s)) ≡ y → cond y (Err NoRoom) (Ok (turned s)) ≡ Ok t → turning t room ≡ Ok s
       fitted ex false ey e = rw (sym (same e), turned_bases s, ex, turned_twice s, ← turned_length s, ey)
       fitted ex true ey e = absurd (clash e)
 
-      judged : (x : Bool) → are_bases s ≡ x → and_then (cond x (answered (turned s)) (refused no_base)) (fitting room) ≡ answered t → turning t room ≡ answered s
+      judged : (x : Bool) → are_bases s ≡ x → and_then (cond x (Ok (turned s)) (Err NoBase)) (fitting room) ≡ Ok t → turning t room ≡ Ok s
       judged true ex e = fitted ex (ltb room (length (turned s))) refl e
       judged false ex e = absurd (clash e)

@@ -1,7 +1,8 @@
 -- Worked examples, computed. Assumes nothing.
 use Rattle.std.specs.Prelude.{◌≡◌, refl, List, [], ◌∷◌, map, ℕ}
 use Prim.Native.Char.{Char, code}
-use Rattle.refusals.specs.Outcome.{answered, refused}
+use Rattle.refusals.specs.declared.Refusal.TheVariants.{NoRoom, NoBase}
+use Rattle.refusals.specs.Outcome.{Ok, Err}
 use Rattle.sequences.specs.Alleles.{prefix_len, suffix_len, middle, changed_of}
 use Rattle.strands.specs.Turned.{partner_in, partner, is_base, complement, are_bases, turned, turning}
 
@@ -31,6 +32,6 @@ unfolding turned complement is_base partner partner_in
 listed = (refl, refl)
 
 -- U is outside the list, before room is asked for; a buffer as long as the allele has room
-pub outcomes : (turning (bytes ("A" ∷ "U" ∷ [])) 1 ≡ refused 34) × (turning (bytes ("u" ∷ [])) 1 ≡ refused 34) × (turning cac 2 ≡ refused 20) × (turning cac 3 ≡ answered (turned cac))
+pub outcomes : (turning (bytes ("A" ∷ "U" ∷ [])) 1 ≡ Err NoBase) × (turning (bytes ("u" ∷ [])) 1 ≡ Err NoBase) × (turning cac 2 ≡ Err NoRoom) × (turning cac 3 ≡ Ok (turned cac))
 unfolding turning are_bases turned complement is_base partner partner_in
 outcomes = (refl, refl, refl, refl)

@@ -1,12 +1,13 @@
 -- `telling::g_to_n` meets its contract: the head tells how the transcript lies, and the tables that it does. A base that was sought is answered by its spot, one that is not sure by where it lies, any other interval as g. to n. says, and tables that do not hold are 23. Assumes nothing.
 use mathlib.Core.Path.{◌≡◌, sym, ap, ◌∙◌}
+use Rattle.refusals.specs.Outcome.{Ok}
 use Rattle.whole.specs.laws.Whole.{read}
 use Rattle.holding.specs.Holding.{lent}
 use Rattle.layout.specs.Layout.{n_laid, laid}
 use Rattle.taking.specs.Taking.{g_asked}
-use Rattle.chaining.specs.Given.{given, paper_given}
+use Rattle.chaining.specs.Given.{given}
 use Rattle.mapper.specs.Asking.{ask_g_to_n}
-use Rattle.knowing.specs.Knowing.{told_of, known_of}
+use Rattle.knowing.specs.Knowing.{known_of}
 use Rattle.knowing.specs.declared.Known.TheVariants as known
 use Rattle.knowing.specs.laws.Known.{known_lies, ask_length, ask_broken}
 use Rattle.knowing.specs.laws.Told.{told_lying, told_lies, told_apart, told_length, told_broken}
@@ -14,109 +15,77 @@ use Rattle.lone.specs.Lone.{Seen}
 use Rattle.telling.specs.Seeking.{Based}
 use Rattle.telling.proofs.Ways.{n_by_ends, one_base, base_beside}
 use Rattle.telling.proofs.g_to_n.Goals as goal
-use Rattle.telling.proofs.g_to_n.Tie as tie
-use Rattle.telling.proofs.g_to_n.Lts as lts
-
--- what the head tells
-told_is : (p : lts.Past-After-known_told tie.the-claims tie.handed_pre tie.handed_post tie.handed_clauses) → let a = p.args in told_of a.head a.transcript.now ≡ known.Aligned p.in-Aligned.at p.in-Aligned.field-1
-told_is p = sym p.told_of.ensures ∙ p.in-Aligned.is
+use Rattle.telling.proofs.g_to_n.Goals.{Then-tables_hold, In-Some}
 
 -- the ends that the question gives
-ends_are : (b : lts.After-both_ends tie.the-claims tie.handed_pre tie.handed_post tie.handed_clauses) →
-    let a = b.args in
-    paper_given b.both_ends-ends.result ≡ given (g_asked a.start a.end a.missing)
-ends_are b =
-    let s = b.before.before.before.before in
-    b.both_ends-ends.ensures ∙ ap given (simp (read s.ranges.start, read s.ranges.end) at b.g_asked.ensures)
-
--- from tables that hold back to how the transcript lies, and to the ends
-abbrev at_from : lts.Then1 tie.the-claims tie.handed_pre tie.handed_post tie.handed_clauses → lts.Past-After-known_told tie.the-claims tie.handed_pre tie.handed_post tie.handed_clauses
-at_from t = t.before.before.before.before.before
-
-abbrev ends_from : lts.Then1 tie.the-claims tie.handed_pre tie.handed_post tie.handed_clauses → lts.After-both_ends tie.the-claims tie.handed_pre tie.handed_post tie.handed_clauses
-ends_from t = t.before.before.before
+ends_are : (c : Then-tables_hold) → c.both_ends-ends.result ≡ given (g_asked c.args.start c.args.end c.args.missing)
+ends_are c = c.both_ends-ends.ensures ∙ ap given (simp (read c.ranges.start, read c.ranges.end) at c.g_asked.ensures)
 
 -- what is lent, and how it lies
-known_is : (t : lts.Then1 tie.the-claims tie.handed_pre tie.handed_post tie.handed_clauses) →
-    let p = at_from t in
-    let a = p.args in
-    known_of (lent a.head a.genome.now a.transcript.now a.letters.now a.exons.now) ≡ known.Aligned p.in-Aligned.at p.in-Aligned.field-1
-known_is t = told_lies _ (told_is (at_from t)) (sym t.tables_hold.ensures ∙ t.if-tables_hold.true)
+known_is : (c : Then-tables_hold) → let a = c.args in known_of (lent a.head a.genome.now a.transcript.now a.letters.now a.exons.now) ≡ Ok (known.Aligned c.in-Ok-Aligned.at c.in-Ok-Aligned.field-0-1)
+known_is c = told_lies _ (sym c.told_of.ensures ∙ c.in-Ok-Aligned.is ∙ ap Ok c.in-Ok-Aligned.field-0-is) (sym c.tables_hold.ensures ∙ c.if-tables_hold.true)
 
 -- the base that was sought, and where it was seen
-base_is : (m : lts.Past-After-known_told2 tie.the-claims tie.handed_pre tie.handed_post tie.handed_clauses) →
-    let t = m.before in
-    Based (at_from t).in-Aligned.at (paper_given (ends_from t).both_ends-ends.result) m.in-Inside.p.0
-    × Seen (at_from t).args.genome.now (at_from t).in-Aligned.at.count m.in-Inside.p.0 m.in-Inside.number
-base_is m = rw m.in-Inside.is at m.seek_base-sought.ensures
+base_is : (c : In-Some) →
+    let base = c.in-Some.base in
+    Based c.in-Ok-Aligned.at c.both_ends-ends.result base.place.0
+    × Seen c.args.genome.now c.in-Ok-Aligned.at.count base.place.0 base.number
+base_is c = rw c.in-Some.is at c.seek_base-sought.ensures
 
 pub seek_base-sought-requires : goal.seek_base-sought-requires
-seek_base-sought-requires c = let l = told_lying _ _ _ _ (told_is c.before.before) in (l.some, l.few)
+seek_base-sought-requires c = let l = told_lying _ _ _ _ (sym c.told_of.ensures ∙ c.in-Ok-Aligned.is ∙ ap Ok c.in-Ok-Aligned.field-0-is) in (l.some, l.few)
 
 pub tables_hold-requires : goal.tables_hold-requires
-tables_hold-requires c = let l = told_lying _ _ _ _ (told_is c.before.before.before) in (l.some, l.few)
+tables_hold-requires c = let l = told_lying _ _ _ _ (sym c.told_of.ensures ∙ c.in-Ok-Aligned.is ∙ ap Ok c.in-Ok-Aligned.field-0-is) in (l.some, l.few)
 
 pub spot_at_g-spot-requires : goal.spot_at_g-spot-requires
 spot_at_g-spot-requires c =
-    let m = c in
-    let (b, seen) = base_is m in
-    ((known_lies _ _ _ (known_is m.before)).sound, seen.small, seen.numbers)
-
--- from a base's spot back to where it was sought
-abbrev sought_from : lts.After-spot_at_g tie.the-claims tie.handed_pre tie.handed_post tie.handed_clauses → lts.Past-After-known_told2 tie.the-claims tie.handed_pre tie.handed_post tie.handed_clauses
-sought_from x = x.before
+    let at = goal.at.spot_at_g-spot-requires c in
+    let (b, seen) = base_is at.In-Some in
+    ((known_lies _ _ _ (known_is at.Then-tables_hold)).sound, seen.small, seen.numbers)
 
 pub sure_n-requires : goal.sure_n-requires
 sure_n-requires c =
-    let x = c.before in
-    let (small, on) = x.spot_at_g-spot.ensures.small in
-    ((known_lies _ _ _ (known_is (sought_from x).before)).sound.count_to, small, on)
+    let (small, on) = c.spot_at_g-spot.ensures.small in
+    ((known_lies _ _ _ (known_is (goal.at.sure_n-requires c).Then-tables_hold)).sound.count_to, small, on)
 
 pub returns-then-spot : goal.returns-then-spot
 returns-then-spot c =
-    let x = c.before.before in
-    let m = sought_from x in
-    let t = m.before in
-    let (b, seen) = base_is m in
-    c.sure_n.ensures ∙ ap (laid n_laid) (sym (one_base _ _ _ (known_is t) _ _ _ (ends_are (ends_from t)) _ b _ seen.within x.spot_at_g-spot.ensures.said c.if-spot.true))
+    let at = goal.at.returns-then-spot c in
+    let t = at.Then-tables_hold in
+    let (b, seen) = base_is at.In-Some in
+    c.sure_n.ensures ∙ ap (laid n_laid) (sym (one_base _ _ _ (known_is t) _ _ _ (ends_are t) _ b _ seen.within c.spot_at_g-spot.ensures.said c.if-spot.true))
 
 pub beside_n-requires : goal.beside_n-requires
 beside_n-requires c =
-    let x = c.before in
-    let (small, on) = x.spot_at_g-spot.ensures.small in
-    (small.place_small, on, (known_lies _ _ _ (known_is (sought_from x.before).before)).sound.count_to)
+    let (small, on) = c.spot_at_g-spot.ensures.small in
+    (small.place_small, on, (known_lies _ _ _ (known_is (goal.at.beside_n-requires c).Then-tables_hold)).sound.count_to)
 
-pub returns-in-Inside : goal.returns-in-Inside
-returns-in-Inside c =
-    let e = c.before.before in
-    let x = e.before in
-    let m = sought_from x.before in
-    let t = m.before in
-    let (b, seen) = base_is m in
-    c.lay_n.ensures
-    ∙ ap (laid n_laid) (c.beside_n.ensures ∙ sym (base_beside _ _ _ (known_is t) _ _ _ (ends_are (ends_from t)) _ b _ seen.within x.spot_at_g-spot.ensures.said e.if-spot.false))
+pub returns-in-Some : goal.returns-in-Some
+returns-in-Some c =
+    let at = goal.at.returns-in-Some c in
+    let t = at.Then-tables_hold in
+    let (b, seen) = base_is at.In-Some in
+    c.lay.ensures
+    ∙ ap (laid n_laid) (c.beside_n.ensures ∙ sym (base_beside _ _ _ (known_is t) _ _ _ (ends_are t) _ b _ seen.within c.spot_at_g-spot.ensures.said c.if-spot.false))
 
 pub interval_n-requires : goal.interval_n-requires
-interval_n-requires c = (known_lies _ _ _ (known_is c.before)).sound
+interval_n-requires c = (known_lies _ _ _ (known_is (goal.at.interval_n-requires c).Then-tables_hold)).sound
 
 pub returns-then-tables_hold : goal.returns-then-tables_hold
 returns-then-tables_hold c =
-    let t = c.before.before in
-    c.interval_n.ensures ∙ ap (laid n_laid) (sym (n_by_ends _ _ _ (known_is t) _ _ _ (ends_are (ends_from t))))
+    let t = (goal.at.returns-then-tables_hold c).Then-tables_hold in
+    c.interval_n.ensures ∙ ap (laid n_laid) (sym (n_by_ends _ _ _ (known_is t) _ _ _ (ends_are t)))
 
 pub returns-else-tables_hold : goal.returns-else-tables_hold
 returns-else-tables_hold c =
-    let e = c.before in
-    let p = e.before.before.before.before.before in
-    c.refusal_of.ensures ∙ ap (laid n_laid) (sym (ask_broken _ _ (told_apart _ (told_is p) (sym e.tables_hold.ensures ∙ e.if-tables_hold.false))))
+    c.refusal_of.ensures ∙ ap (laid n_laid) (sym (ask_broken _ _ (told_apart _ (sym c.told_of.ensures ∙ c.in-Ok-Aligned.is ∙ ap Ok c.in-Ok-Aligned.field-0-is) (sym c.tables_hold.ensures ∙ c.if-tables_hold.false))))
 
-pub returns-in-OfLength : goal.returns-in-OfLength
+pub returns-in-Ok-OfLength : goal.returns-in-Ok-OfLength
 unfolding ask_g_to_n
-returns-in-OfLength c =
-    let m = c.before in
-    c.refusal_of-in-OfLength.ensures ∙ ap (laid n_laid) (sym (ask_length _ _ (told_length _ (sym m.told_of.ensures ∙ m.in-OfLength.is))))
+returns-in-Ok-OfLength c =
+    c.refusal_of-in-Ok-OfLength.ensures ∙ ap (laid n_laid) (sym (ask_length _ _ (told_length _ (sym c.told_of.ensures ∙ c.in-Ok-OfLength.is ∙ ap Ok c.in-Ok-OfLength.field-0-is))))
 
-pub returns-in-Broken : goal.returns-in-Broken
-returns-in-Broken c =
-    let m = c.before in
-    c.refusal_of-in-Broken.ensures ∙ ap (laid n_laid) (sym (ask_broken _ _ (told_broken _ (sym m.told_of.ensures ∙ m.in-Broken.is))))
+pub returns-in-Err : goal.returns-in-Err
+returns-in-Err c =
+    c.refusal_of-in-Err.ensures ∙ ap (laid n_laid) (sym (ask_broken _ _ (told_broken _ (sym c.told_of.ensures ∙ c.in-Err.is))))

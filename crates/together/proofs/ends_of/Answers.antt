@@ -2,11 +2,8 @@
 use native.Mathlib.Omega.{arith}
 use mathlib.Core.Bool.{◌&&◌}
 use mathlib.Core.Path.{ap₂, ◌∙◌}
-use Rattle.numbered.specs.laws.All.{from_start, stretched}
+use Rattle.numbered.specs.laws.All.{stretched}
 use Rattle.together.proofs.ends_of.Goals as goal
-
-pub returns-then-count-lt4 : goal.returns-then-count-lt4
-returns-then-count-lt4 c = λ k. c.ends_in.ensures k ∙ from_start _ _
 
 pub returns-then-count-lt8 : goal.returns-then-count-lt8
 returns-then-count-lt8 c = λ k. c.with_bits.ensures k ∙ ap₂ ◌&&◌ (c.ends_in-front.ensures k) (c.ends_in-back.ensures k) ∙ stretched _ _ _ _ (omega arith) (omega arith)

@@ -1,28 +1,17 @@
--- `words::all_known` meets its contract. The loop keeps that all words are known if those that are left are. Assumes nothing.
-use mathlib.Core.Path.{refl, sym, ◌∙◌}
-use native.Mathlib.Omega.{arith}
-use Rattle.words.proofs.Words.{known_more, known_not, known_none}
+-- `words::all_known` meets its contract: what `all` answers of the words is the definition's conjunction. Assumes nothing.
+use Rattle.std.proofs.Common.{◌≡◌, ℕ, Bool, ◌&&◌, List, [], ◌∷◌, refl, ap, ◌∙◌, rules, tests}
+use Rattle.std.specs.List.{list_all}
+use Rattle.std.proofs.lemmas.Iterator.{YieldsList-from_slice}
+use Rattle.std.proofs.lemmas.Iterator.Search.{all_from_yields_List}
+use Rattle.words.specs.Words.{is_known, all_known}
 use Rattle.words.proofs.all_known.Goals as goal
 
-pub loop-i-init : goal.loop-i-init
-loop-i-init c = (omega arith, refl)
-
-pub loop-i-preserved : goal.loop-i-preserved
-loop-i-preserved c =
-    let a = c.args in
-    let l = c.loop-i in
-    let inside = c.loop-i-test.true in
-    (omega arith, l.invariant.1 ∙ known_more a.words.now l.i inside (sym c.is_known.ensures ∙ c.if-is_known.true))
-
-pub returns-else-is_known : goal.returns-else-is_known
-returns-else-is_known c =
-    let a = c.args in
-    let l = c.loop-i in
-    let inside = c.loop-i-test.true in
-    sym (l.invariant.1 ∙ known_not a.words.now l.i inside (sym c.is_known.ensures ∙ c.if-is_known.false))
+each_known : (words : List ℕ) → list_all is_known words ≡ all_known words
+unfolding all_known
+each_known [] = refl
+each_known (w ∷ ws) = ap (λ (b : Bool). is_known w && b) (each_known ws)
 
 pub returns : goal.returns
 returns c =
-    let a = c.args in
-    let l = c.loop-i in
-    sym (l.invariant.1 ∙ known_none a.words.now l.i c.loop-i-test.false)
+    let words = c.args.words.now in
+    all_from_yields_List is_known _ _ _ c.all.ensures.ran (YieldsList-from_slice words cc) (λ x b q k. search (rules, tests)) ∙ each_known words

@@ -8,7 +8,7 @@ use Rattle.std.proofs.lemmas.List.{map-append, length-map}
 use Rattle.std.proofs.Math.Decide.{dec_lt}
 use Rattle.whole.specs.laws.Whole.{both}
 use Rattle.refusals.specs.Numbers.{most_segments}
-use Rattle.refusals.specs.Outcome.{answered}
+use Rattle.refusals.specs.Outcome.{Ok}
 use Rattle.cigar.specs.Elements.{Element, letter_d, letter_i}
 use Rattle.cigar.specs.Text.{before, read_from, read_all}
 use Rattle.cigar.specs.Read.{counts_after, letters_after}
@@ -43,7 +43,7 @@ word_retyped w s =
     ∙ ap (λ (t : List ℕ). t ++ exchanged (bam_letter (code_in w)) ∷ retyped s) (count_stays (suc (length_in w)) (length_in w) (omega arith))
 
 pub retyped_read : (words : List ℕ) (room : ℕ) → all_known words ≡ true → AllFit words → length words ≤ room
-    → read_all room (retyped (aligners_text words)) ≡ answered (map element_of_word words)
+    → read_all room (retyped (aligners_text words)) ≡ Ok (map element_of_word words)
 unfolding all_known aligners_text read_from
 retyped_read [] room k f h = refl
 retyped_read (w ∷ ws) room k f h =
@@ -61,8 +61,8 @@ all_sound (x ∷ es) h = let s = h.0.small in (record { small = omega arith; let
 
 -- words that were read into tables, and then written as text from there
 pub retyped_written : (words : List ℕ) (c l : ℕ) {es : List Element} (counts : List ℤ) (letters : List ℕ) (room : ℕ) → AllFit words
-    → read_words words c l ≡ answered es
-    → writing (length es) (counts_after counts (answered es)) (letters_after letters (answered es)) room
+    → read_words words c l ≡ Ok es
+    → writing (length es) (counts_after counts (Ok es)) (letters_after letters (Ok es)) room
     ≡ text_of room (read_all most_segments (retyped (aligners_text words)))
 unfolding writing
 retyped_written words c l {es} counts letters room f e =
@@ -70,5 +70,5 @@ retyped_written words c l {es} counts letters room f e =
     let few = r.few in
     let long : length es ≡ length words = ap length (sym r.is) ∙ length-map words element_of_word in
     let sound = all_sound es (subst AllWordable r.is (elements_wordable words r.known f)) in
-    let text = retyped_read words most_segments r.known f few ∙ ap answered r.is in
+    let text = retyped_read words most_segments r.known f few ∙ ap Ok r.is in
     rw (le-ltb most_segments (length es) (omega arith)) (ap (text_of room) (given_back es counts letters sound ∙ sym text))

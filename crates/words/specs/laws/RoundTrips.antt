@@ -7,14 +7,15 @@
 -- Assumes nothing.
 use Rattle.std.specs.Prelude.{◌≡◌, refl, true, false, List, [], ◌∷◌, ◌++◌, map, ℕ, zero, suc, ◌+◌, ◌≤◌, ◌<◌, ◌^◌, min, ltb, eqb, ℤ, pos, negsuc, nat_abs, length, get_or, drop}
 use Rattle.std.proofs.Common.{sym, ap, ap₂, subst, ◌∙◌, true≢false, arith, length-append, eqb-true, le-ltb, ltb-false}
-use Rattle.std.proofs.lemmas.Bool.{false≢true, eqb-false}
+use Rattle.std.proofs.lemmas.Bool.{false≢true}
 use Rattle.std.proofs.Math.Nat.{min-eq_left}
 use Rattle.std.proofs.lemmas.List.{length-map, get_or_at}
 use Rattle.std.proofs.Math.Seq.{append_snoc}
 use Rattle.std.specs.Int.Signed.{lt_z}
 use Rattle.whole.specs.laws.Whole.{by_test, both}
-use Rattle.refusals.specs.Numbers.{no_element, no_word, most_word_count, most_segments}
-use Rattle.refusals.specs.Outcome.{answered}
+use Rattle.refusals.specs.Numbers.{most_word_count, most_segments}
+use Rattle.refusals.specs.declared.Refusal.TheVariants.{NoElement}
+use Rattle.refusals.specs.Outcome.{Ok, Err, no_fault}
 use Rattle.refusals.specs.laws.Outcomes.{clash, same, passed}
 use Rattle.cigar.specs.Elements.{Element, is_letter, letter_equal, letter_d, letter_i, letter_m, letter_n, letter_x}
 use Rattle.cigar.specs.Text.{element}
@@ -141,36 +142,34 @@ elements_wordable (w ∷ ws) h f =
 -- ---- tables
 
 -- a letter that is not of the six is 7, whatever the count
-pub fault_letter : (z : ℤ) (letter : ℕ) → is_letter letter ≡ false → fault_of z letter ≡ no_element
+pub fault_letter : (z : ℤ) (letter : ℕ) → is_letter letter ≡ false → fault_of z letter ≡ Err NoElement
 unfolding fault_of
-fault_letter z letter l = by_test (lt_z (pos most_word_count) z) (λ m. rw (m, l)) (λ m. rw (m, l))
+fault_letter z letter l = rw l
 
 -- an element of the tables that is not refused
-pub fault_none : (z : ℤ) (letter : ℕ) → fault_of z letter ≡ 0 → Held z letter
+pub fault_none : (z : ℤ) (letter : ℕ) → fault_of z letter ≡ no_fault → Held z letter
 unfolding fault_of
 fault_none z letter h =
     by_test (is_letter letter)
     (λ l.
-    by_test (lt_z z (pos 0)) (λ b. let e : no_word ≡ 0 = rw (l, b) at h in absurd (omega arith))
+    by_test (lt_z z (pos 0)) (λ b. absurd (clash (rw (l, b) at h)))
     (λ b.
-    by_test (lt_z (pos most_word_count) z) (λ s. let e : no_word ≡ 0 = rw (l, b, s) at h in absurd (omega arith))
+    by_test (lt_z (pos most_word_count) z) (λ s. absurd (clash (rw (l, b, s) at h)))
     (λ s. record { whole = b; wordable = record { lettered = l; small = size_small z b s } })))
-    (λ l. let e : no_element ≡ 0 = sym (fault_letter z letter l) ∙ h in absurd (omega arith))
+    (λ l. absurd (clash (rw l at h)))
 
 -- an element that a word can hold is not refused
-held_no_fault : (x : Element) → Wordable x → fault_of (pos x.count) x.letter ≡ 0
+held_no_fault : (x : Element) → Wordable x → fault_of (pos x.count) x.letter ≡ no_fault
 unfolding fault_of
 held_no_fault x h = rw (h.lettered, le-ltb x.count 0 (omega arith), le-ltb most_word_count x.count h.small)
 
 -- the first place of those that are not refused
-pub fault_first : (counts : List ℤ) (letters : List ℕ) (i m : ℕ) → fault_from counts letters i (suc m) ≡ 0
-    → (fault_of (get_or counts i (pos 0)) (get_or letters i 0) ≡ 0) × (fault_from counts letters (i + 1) m ≡ 0)
+pub fault_first : (counts : List ℤ) (letters : List ℕ) (i m : ℕ) → fault_from counts letters i (suc m) ≡ no_fault
+    → (fault_of (get_or counts i (pos 0)) (get_or letters i 0) ≡ no_fault) × (fault_from counts letters (i + 1) m ≡ no_fault)
 unfolding fault_from
-fault_first counts letters i m h =
-    let here = fault_of (get_or counts i (pos 0)) (get_or letters i 0) in
-    by_test (eqb here 0) (λ e. (eqb-true here 0 e, rw e at h)) (λ e. absurd (eqb-false here 0 e (rw e at h)))
+fault_first counts letters i m h = passed (fault_of (get_or counts i (pos 0)) (get_or letters i 0)) (fault_from counts letters (i + 1) m) tt h
 
-from_wordable : (counts : List ℤ) (letters : List ℕ) (m i : ℕ) → fault_from counts letters i m ≡ 0 → AllWordable (elements_at counts letters i m)
+from_wordable : (counts : List ℤ) (letters : List ℕ) (m i : ℕ) → fault_from counts letters i m ≡ no_fault → AllWordable (elements_at counts letters i m)
 unfolding elements_at
 from_wordable counts letters zero i h = tt
 from_wordable counts letters (suc m) i h =
@@ -184,7 +183,7 @@ from_length counts letters (suc m) i = ap suc (from_length counts letters m (i +
 
 -- elements that stand after some others in both tables: none is refused, and they are those that the tables hold
 after_others : (es : List Element) (cs : List ℤ) (ls : List ℕ) (counts : List ℤ) (letters : List ℕ) (i : ℕ) → length cs ≡ i → length ls ≡ i → AllWordable es
-    → (fault_from (cs ++ (counts_of es ++ counts)) (ls ++ (letters_of es ++ letters)) i (length es) ≡ 0)
+    → (fault_from (cs ++ (counts_of es ++ counts)) (ls ++ (letters_of es ++ letters)) i (length es) ≡ no_fault)
     × (elements_at (cs ++ (counts_of es ++ counts)) (ls ++ (letters_of es ++ letters)) i (length es) ≡ es)
 unfolding fault_from elements_at
 after_others [] cs ls counts letters i p q h = (refl, refl)
@@ -205,7 +204,7 @@ pub record WereRead (words : List ℕ) (es : List Element) : Type 0 where
   pub few : length words ≤ most_segments
   pub is : map element_of_word words ≡ es
 
-pub read_says : (words : List ℕ) (c l : ℕ) {es : List Element} → read_words words c l ≡ answered es → WereRead words es
+pub read_says : (words : List ℕ) (c l : ℕ) {es : List Element} → read_words words c l ≡ Ok es → WereRead words es
 unfolding read_words
 read_says words c l {es} e =
     by_test (all_known words)
@@ -219,8 +218,8 @@ read_says words c l {es} e =
     (λ k. absurd (clash (rw k at e)))
 
 pub read_write : (words : List ℕ) (c l : ℕ) {es : List Element} (counts : List ℤ) (letters : List ℕ) (room : ℕ) → AllFit words
-    → read_words words c l ≡ answered es → length words ≤ room
-    → write_words (length words) (at_front (counts_of es) counts) (at_front (letters_of es) letters) room ≡ answered words
+    → read_words words c l ≡ Ok es → length words ≤ room
+    → write_words (length words) (at_front (counts_of es) counts) (at_front (letters_of es) letters) room ≡ Ok words
 unfolding write_words
 read_write words c l {es} counts letters room f e h =
     let r = read_says words c l e in
@@ -230,15 +229,15 @@ read_write words c l {es} counts letters room f e h =
     (subst AllWordable r.is (elements_wordable words r.known f)) in
     let here = rw long at held in
     rw (min-eq_left r.few, here.0, le-ltb most_segments (length words) r.few, le-ltb room (length words) h, here.1)
-    (ap answered (ap (map word_of) (sym r.is) ∙ words_back words r.known))
+    (ap Ok (ap (map word_of) (sym r.is) ∙ words_back words r.known))
 
 -- what holds of words that were written
 record WereWritten (number : ℕ) (counts : List ℤ) (letters : List ℕ) (words : List ℕ) : Type 0 where
   few : number ≤ most_segments
-  held : fault_from counts letters 0 number ≡ 0
+  held : fault_from counts letters 0 number ≡ no_fault
   is : map word_of (elements_at counts letters 0 number) ≡ words
 
-write_says : (number : ℕ) (counts : List ℤ) (letters : List ℕ) (room : ℕ) {words : List ℕ} → write_words number counts letters room ≡ answered words
+write_says : (number : ℕ) (counts : List ℤ) (letters : List ℕ) (room : ℕ) {words : List ℕ} → write_words number counts letters room ≡ Ok words
     → WereWritten number counts letters words
 unfolding write_words
 write_says number counts letters room {words} e =
@@ -250,8 +249,8 @@ write_says number counts letters room {words} e =
     let few = ltb-false most_segments number m in
     record { few = few; held = rw (min-eq_left few) at p.0; is = same (rw (m, r) at p.1) }))
 
-pub write_read : (number : ℕ) (counts : List ℤ) (letters : List ℕ) (room c l : ℕ) {words : List ℕ} → write_words number counts letters room ≡ answered words
-    → number ≤ c → number ≤ l → read_words words c l ≡ answered (elements_at counts letters 0 number)
+pub write_read : (number : ℕ) (counts : List ℤ) (letters : List ℕ) (room c l : ℕ) {words : List ℕ} → write_words number counts letters room ≡ Ok words
+    → number ≤ c → number ≤ l → read_words words c l ≡ Ok (elements_at counts letters 0 number)
 unfolding read_words
 write_read number counts letters room c l {words} e hc hl =
     let w = write_says number counts letters room e in
@@ -260,4 +259,4 @@ write_read number counts letters room c l {words} e hc hl =
     let few = w.few in
     let long : length (map word_of es) ≡ number = length-map es word_of ∙ from_length counts letters number 0 in
     rw (← w.is, words_known es good, long, le-ltb most_segments number few, le-ltb c number hc, le-ltb l number hl)
-    (ap answered (elements_back es good))
+    (ap Ok (elements_back es good))

@@ -1,7 +1,8 @@
 -- A worked list, computed: over transcript A of document 01 (10M 5N 8M at 10..33) the base before the first, one base twice, the middle of the intron, the last base, and the one behind it. Assumes nothing.
 use Rattle.std.specs.Prelude.{ℕ, List, [], ◌∷◌, map, ◌≡◌, refl, ℤ, pos}
-use Rattle.refusals.specs.Numbers.{outside}
-use Rattle.refusals.specs.Outcome.{answered}
+use Rattle.refusals.specs.Numbers.{number}
+use Rattle.refusals.specs.declared.Refusal.TheVariants.{Outside}
+use Rattle.refusals.specs.Outcome.{Ok}
 use Rattle.whole.specs.Fits.{fits, fit_of}
 use Rattle.numbering.specs.Numbers.{n_of_place}
 use Rattle.cigar.specs.Elements.{letter_m, letter_n, is_letter, kind_of, genome, transcript, total}
@@ -43,18 +44,18 @@ unfolding checked holds source_of records_hold cds_holds segments_hold goes_on n
 computing = tt
 
 -- g.33 lies in the third segment
-pub worked_steps : listed lent_a asked ≡ answered 2
+pub worked_steps : listed lent_a asked ≡ Ok 2
 unfolding computing
 worked_steps = refl
 
 pub worked_slots :
     slots_after lent_a asked
-    ≡ without outside (pos 10)
+    ≡ without (number Outside) (pos 10)
     ∷ named (pos 11) (pos 1) (pos 0) 1
     ∷ named (pos 11) (pos 1) (pos 0) 1
     ∷ named (pos 23) (pos 10) (pos 3) 1
     ∷ named (pos 33) (pos 18) (pos 0) 2
-    ∷ without outside (pos 34)
+    ∷ without (number Outside) (pos 34)
     ∷ []
 unfolding computing
 worked_slots = refl

@@ -1,5 +1,5 @@
 -- After each turn the flag says whether all bytes passed are those of the text.
-use Prim.Native.Nat.{ℕ, ◌≤◌, ◌-◌}
+use Prim.Native.Nat.{ℕ, ◌≤◌}
 use mathlib.Core.Path.{◌≡◌}
 use lib.Dec.{eqb}
 use lib.ListN.{length, get_or}
@@ -8,6 +8,3 @@ use Rattle.comparing.proofs.buffers.holds.Given as goal
 
 abbrev pub invariant-loop-i : goal.invariant-loop-i
 invariant-loop-i l = (l.i ≤ length l.buffer) × (l.same ≡ all_below (λ (k : ℕ). eqb (get_or l.buffer k 0) (get_or l.text k 0)) l.i)
-
-abbrev pub decreases-loop-i : goal.decreases-loop-i
-decreases-loop-i l = length l.buffer - l.i

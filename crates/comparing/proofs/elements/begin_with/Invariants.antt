@@ -1,5 +1,5 @@
 -- After each turn the flag says whether all elements passed stand in the tables.
-use Prim.Native.Nat.{ℕ, ◌≤◌, ◌-◌}
+use Prim.Native.Nat.{ℕ, ◌≤◌}
 use mathlib.Core.Path.{◌≡◌}
 use lib.IntN.{pos}
 use lib.ListN.{get_or}
@@ -9,6 +9,3 @@ use Rattle.comparing.proofs.elements.begin_with.Given as goal
 
 abbrev pub invariant-loop-i : goal.invariant-loop-i
 invariant-loop-i l = (l.i ≤ laid_out l.elements) × (l.same ≡ all_below (λ (k : ℕ). is_element l.elements k (get_or l.counts k (pos 0)) (get_or l.letters k 0)) l.i)
-
-abbrev pub decreases-loop-i : goal.decreases-loop-i
-decreases-loop-i l = laid_out l.elements - l.i

@@ -1,5 +1,5 @@
 -- After each turn the flag says whether all counts passed are those of the layout.
-use Prim.Native.Nat.{ℕ, ◌≤◌, ◌-◌}
+use Prim.Native.Nat.{ℕ, ◌≤◌}
 use mathlib.Core.Path.{◌≡◌}
 use lib.IntN.{pos}
 use lib.ListN.{length, get_or}
@@ -9,6 +9,3 @@ use Rattle.comparing.proofs.slices.holds_counts.Given as goal
 
 abbrev pub invariant-loop-i : goal.invariant-loop-i
 invariant-loop-i l = (l.i ≤ length l.counts) × (l.same ≡ all_below (λ (k : ℕ). is_count l.elements k (get_or l.counts k (pos 0))) l.i)
-
-abbrev pub decreases-loop-i : goal.decreases-loop-i
-decreases-loop-i l = length l.counts - l.i

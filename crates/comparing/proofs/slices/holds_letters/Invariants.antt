@@ -1,5 +1,5 @@
 -- After each turn the flag says whether all letters passed are those of the layout.
-use Prim.Native.Nat.{ℕ, ◌≤◌, ◌-◌}
+use Prim.Native.Nat.{ℕ, ◌≤◌}
 use mathlib.Core.Path.{◌≡◌}
 use lib.Dec.{eqb}
 use lib.ListN.{length, get_or}
@@ -9,6 +9,3 @@ use Rattle.comparing.proofs.slices.holds_letters.Given as goal
 
 abbrev pub invariant-loop-i : goal.invariant-loop-i
 invariant-loop-i l = (l.i ≤ length l.letters) × (l.same ≡ all_below (λ (k : ℕ). eqb (get_or l.letters k 0) (letter_or l.elements k)) l.i)
-
-abbrev pub decreases-loop-i : goal.decreases-loop-i
-decreases-loop-i l = length l.letters - l.i

@@ -23,4 +23,4 @@ pub returns : goal.returns
 returns c =
     let a = c.args in
     let l = c.loop-i in
-    l.invariant.1 ∙ ap (words_put a.layout.now a.words.now) (le_antisymm l.invariant.0 (rw l.invariant.2 at c.loop-i-test.false))
+    l.invariant.1 ∙ ap (words_put a.layout.now a.words.now) (le_antisymm l.invariant.0 c.loop-i-test.false)

@@ -23,8 +23,5 @@ module _ (c : After-is_same) where
       (c.ask-said.ensures
       ∙ ap (λ (e : Entry). asked (lent c.args.head c.args.genome.now c.args.transcript.now c.args.letters.now c.args.exons.now) e.question) entry))
 
-pub returns-then-is_same : goal.returns-then-is_same
-returns-then-is_same c = rw (← compared (goal.at.returns-then-is_same c).After-is_same, c.if-is_same.true)
-
 pub returns : goal.returns
-returns c = rw (← compared (goal.at.returns c).After-is_same, c.if-is_same.false)
+returns c = compared (goal.at.returns c).After-is_same

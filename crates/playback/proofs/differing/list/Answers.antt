@@ -6,7 +6,7 @@ use Prim.Native.Nat.{ℕ, ◌+◌, ◌≤◌, ◌<◌}
 use native.Mathlib.Omega.{arith}
 use borrow.Author.Tests.{lt-ltb, le-ltb}
 use lib.ListN.{length}
-use Rattle.spelling.specs.declared.Written.TheVariants as answer
+use Rattle.refusals.specs.Outcome.{Ok}
 use Rattle.holding.specs.Holding.{lent}
 use Rattle.card.specs.Putting.{Put}
 use Rattle.card.specs.laws.Putting.{then_put, put_length, put_as, put_front}
@@ -17,64 +17,47 @@ use Rattle.playback.specs.Replay.{replay_text}
 use Rattle.playback.proofs.laws.Replay.{text_length, replay_short}
 use Rattle.playback.proofs.Walk.{found}
 use Rattle.playback.proofs.differing.list.Goals as goal
-use Rattle.playback.proofs.differing.list.Tie as tie
-use Rattle.playback.proofs.differing.list.Lts as lts
+use Rattle.playback.proofs.differing.list.Goals.{After-line_len}
 
 -- what was measured
-module _ (c : lts.After-line_len tie.the-claims tie.handed_pre tie.handed_post tie.handed_clauses) where
-  abbrev measured : lts.After-measure tie.the-claims tie.handed_pre tie.handed_post tie.handed_clauses
-  measured = c.before
-
-  abbrev start : lts.Start tie.the-claims tie.handed_pre tie.handed_post tie.handed_clauses
-  start = measured.before.before.before
-
+module _ (c : After-line_len) where
   abbrev indices : List ℕ
-  indices = found (lent start.args.head start.args.genome.now start.args.transcript.now start.args.letters.now start.args.exons.now) start.args.log.now start.args.count
+  indices = found (lent c.args.head c.args.genome.now c.args.transcript.now c.args.letters.now c.args.exons.now) c.args.log.now c.args.count
 
-  total_is : measured.measure-lines.result.total ≡ length indices
-  total_is = measured.measure-lines.ensures.total_value
+  total_is : c.measure-lines.result.total ≡ length indices
+  total_is = c.measure-lines.ensures.total_value
 
-  size_is : measured.measure-lines.result.size + c.line_len.result ≡ length (replay_text indices)
+  size_is : c.measure-lines.result.size + c.line_len.result ≡ length (replay_text indices)
   size_is =
-      omega (arith, measured.measure-lines.ensures.size_value, c.line_len.ensures.value, ap (λ (n : ℕ). length (line_of n)) total_is, text_length indices)
+      omega (arith, c.measure-lines.ensures.size_value, c.line_len.ensures.value, ap (λ (n : ℕ). length (line_of n)) total_is, text_length indices)
 
   short : length (replay_text indices) ≤ most_replay
-  short = replay_short _ _ (omega (arith, from_length start.args.count start.args.log.now entries_at))
+  short = replay_short _ _ (omega (arith, from_length c.args.count c.args.log.now entries_at))
 
 pub overflow_add-size : goal.overflow_add-size
-overflow_add-size c = omega (arith, size_is c.before.before, short c.before.before)
+overflow_add-size c = let m = (goal.at.overflow_add-size c).After-line_len in omega (arith, size_is m, short m)
 
 pub returns-then-buffer-size : goal.returns-then-buffer-size
 returns-then-buffer-size c =
-    let m = c.before.before.before in
-    let long : length (start m).args.buffer.now < length (replay_text (indices m)) = omega (arith, size_is m) in
+    let m = (goal.at.returns-then-buffer-size c).After-line_len in
+    let long : length c.args.buffer.now < length (replay_text (indices m)) = omega (arith, size_is m) in
     rw (lt-ltb _ _ long) record { value = refl; buffer_after = refl }
 
 pub put_lines-end-requires : goal.put_lines-end-requires
 put_lines-end-requires c =
-    let m = c.before.before.before.before in
-    record { count_le_most_entries = (start m).requires; entries_at_in_bounds = omega (arith, size_is m, text_length (indices m)) }
+    let m = (goal.at.put_lines-end-requires c).After-line_len in
+    record { count_le_most_entries = c.requires; entries_at_in_bounds = omega (arith, size_is m, text_length (indices m)) }
 
 pub put_line-requires : goal.put_line-requires
 put_line-requires c =
-    let m = c.before.before.before.before.before.before.before.before in
+    let m = (goal.at.put_line-requires c).After-line_len in
     let p = c.put_lines-end.ensures in
     omega (arith, put_length p, p.past, size_is m, text_length (indices m), ap (λ (n : ℕ). length (line_of n)) (total_is m))
 
--- what is stored in the end
-module _ (c : lts.After-slice_known3 tie.the-claims tie.handed_pre tie.handed_post tie.handed_clauses) where
-  abbrev at_size : lts.After-line_len tie.the-claims tie.handed_pre tie.handed_post tie.handed_clauses
-  at_size = c.before.before.before.before.before.before.before.before.before.before
-
-  whole : Put (start at_size).args.buffer.now c.put_line.new.buffer 0 c.put_line.result (replay_text (indices at_size))
-  unfolding replay_text
-  whole = then_put c.put_lines-end.ensures (put_as (ap line_of (total_is at_size)) c.put_line.ensures)
-
-pub shape_of-buffer : goal.shape_of-buffer
-shape_of-buffer c = put_length (whole c.before)
-
 pub returns : goal.returns
+unfolding replay_text
 returns c =
-    let m = at_size c.before in
-    let fits : length (replay_text (indices m)) ≤ length (start m).args.buffer.now = omega (arith, size_is m) in
-    rw (le-ltb _ _ fits) record { value = ap answer.Text (size_is m); buffer_after = (put_front (whole c.before) (omega (arith, (whole c.before).past))).1 }
+    let m = (goal.at.returns c).After-line_len in
+    let whole : Put c.args.buffer.now c.put_line.new.buffer 0 c.put_line.result (replay_text (indices m)) = then_put c.put_lines-end.ensures (put_as (ap line_of (total_is m)) c.put_line.ensures) in
+    let fits : length (replay_text (indices m)) ≤ length c.args.buffer.now = omega (arith, size_is m) in
+    rw (le-ltb _ _ fits) record { value = ap Ok (size_is m); buffer_after = (put_front whole (omega (arith, whole.past))).1 }

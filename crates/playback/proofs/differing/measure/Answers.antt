@@ -18,7 +18,7 @@ pub loop-i-init : goal.loop-i-init
 loop-i-init c =
     let x = lent_at (goal.at.loop-i-init c).Start in
     let log = c.args.log.now in
-    (omega arith, omega arith, omega arith, sym (ap length (none_found x log)), sym (ap length (lines_none x log)))
+    (omega arith, omega arith, sym (ap length (none_found x log)), sym (ap length (lines_none x log)))
 
 pub overflow_add-total : goal.overflow_add-total
 overflow_add-total c = omega (arith, one_at_most c.differs_at-differ.result)
@@ -35,7 +35,6 @@ loop-i-preserved c =
     let one : c.star_number-total.result ≡ star_of (differs_at x log l.i) = c.star_number-total.ensures ∙ ap star_of d.ensures in
     let line : c.len_if-size.result ≡ length (lines_of (index_if (differs_at x log l.i) l.i)) =
     c.len_if-size.ensures.value ∙ ap (λ (b : Bool). length (lines_of (index_if b l.i))) d.ensures in (
-      omega arith,
       omega (arith, one_at_most d.result),
       omega arith,
       omega (arith, total_more x log l.i),
@@ -45,4 +44,4 @@ loop-i-preserved c =
 pub returns : goal.returns
 returns c =
     let all : c.loop-i.i ≡ c.args.count = omega arith in
-    record { total_value = rw all at c.loop-i.invariant.3; size_value = rw all at c.loop-i.invariant.4 }
+    record { total_value = rw all at c.loop-i.invariant.2; size_value = rw all at c.loop-i.invariant.3 }

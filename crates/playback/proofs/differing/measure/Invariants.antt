@@ -1,7 +1,7 @@
 -- `playback::differing::measure` meets its contract. The loop's invariant: the total and the size are those of the entries passed.
 -- Assumes nothing.
 use mathlib.Core.Path.{◌≡◌}
-use Prim.Native.Nat.{◌*◌, ◌-◌, ◌≤◌}
+use Prim.Native.Nat.{◌*◌, ◌≤◌}
 use lib.ListN.{length}
 use Rattle.holding.specs.Holding.{lent}
 use Rattle.playback.specs.Lines.{lines_of, most_line}
@@ -10,9 +10,6 @@ use Rattle.playback.proofs.differing.measure.Given as goal
 
 abbrev pub invariant-loop-i : goal.invariant-loop-i
 invariant-loop-i l =
-    (l.i ≤ l.count) × (l.total ≤ l.i) × (l.size ≤ most_line * l.i)
+    (l.total ≤ l.i) × (l.size ≤ most_line * l.i)
     × (l.total ≡ length (found (lent l.head l.genome l.transcript l.letters l.exons) l.log l.i))
     × (l.size ≡ length (lines_of (found (lent l.head l.genome l.transcript l.letters l.exons) l.log l.i)))
-
-abbrev pub decreases-loop-i : goal.decreases-loop-i
-decreases-loop-i l = l.count - l.i

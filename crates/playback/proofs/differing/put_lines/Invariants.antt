@@ -1,6 +1,5 @@
 -- `playback::differing::put_lines` meets its contract. The loop's invariant: the lines of the entries passed are put.
 -- Assumes nothing.
-use Prim.Native.Nat.{◌-◌, ◌≤◌}
 use Rattle.holding.specs.Holding.{lent}
 use Rattle.card.specs.Putting.{Put}
 use Rattle.playback.specs.Lines.{lines_of}
@@ -9,7 +8,4 @@ use Rattle.playback.proofs.differing.put_lines.Given as goal
 
 abbrev pub invariant-loop-index : goal.invariant-loop-index
 invariant-loop-index l =
-    (l.index ≤ l.count) × Put l.initial.buffer l.buffer 0 l.end (lines_of (found (lent l.head l.genome l.transcript l.letters l.exons) l.log l.index))
-
-abbrev pub decreases-loop-index : goal.decreases-loop-index
-decreases-loop-index l = l.count - l.index
+    Put l.initial.buffer l.buffer 0 l.end (lines_of (found (lent l.head l.genome l.transcript l.letters l.exons) l.log l.index))

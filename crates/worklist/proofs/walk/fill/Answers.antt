@@ -7,7 +7,7 @@ use Rattle.spots.specs.Aligned.{aligned_by, Aligns, InSegment}
 use Rattle.spots.specs.declared.Alignment.{Alignment}
 use Rattle.worklist.specs.declared.Slot.{Slot}
 use Rattle.worklist.specs.Worklist.{Track, positions_of, never_falls, steps_after, steps_laid}
-use Rattle.refusals.specs.Outcome.{answered}
+use Rattle.refusals.specs.Outcome.{Ok}
 use Rattle.worklist.specs.Walking.{track_by, next_index, Ready, answered_by}
 use Rattle.worklist.proofs.laws.Along.{index_begins, index_on, walk_ready, walk_next, walk_here}
 use Rattle.worklist.proofs.Front.{front, front_at, front_set, front_all}
@@ -61,50 +61,50 @@ module _ (al : Alignment) (genome transcript letters exons : List ℕ) (ys : Lis
         ap (set (front ys ws i) i) (ap (answered_by (aligned_by al (tables genome transcript letters) exons)) own ∙ sym (get_or-map (answered_by (aligned_by al (tables genome transcript letters) exons)) ys i none))
         ∙ front_set ys ws ws_length i (answered_by (aligned_by al (tables genome transcript letters) exons) none) l
 
-pub loop-i-init : goal.loop-i-init
-loop-i-init c = record { within = omega arith; stands = index_begins (track_by c.args.at c.args.genome.now) (positions_of c.args.slots.now); filled = refl }
+pub loop-slot-init : goal.loop-slot-init
+loop-slot-init c = record { within = omega arith; stands = index_begins (track_by c.args.at c.args.genome.now) (positions_of c.args.slots.now); filled = refl }
 
 pub step-index-requires : goal.step-index-requires
 step-index-requires c =
     let a = c.args in
-    let h = c.loop-i.invariant in
-    let l : c.loop-i.i < length a.slots.now = omega arith in
+    let h = c.loop-slot.invariant in
+    let l : c.loop-slot.slot-index < length a.slots.now = omega arith in
     rw (h.stands, h.filled)
-    (c.requires.0.count_to, ready a.at a.genome.now a.transcript.now a.letters.now a.exons.now a.slots.now c.requires.0 c.requires.1 c.loop-i.i l)
+    (c.requires.0.count_to, ready a.at a.genome.now a.transcript.now a.letters.now a.exons.now a.slots.now c.requires.0 c.requires.1 c.loop-slot.slot-index l)
 
-pub answer_slot-t-requires : goal.answer_slot-t-requires
-answer_slot-t-requires c =
+pub answer_slot-requires : goal.answer_slot-requires
+answer_slot-requires c =
     let a = c.args in
-    let h = c.loop-i.invariant in
-    let i : ℕ = c.loop-i.i in
+    let h = c.loop-slot.invariant in
+    let i : ℕ = c.loop-slot.slot-index in
     let l : i < length a.slots.now = omega arith in
     let next = next_is a.at a.genome.now a.transcript.now a.letters.now a.exons.now a.slots.now c.requires.0 c.requires.1 i l in
     rw (c.step-index.ensures, h.stands, h.filled, next)
     (c.requires.0, stands a.at a.genome.now a.transcript.now a.letters.now a.exons.now a.slots.now c.requires.0 c.requires.1 i l)
 
-pub loop-i-preserved : goal.loop-i-preserved
-loop-i-preserved c =
+pub loop-slot-preserved : goal.loop-slot-preserved
+loop-slot-preserved c =
     let a = c.args in
-    let h = c.loop-i.invariant in
-    let i : ℕ = c.loop-i.i in
+    let h = c.loop-slot.invariant in
+    let i : ℕ = c.loop-slot.slot-index in
     let l : i < length a.slots.now = omega arith in
     let next = next_is a.at a.genome.now a.transcript.now a.letters.now a.exons.now a.slots.now c.requires.0 c.requires.1 i l in
     let put = written a.at a.genome.now a.transcript.now a.letters.now a.exons.now a.slots.now c.requires.0 c.requires.1 i l in
-    record { within = omega arith; stands = rw (c.step-index.ensures, h.stands, h.filled) next; filled = rw (c.answer_slot-t.ensures, h.filled) put }
+    record { within = omega arith; stands = rw (c.step-index.ensures, h.stands, h.filled) next; filled = rw (c.answer_slot.ensures, h.filled) put }
 
 pub told-requires : goal.told-requires
 told-requires c =
     let a = c.args in
-    let on = index_on (track_by a.at a.genome.now) c.requires.0.count_from (positions_of a.slots.now) c.loop-i.i in
-    rw c.loop-i.invariant.stands (omega (arith, on, c.requires.0.count_to))
+    let on = index_on (track_by a.at a.genome.now) c.requires.0.count_from (positions_of a.slots.now) c.loop-slot.slot-index in
+    rw c.loop-slot.invariant.stands (omega (arith, on, c.requires.0.count_to))
 
 pub returns : goal.returns
 returns c =
     let a = c.args in
-    let h = c.loop-i.invariant in
+    let h = c.loop-slot.invariant in
     let ys : List Slot = a.slots.now in
     let long = gs_length a.at a.genome.now a.transcript.now a.letters.now a.exons.now ys c.requires.0 c.requires.1 in
-    let all : c.loop-i.i ≡ length (positions_of ys) = omega (arith, long) in (
-      c.told.ensures ∙ ap (λ (n : ℕ). steps_laid (answered n)) (h.stands ∙ ap (steps_after (track_by a.at a.genome.now) (positions_of ys)) all),
-      h.filled ∙ front_all ys _ (ws_length a.at a.genome.now a.transcript.now a.letters.now a.exons.now ys c.requires.0 c.requires.1) c.loop-i.i (omega arith),
+    let all : c.loop-slot.slot-index ≡ length (positions_of ys) = omega (arith, long) in (
+      c.told.ensures ∙ ap (λ (n : ℕ). steps_laid (Ok n)) (h.stands ∙ ap (steps_after (track_by a.at a.genome.now) (positions_of ys)) all),
+      h.filled ∙ front_all ys _ (ws_length a.at a.genome.now a.transcript.now a.letters.now a.exons.now ys c.requires.0 c.requires.1) c.loop-slot.slot-index (omega arith),
     )

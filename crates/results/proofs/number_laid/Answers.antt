@@ -1,9 +1,0 @@
--- `results::number_laid` meets its contract. Assumes nothing.
-use borrow.Author.Tests.{eq-eqb, ne_eqb}
-use Rattle.results.proofs.number_laid.Goals as goal
-
-pub returns-then-number-eq0 : goal.returns-then-number-eq0
-returns-then-number-eq0 c = rw (eq-eqb c.args.number 0 c.if-number-eq0.true)
-
-pub returns : goal.returns
-returns c = rw (ne_eqb c.args.number 0 c.if-number-eq0.false)
