@@ -17,8 +17,8 @@ ghost use Rattle.knowing.specs.Knowing.{paper_coding};
 
 use knowing::Cds;
 use positions::{
-    Answer, CPosition, CQuestion, GPosition, GQuestion, Interval, NPosition, NQuestion, Plain,
-    fitting,
+    Answer, CPosition, CQuestion, GPosition, GQuestion, Interval, Marked, NPosition, NQuestion,
+    Plain, fitting,
 };
 use refusals::{MOST_SEGMENTS, MOST_STARTS, Refusal};
 use spots::Alignment;
@@ -78,9 +78,16 @@ pub fn then_n_to_c(
 ) -> Answer<CPosition>
     ensures { paper_c result ≡ chain asks_n (paper_n n) (map_n_to_c strict length (paper_coding cds)) }
 {
-    let first = n?;
-    let q = positions::asked_again(first.interval);
-    fitting::marked(first.certain, first.exons, n_to_c(length, cds, q, strict))
+    match n? {
+        Marked::Certain(i, exons) => {
+            let q = positions::asked_again(i);
+            fitting::marked(true, exons, n_to_c(length, cds, q, strict))
+        }
+        Marked::Uncertain(i, exons) => {
+            let q = positions::asked_again(i);
+            fitting::marked(false, exons, n_to_c(length, cds, q, strict))
+        }
+    }
 }
 
 // The second step of c. to g.

@@ -7,7 +7,7 @@ ghost use Rattle.positions.specs.Answers.{once, mark_of, unmarked};
 ghost use Rattle.positions.specs.Paper.{paper_marked, paper_unmarked, paper_g_position, paper_n_position, paper_c_position};
 ghost use Rattle.layout.specs.Layout.{star_of, g_laid, n_laid, c_laid, refusal, laid, said_laid};
 
-use positions::{CPosition, Exons, GPosition, Interval, NPosition, Plain};
+use positions::{CPosition, Exons, GPosition, Interval, Marked, NPosition, Plain};
 use refusals::Refusal;
 
 // `exon` is 0 where the mapping carries no exon's number.
@@ -176,10 +176,8 @@ pub fn lay<P: Laid>(a: positions::Answer<P>) -> Answer
     ensures { result ≡ laid P.place (through (paper_marked P.says) a) }
 {
     match a {
-        Ok(m) => {
-            let mark = if m.certain { 1 } else { 2 };
-            lay_interval(mark, m.exons, m.interval)
-        }
+        Ok(Marked::Certain(i, exons)) => lay_interval(1, exons, i),
+        Ok(Marked::Uncertain(i, exons)) => lay_interval(2, exons, i),
         Err(k) => refusal_of(k),
     }
 }

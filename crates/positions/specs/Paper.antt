@@ -1,14 +1,15 @@
--- What the code's structs say, in the paper's terms, where these differ from the code's: a contract sets these values equal to a definition's. The paper's numbers are of any size, the code's of 32 bits. Assumes nothing.
-use Rattle.std.specs.Prelude.{ℕ, Bool}
+-- What the code's structs and enums say, in the paper's terms, where these differ from the code's: a contract sets these values equal to a definition's. The paper's numbers are of any size, the code's of 32 bits. Assumes nothing.
+use Rattle.std.specs.Prelude.{ℕ, Bool, cond}
 use Rattle.refusals.specs.Outcome.{Outcome, through}
 use Rattle.positions.specs.Positions.{Interval, each, NAsked, CAsked, GPosition, NPosition, CPosition}
-use Rattle.positions.specs.Answers.{Answer, mark_of, unmarked}
+use Rattle.positions.specs.Answers.{Answer, certain, uncertain, unmarked}
 use Rattle.positions.specs.Answers as paper
 use Rattle.positions.specs.declared.NAsked as code_n_asked
 use Rattle.positions.specs.declared.CAsked as code_c_asked
 use Rattle.positions.specs.declared.GPosition as code_g
 use Rattle.positions.specs.declared.NPosition as code_n
 use Rattle.positions.specs.declared.CPosition as code_c
+use Rattle.positions.specs.declared.Marked as code_marked
 use Rattle.positions.specs.declared.Marked.{Marked}
 
 -- ---- what is asked
@@ -59,11 +60,12 @@ paper_c_end a = through paper_c_position a
 
 -- the code's interval with its mark and its exons
 abbrev pub marking : {C : Type 0} → Bool → Interval ℕ → Interval C → Marked C
-marking sure exons i = record { certain = sure; exons = exons; interval = i }
+marking sure exons i = cond sure (code_marked.TheVariants.Certain i exons) (code_marked.TheVariants.Uncertain i exons)
 
 -- an answer across the genome, by what one of its positions says; and one that bears no mark
 abbrev pub paper_marked : {C P : Type 0} → (C → P) → Marked C → paper.Marked P
-paper_marked says a = record { mark = mark_of a.certain a.exons; interval = each says a.interval }
+paper_marked says (code_marked.TheVariants.Certain i exons) = record { mark = certain exons; interval = each says i }
+paper_marked says (code_marked.TheVariants.Uncertain i exons) = record { mark = uncertain exons; interval = each says i }
 
 abbrev pub paper_unmarked : {C P : Type 0} → (C → P) → Interval C → paper.Marked P
 paper_unmarked says i = record { mark = unmarked; interval = each says i }

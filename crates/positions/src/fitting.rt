@@ -66,9 +66,8 @@ pub fn marked<P: Copy>(certain: bool, exons: Exons, a: Plain<P>) -> Answer<P>
     ensures { result ≡ through (marking certain exons) a }
 {
     let interval = a?;
-    Ok(Marked {
-        certain,
-        exons,
-        interval,
-    })
+    if certain {
+        return Ok(Marked::Certain(interval, exons));
+    }
+    Ok(Marked::Uncertain(interval, exons))
 }

@@ -60,12 +60,11 @@ pub struct CPosition {
 // The number of the exon of each end of an interval, which a question across the genome is answered with too.
 pub type Exons = Interval<u16>;
 
-// An interval across the genome: whether it is certain, its exons, and its ends.
+// An interval across the genome with its exons, which is certain or uncertain.
 #[derive(Clone, Copy)]
-pub struct Marked<P> {
-    pub certain: bool,
-    pub exons: Exons,
-    pub interval: Interval<P>,
+pub enum Marked<P> {
+    Certain(Interval<P>, Exons),
+    Uncertain(Interval<P>, Exons),
 }
 
 // What a question across the genome is answered with.

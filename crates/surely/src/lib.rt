@@ -57,20 +57,6 @@ pub fn sure_n(
     laid_base(exon, spots::n_of_spot(false, len, spot))
 }
 
-// The c. position of an n. position, which is both ends of its interval; 13, 15, 17.
-fn coded(
-    n: Result<NPosition, Refusal>,
-    length: u32,
-    cds: Option<Cds>,
-    strict: bool,
-) -> Result<CPosition, Refusal>
-    ensures { paper_c_end result ≡ and_then (paper_n_end n) (one_coded strict length (paper_coding cds)) }
-{
-    let base = n?;
-    let c = cds.ok_or(Refusal::NotCoding)?;
-    coding::one_to_c(strict, length, c.start, c.end, base)
-}
-
 // The c. answer of a sure base, by its spot.
 #[tactic(auto, using(crate::proofs::Once::c_once))]
 pub fn sure_c(
@@ -86,10 +72,13 @@ pub fn sure_c(
 {
     let exon = spots::found_exon(at, exons, spot);
     let len = spots::last(transcript, at.count);
-    laid_base(
-        exon,
-        coded(spots::n_of_spot(at.forward, len, spot), len, cds, strict),
-    )
+    match spots::n_of_spot(at.forward, len, spot) {
+        Ok(n) => match cds {
+            Some(c) => laid_base(exon, coding::one_to_c(strict, len, c.start, c.end, n)),
+            None => lay::refusal_of(Refusal::NotCoding),
+        },
+        Err(k) => lay::refusal_of(k),
+    }
 }
 
 // The base of a c. interval whose ends are one position, where the transcript has a CDS, sought in the transcript's table.

@@ -20,6 +20,7 @@ module _ {C P : Type 0} (says : C → P) where
 
   -- the two together
   pub marked_both : (sure : Bool) (exons : Interval ℕ) (a b : Outcome C) → through (paper_marked says) (through (marking sure exons) (both between a b)) ≡ ends (mark_of sure exons) (through says a) (through says b)
-  marked_both sure exons (Ok a) (Ok b) = refl
+  marked_both true exons (Ok a) (Ok b) = refl
+  marked_both false exons (Ok a) (Ok b) = refl
   marked_both sure exons (Ok a) (Err k) = refl
   marked_both sure exons (Err k) b = refl

@@ -5,10 +5,11 @@ use Rattle.refusals.specs.Outcome.{Outcome, Ok, Err, through}
 use Rattle.positions.specs.Positions.{Interval, each, GPosition, NPosition, CPosition}
 use Rattle.positions.specs.Answers.{Mark, certain, uncertain, unmarked, exons_of, mark_of, Answer}
 use Rattle.positions.specs.Answers as paper
-use Rattle.positions.specs.Paper.{paper_marked, paper_unmarked, paper_g_position, paper_n_position, paper_c_position, paper_g, paper_n, paper_c, paper_n_plain, paper_c_plain}
+use Rattle.positions.specs.Paper.{marking, paper_marked, paper_unmarked, paper_g_position, paper_n_position, paper_c_position, paper_g, paper_n, paper_c, paper_n_plain, paper_c_plain}
 use Rattle.positions.specs.declared.GPosition as code_g
 use Rattle.positions.specs.declared.NPosition as code_n
 use Rattle.positions.specs.declared.CPosition as code_c
+use Rattle.positions.specs.declared.Marked as code_marked
 use Rattle.positions.specs.declared.Marked.{Marked}
 
 -- a reading that can be undone reads no two values alike
@@ -32,19 +33,16 @@ is_certain (uncertain exons) = false
 is_certain unmarked = false
 
 abbrev back_marked : {C P : Type 0} → (P → C) → paper.Marked P → Marked C
-back_marked back a = record { certain = is_certain a.mark; exons = exons_of a.mark; interval = each back a.interval }
+back_marked back a = marking (is_certain a.mark) (exons_of a.mark) (each back a.interval)
 
 -- what one position says is undone by `back`, so what an answer of such positions says is
 module _ {C P : Type 0} (says : C → P) (back : P → C) (is : (a : C) → back (says a) ≡ a) where
   interval_is : (i : Interval C) → each back (each says i) ≡ i
   interval_is i = rw (is i.from, is i.to)
 
-  mark_is : (sure : Bool) (exons : Interval ℕ) → (is_certain (mark_of sure exons) ≡ sure) × (exons_of (mark_of sure exons) ≡ exons)
-  mark_is true exons = (refl, refl)
-  mark_is false exons = (refl, refl)
-
   marked_is : (a : Outcome (Marked C)) → through (back_marked back) (through (paper_marked says) a) ≡ a
-  marked_is (Ok m) = let (sure, exons) = mark_is m.certain m.exons in rw (sure, exons, interval_is m.interval)
+  marked_is (Ok (code_marked.TheVariants.Certain i exons)) = rw (interval_is i)
+  marked_is (Ok (code_marked.TheVariants.Uncertain i exons)) = rw (interval_is i)
   marked_is (Err k) = refl
 
   marked_same : (x : Answer P) (a b : Outcome (Marked C)) → through (paper_marked says) a ≡ x → through (paper_marked says) b ≡ x → a ≡ b
