@@ -27,7 +27,7 @@ coding_in h = if both_given h then Some (record { start = nat_abs h.start; end =
 
 -- how a head's transcript lies, or its length, and its CDS
 abbrev pub head_says : Head → Known
-head_says h = if of_records h then known.Aligned (alignment_of h) (coding_in h) else known.OfLength (nat_abs h.length) (coding_in h)
+head_says h = if of_records h then known.Aligned (coding_in h) (alignment_of h) else known.OfLength (coding_in h) (nat_abs h.length)
 
 -- of a transcript that holds together: what its head says; 23 of any other
 abbrev pub known_of : Lent → Outcome Known

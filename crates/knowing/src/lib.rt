@@ -19,11 +19,11 @@ pub struct Cds {
     pub end: u32,
 }
 
-// A transcript that was built from records, or one that is known by its length alone; and the CDS of the two.
+// The CDS of a transcript that was built from records, or of one that is known by its length alone, and how the one lies or how long the other is. The CDS stands first, so that it lies at one place in memory in both: what is handed on is then read in the pieces in which it was stored.
 #[derive(Clone, Copy)]
 pub enum Known {
-    Aligned(Alignment, Option<Cds>),
-    OfLength(u32, Option<Cds>),
+    Aligned(Option<Cds>, Alignment),
+    OfLength(Option<Cds>, u32),
 }
 
 // How a transcript that was built from records lies on the genome.
@@ -67,9 +67,9 @@ pub fn told_of(head: Head, transcript: &[u32; MOST_STARTS]) -> Result<Known, Ref
         let cds = coding_of(head);
         let kind = head.kind;
         if kind == OF_RECORDS {
-            return Ok(Known::Aligned(alignment(head), cds));
+            return Ok(Known::Aligned(cds, alignment(head)));
         }
-        return Ok(Known::OfLength(holding::natural(head.length), cds));
+        return Ok(Known::OfLength(cds, holding::natural(head.length)));
     }
     Err(Refusal::NotTogether)
 }
@@ -101,13 +101,13 @@ pub fn known_of(
     ensures { result ≡ known_of (lent head genome.now transcript.now letters.now exons.now) }
 {
     match told_of(head, transcript)? {
-        Known::Aligned(at, cds) => {
+        Known::Aligned(cds, at) => {
             if tables_hold(at, genome, transcript, letters, exons) {
-                return Ok(Known::Aligned(at, cds));
+                return Ok(Known::Aligned(cds, at));
             }
             Err(Refusal::NotTogether)
         }
-        Known::OfLength(length, cds) => Ok(Known::OfLength(length, cds)),
+        Known::OfLength(cds, length) => Ok(Known::OfLength(cds, length)),
     }
 }
 

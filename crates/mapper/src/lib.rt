@@ -24,7 +24,7 @@ pub fn g_to_n(
     ensures { paper_n result ≡ checked (lent head genome.now transcript.now letters.now exons.now) (ask_g_to_n strict q) }
 {
     match knowing::known_of(head, genome, transcript, letters, exons)? {
-        Known::Aligned(at, _) => chaining::g_to_n(
+        Known::Aligned(_, at) => chaining::g_to_n(
             at, genome, transcript, letters, exons, q, strict,
         ),
         Known::OfLength(_, _) => Err(Refusal::NoGenome),
@@ -44,7 +44,7 @@ pub fn n_to_g(
     ensures { paper_g result ≡ checked (lent head genome.now transcript.now letters.now exons.now) (ask_n_to_g strict (paper_n_question q)) }
 {
     match knowing::known_of(head, genome, transcript, letters, exons)? {
-        Known::Aligned(at, _) => places::to_g(at, genome, transcript, letters, exons, q, strict),
+        Known::Aligned(_, at) => places::to_g(at, genome, transcript, letters, exons, q, strict),
         Known::OfLength(_, _) => Err(Refusal::NoGenome),
     }
 }
@@ -62,10 +62,10 @@ pub fn n_to_c(
     ensures { paper_c_plain result ≡ checked (lent head genome.now transcript.now letters.now exons.now) (ask_n_to_c strict (paper_n_question q)) }
 {
     match knowing::known_of(head, genome, transcript, letters, exons)? {
-        Known::Aligned(at, cds) => {
+        Known::Aligned(cds, at) => {
             chaining::n_to_c(spots::last(transcript, at.count), cds, q, strict)
         }
-        Known::OfLength(length, cds) => chaining::n_to_c(length, cds, q, strict),
+        Known::OfLength(cds, length) => chaining::n_to_c(length, cds, q, strict),
     }
 }
 
@@ -82,10 +82,10 @@ pub fn c_to_n(
     ensures { paper_n_plain result ≡ checked (lent head genome.now transcript.now letters.now exons.now) (ask_c_to_n strict (paper_c_question q)) }
 {
     match knowing::known_of(head, genome, transcript, letters, exons)? {
-        Known::Aligned(at, cds) => {
+        Known::Aligned(cds, at) => {
             chaining::c_to_n(spots::last(transcript, at.count), cds, q, strict)
         }
-        Known::OfLength(length, cds) => chaining::c_to_n(length, cds, q, strict),
+        Known::OfLength(cds, length) => chaining::c_to_n(length, cds, q, strict),
     }
 }
 
@@ -102,7 +102,7 @@ pub fn g_to_c(
     ensures { paper_c result ≡ checked (lent head genome.now transcript.now letters.now exons.now) (ask_g_to_c strict q) }
 {
     match knowing::known_of(head, genome, transcript, letters, exons)? {
-        Known::Aligned(at, cds) => {
+        Known::Aligned(cds, at) => {
             let length = spots::last(transcript, at.count);
             let n = chaining::g_to_n(at, genome, transcript, letters, exons, q, strict);
             chaining::then_n_to_c(n, length, cds, strict)
@@ -124,12 +124,12 @@ pub fn c_to_g(
     ensures { paper_g result ≡ checked (lent head genome.now transcript.now letters.now exons.now) (ask_c_to_g strict (paper_c_question q)) }
 {
     match knowing::known_of(head, genome, transcript, letters, exons)? {
-        Known::Aligned(at, cds) => {
+        Known::Aligned(cds, at) => {
             let length = spots::last(transcript, at.count);
             let n = chaining::c_to_n(length, cds, q, strict);
             chaining::then_n_to_g(n, at, genome, transcript, letters, exons, strict)
         }
-        Known::OfLength(length, cds) => chaining::then_no_genome(chaining::c_to_n(
+        Known::OfLength(cds, length) => chaining::then_no_genome(chaining::c_to_n(
             length, cds, q, strict,
         )),
     }
@@ -147,8 +147,8 @@ pub fn is_coding_transcript(
 {
     // One or-pattern for both arms was tried, and its proof did not close.
     match knowing::known_of(head, genome, transcript, letters, exons)? {
-        Known::Aligned(_, cds) => Ok(chaining::is_coding(cds)),
-        Known::OfLength(_, cds) => Ok(chaining::is_coding(cds)),
+        Known::Aligned(cds, _) => Ok(chaining::is_coding(cds)),
+        Known::OfLength(cds, _) => Ok(chaining::is_coding(cds)),
     }
 }
 
@@ -164,7 +164,7 @@ pub fn is_g_interval_in_bounds(
     ensures { result ≡ checked (lent head genome.now transcript.now letters.now exons.now) (ask_in_bounds q) }
 {
     match knowing::known_of(head, genome, transcript, letters, exons)? {
-        Known::Aligned(at, _) => chaining::is_in_bounds(at, genome, q),
+        Known::Aligned(_, at) => chaining::is_in_bounds(at, genome, q),
         Known::OfLength(_, _) => Err(Refusal::NoGenome),
     }
 }

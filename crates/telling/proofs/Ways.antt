@@ -30,7 +30,7 @@ use Rattle.knowing.specs.declared.Known.TheVariants as known
 use Rattle.surely.specs.Surely.{Named}
 use Rattle.telling.specs.Seeking.{Based}
 
-module _ (x : Lent) (a : Alignment) (c : Option Cds) (k : known_of x ≡ Ok (known.Aligned a c)) (strict : Bool) where
+module _ (x : Lent) (a : Alignment) (c : Option Cds) (k : known_of x ≡ Ok (known.Aligned c a)) (strict : Bool) where
   abbrev lies : Transcript
   lies = aligned_by a x.tables x.exons
 

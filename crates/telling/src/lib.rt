@@ -83,7 +83,7 @@ pub fn g_to_n(
     ensures { result ≡ laid n_laid (checked (lent head genome.now transcript.now letters.now exons.now) (ask_g_to_n strict (g_asked start end missing))) }
 {
     match knowing::told_of(head, transcript) {
-        Ok(Known::Aligned(at, _)) => {
+        Ok(Known::Aligned(_, at)) => {
             let ends = chaining::both_ends(taking::g_asked(start, end, missing));
             let sought = seek_base(at, genome, ends);
             if knowing::tables_hold(at, genome, transcript, letters, exons) {
@@ -167,7 +167,7 @@ pub fn g_to_c(
     ensures { result ≡ laid c_laid (checked (lent head genome.now transcript.now letters.now exons.now) (ask_g_to_c strict (g_asked start end missing))) }
 {
     match knowing::told_of(head, transcript) {
-        Ok(Known::Aligned(at, cds)) => {
+        Ok(Known::Aligned(cds, at)) => {
             let ends = chaining::both_ends(taking::g_asked(start, end, missing));
             let sought = seek_base(at, genome, ends);
             if knowing::tables_hold(at, genome, transcript, letters, exons) {
@@ -221,7 +221,7 @@ pub fn c_to_g(
 {
     let asked = taking::c_asked(start, start_offset, start_star, end, end_offset, end_star);
     match knowing::told_of(head, transcript) {
-        Ok(Known::Aligned(at, cds)) => {
+        Ok(Known::Aligned(cds, at)) => {
             let sought = surely::seek_name(at, transcript, cds, asked, strict);
             if knowing::tables_hold(at, genome, transcript, letters, exons) {
                 if let Some(base) = sought {
@@ -252,7 +252,7 @@ pub fn c_to_g(
             }
             lay::refusal_of(Refusal::NotTogether)
         }
-        Ok(Known::OfLength(length, cds)) => {
+        Ok(Known::OfLength(cds, length)) => {
             lay::lay(chaining::then_no_genome(chaining::c_to_n(length, cds, asked, strict)))
         }
         Err(k) => lay::refusal_of(k),

@@ -51,7 +51,7 @@ module _ (x : Lent) where
   asked_of = aligned_by (alignment_of x.head) x.tables x.exons
 
   module _ (e : holds x ≡ true) (r : of_records x.head ≡ true) where
-    lies : known_of x ≡ Ok (known.Aligned (alignment_of x.head) (coding_in x.head))
+    lies : known_of x ≡ Ok (known.Aligned (coding_in x.head) (alignment_of x.head))
     lies = rw (e, r)
 
     slot_alike : (s : Slot) → answered_slot x s ≡ answered_by asked_of s

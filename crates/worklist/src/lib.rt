@@ -43,7 +43,7 @@ fn along<'a>(
     ensures { result ≡ along (lent head genome.now transcript.now letters.now exons.now) rises }
 {
     match knowing::known_of(head, genome, transcript, letters, exons)? {
-        Known::Aligned(at, _) => { if rises { Ok(at) } else { Err(Refusal::Falling) } }
+        Known::Aligned(_, at) => { if rises { Ok(at) } else { Err(Refusal::Falling) } }
         Known::OfLength(_, _) => Err(Refusal::NoGenome),
     }
 }

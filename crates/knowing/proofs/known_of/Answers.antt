@@ -10,14 +10,14 @@ use Rattle.knowing.proofs.known_of.Goals as goal
 use Rattle.knowing.proofs.known_of.Goals.{In-Aligned}
 
 -- what the head tells of tables that are looked at
-told_is : (c : In-Aligned) → told_of c.args.head c.args.transcript.now ≡ Ok (known.Aligned c.in-Aligned.at c.in-Aligned.cds)
-told_is c = sym c.told_of.ensures ∙ c.in_ok-at.was ∙ ap Ok c.in-Aligned.is
+told_is : (c : In-Aligned) → told_of c.args.head c.args.transcript.now ≡ Ok (known.Aligned c.in-Aligned.cds c.in-Aligned.at)
+told_is c = sym c.told_of.ensures ∙ c.in_ok-cds.was ∙ ap Ok c.in-Aligned.is
 
-pub returns-in_err-at : goal.returns-in_err-at
-returns-in_err-at c =
+pub returns-in_err-cds : goal.returns-in_err-cds
+returns-in_err-cds c =
     let a = c.args in
     let p = err_from_is_err_and c.from_residual.result c.from_residual.ensures.1 in
-    rw (p.1, p.2) (sym (told_broken (lent a.head a.genome.now a.transcript.now a.letters.now a.exons.now) (sym c.told_of.ensures ∙ c.in_err-at.was)))
+    rw (p.1, p.2) (sym (told_broken (lent a.head a.genome.now a.transcript.now a.letters.now a.exons.now) (sym c.told_of.ensures ∙ c.in_err-cds.was)))
 
 pub tables_hold-requires : goal.tables_hold-requires
 tables_hold-requires c = let l = told_lying _ _ _ _ (told_is (goal.at.tables_hold-requires c).In-Aligned) in (l.some, l.few)
@@ -29,4 +29,4 @@ pub returns-else-tables_hold : goal.returns-else-tables_hold
 returns-else-tables_hold c = sym (told_apart _ (told_is (goal.at.returns-else-tables_hold c).In-Aligned) (sym c.tables_hold.ensures ∙ c.if-tables_hold.false))
 
 pub returns-in-OfLength : goal.returns-in-OfLength
-returns-in-OfLength c = sym (told_length _ (sym c.told_of.ensures ∙ c.in_ok-at.was ∙ ap Ok c.in-OfLength.is))
+returns-in-OfLength c = sym (told_length _ (sym c.told_of.ensures ∙ c.in_ok-cds.was ∙ ap Ok c.in-OfLength.is))

@@ -68,7 +68,7 @@ module _ (x : Lent) where
         span = genome_length_lem x w;
       }
 
-  pub known_lies : (a : Alignment) (c : Option Cds) → known_of x ≡ Ok (known.Aligned a c) → Lies x a c
+  pub known_lies : (a : Alignment) (c : Option Cds) → known_of x ≡ Ok (known.Aligned c a) → Lies x a c
   known_lies a c =
       by_test (holds x)
       (λ e.
@@ -80,7 +80,7 @@ module _ (x : Lent) where
       (λ r. rw (e, r) (λ k. let z : ◌≡◌ {A = ℕ} 0 1 = cc in absurd (omega arith))))
       (λ e. rw e (λ k. let z : ◌≡◌ {A = ℕ} 0 1 = cc in absurd (omega arith)))
 
-  pub known_measures : (n : ℕ) (c : Option Cds) → known_of x ≡ Ok (known.OfLength n c) → Measures x n c
+  pub known_measures : (n : ℕ) (c : Option Cds) → known_of x ≡ Ok (known.OfLength c n) → Measures x n c
   known_measures n c =
       by_test (holds x)
       (λ e.
@@ -103,9 +103,9 @@ module _ (x : Lent) where
       (λ e. rw (e, checked_broken x ask e) (λ t. ap (λ (n : Refusal). Err n) (same_refusal t)))
 
   -- a question to a length
-  pub ask_length : {A : Type 0} (ask : Source → Outcome A) {n : ℕ} {c : Option Cds} → known_of x ≡ Ok (known.OfLength n c) → checked x ask ≡ ask (length_only n (paper_coding c))
+  pub ask_length : {A : Type 0} (ask : Source → Outcome A) {n : ℕ} {c : Option Cds} → known_of x ≡ Ok (known.OfLength c n) → checked x ask ≡ ask (length_only n (paper_coding c))
   ask_length ask {n} {c} k = let m = known_measures n c k in checked_held x ask m.held ∙ ap ask m.source
 
   -- a question to what lies on the genome
-  pub ask_lying : {A : Type 0} (ask : Source → Outcome A) {a : Alignment} {c : Option Cds} → known_of x ≡ Ok (known.Aligned a c) → checked x ask ≡ ask (aligned (lying a c x.tables x.exons))
+  pub ask_lying : {A : Type 0} (ask : Source → Outcome A) {a : Alignment} {c : Option Cds} → known_of x ≡ Ok (known.Aligned c a) → checked x ask ≡ ask (aligned (lying a c x.tables x.exons))
   ask_lying ask {a} {c} k = let f = known_lies a c k in checked_held x ask f.held ∙ ap ask f.source

@@ -20,10 +20,10 @@ use Rattle.knowing.specs.declared.Known.{Known}
 use Rattle.knowing.specs.declared.Known.TheVariants as known
 
 -- words that differ
-length_not_lying : {A : Type 0} {a : Alignment} {c d : Option Cds} {n : ℕ} → ◌≡◌ {A = Outcome Known} (Ok (known.OfLength n c)) (Ok (known.Aligned a d)) → A
+length_not_lying : {A : Type 0} {a : Alignment} {c d : Option Cds} {n : ℕ} → ◌≡◌ {A = Outcome Known} (Ok (known.OfLength c n)) (Ok (known.Aligned d a)) → A
 length_not_lying e = let z : ◌≡◌ {A = ℕ} 0 1 = cc in absurd (omega arith)
 
-lying_no_length : {A : Type 0} {a : Alignment} {c d : Option Cds} {n : ℕ} → ◌≡◌ {A = Outcome Known} (Ok (known.Aligned a c)) (Ok (known.OfLength n d)) → A
+lying_no_length : {A : Type 0} {a : Alignment} {c d : Option Cds} {n : ℕ} → ◌≡◌ {A = Outcome Known} (Ok (known.Aligned c a)) (Ok (known.OfLength d n)) → A
 lying_no_length e = let z : ◌≡◌ {A = ℕ} 0 1 = cc in absurd (omega arith)
 
 -- how a transcript lies that the head tells of: the head is right, and says just that
@@ -38,7 +38,7 @@ pub record Lying (h : Head) (transcript : List ℕ) (a : Alignment) (c : Option 
   pub some : 1 ≤ a.count
   pub few : a.count ≤ most_segments
 
-lying_by : (h : Head) (transcript : List ℕ) (a : Alignment) (c : Option Cds) (b : Option ℕ) → bases_of h transcript ≡ b → told_by h b ≡ Ok (known.Aligned a c) → Lying h transcript a c
+lying_by : (h : Head) (transcript : List ℕ) (a : Alignment) (c : Option Cds) (b : Option ℕ) → bases_of h transcript ≡ b → told_by h b ≡ Ok (known.Aligned c a) → Lying h transcript a c
 lying_by h transcript a c None e = λ t. absurd (clash t)
 lying_by h transcript a c (Some n) e =
     by_test (cds_holds h n)
@@ -52,7 +52,7 @@ lying_by h transcript a c (Some n) e =
     (λ r. rw (holding, r) (λ t. length_not_lying t)))
     (λ not. rw not (λ t. absurd (clash t)))
 
-pub told_lying : (h : Head) (transcript : List ℕ) (a : Alignment) (c : Option Cds) → told_of h transcript ≡ Ok (known.Aligned a c) → Lying h transcript a c
+pub told_lying : (h : Head) (transcript : List ℕ) (a : Alignment) (c : Option Cds) → told_of h transcript ≡ Ok (known.Aligned c a) → Lying h transcript a c
 unfolding told_of
 told_lying h transcript a c t = lying_by h transcript a c (bases_of h transcript) refl t
 
@@ -63,20 +63,20 @@ module _ (x : Lent) where
   abbrev tables_made : Alignment → Bool
   tables_made a = tables_hold a.forward a.records a.first x.tables x.exons a.count
 
-  module _ {a : Alignment} {c : Option Cds} (t : told ≡ Ok (known.Aligned a c)) where
+  module _ {a : Alignment} {c : Option Cds} (t : told ≡ Ok (known.Aligned c a)) where
     lying : Lying x.head x.tables.transcript a c
     lying = told_lying x.head x.tables.transcript a c t
 
     left : holds x ≡ tables_made a
     left = by_tables x lying.found lying.coding lying.records ∙ ap tables_made lying.at
 
-    pub told_lies : tables_made a ≡ true → known_of x ≡ Ok (known.Aligned a c)
+    pub told_lies : tables_made a ≡ true → known_of x ≡ Ok (known.Aligned c a)
     told_lies hold = rw (left ∙ hold, lying.records, lying.at, lying.cds)
 
     pub told_apart : tables_made a ≡ false → known_of x ≡ Err NotTogether
     told_apart not = rw (left ∙ not)
 
-  length_by : {n : ℕ} {c : Option Cds} (b : Option ℕ) → bases_of x.head x.tables.transcript ≡ b → told_by x.head b ≡ Ok (known.OfLength n c) → known_of x ≡ Ok (known.OfLength n c)
+  length_by : {n : ℕ} {c : Option Cds} (b : Option ℕ) → bases_of x.head x.tables.transcript ≡ b → told_by x.head b ≡ Ok (known.OfLength c n) → known_of x ≡ Ok (known.OfLength c n)
   length_by None e = λ t. absurd (clash t)
   length_by (Some n) e =
       by_test (cds_holds x.head n)
@@ -86,7 +86,7 @@ module _ (x : Lent) where
       (λ r. rw (holding, r, by_length x e r ∙ holding) (λ t. t)))
       (λ not. rw not (λ t. absurd (clash t)))
 
-  pub told_length : {n : ℕ} {c : Option Cds} → told ≡ Ok (known.OfLength n c) → known_of x ≡ Ok (known.OfLength n c)
+  pub told_length : {n : ℕ} {c : Option Cds} → told ≡ Ok (known.OfLength c n) → known_of x ≡ Ok (known.OfLength c n)
   unfolding told_of
   told_length t = length_by (bases_of x.head x.tables.transcript) refl t
 

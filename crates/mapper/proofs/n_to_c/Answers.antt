@@ -8,18 +8,18 @@ use Rattle.mapper.specs.laws.Lying.{lying_n_to_c}
 use Rattle.mapper.proofs.n_to_c.Goals as goal
 
 pub last-requires : goal.last-requires
-last-requires c = (known_lies _ _ _ (sym c.known_of.ensures ∙ c.in_ok-at.was ∙ ap Ok c.in-Aligned.is)).sound.count_to
+last-requires c = (known_lies _ _ _ (sym c.known_of.ensures ∙ c.in_ok-cds.was ∙ ap Ok c.in-Aligned.is)).sound.count_to
 
 pub returns-in-Aligned : goal.returns-in-Aligned
 returns-in-Aligned c =
-    rw c.last.ensures at c.n_to_c.ensures ∙ sym (lying_n_to_c _ _ _ (sym c.known_of.ensures ∙ c.in_ok-at.was ∙ ap Ok c.in-Aligned.is) c.args.strict _)
+    rw c.last.ensures at c.n_to_c.ensures ∙ sym (lying_n_to_c _ _ _ (sym c.known_of.ensures ∙ c.in_ok-cds.was ∙ ap Ok c.in-Aligned.is) c.args.strict _)
 
 pub returns-in-OfLength : goal.returns-in-OfLength
 unfolding ask_n_to_c
 returns-in-OfLength c =
-    c.n_to_c-in-OfLength.ensures ∙ sym (ask_length _ _ (sym c.known_of.ensures ∙ c.in_ok-at.was ∙ ap Ok c.in-OfLength.is))
+    c.n_to_c-in-OfLength.ensures ∙ sym (ask_length _ _ (sym c.known_of.ensures ∙ c.in_ok-cds.was ∙ ap Ok c.in-OfLength.is))
 
-pub returns-in_err-at : goal.returns-in_err-at
-returns-in_err-at c =
+pub returns-in_err-cds : goal.returns-in_err-cds
+returns-in_err-cds c =
     let p = err_from_is_err_and c.from_residual.result c.from_residual.ensures.1 in
-    rw (p.1, p.2) (sym (ask_broken _ _ (sym c.known_of.ensures ∙ c.in_err-at.was)))
+    rw (p.1, p.2) (sym (ask_broken _ _ (sym c.known_of.ensures ∙ c.in_err-cds.was)))

@@ -17,7 +17,7 @@ use Rattle.knowing.specs.declared.Known.TheVariants as known
 use Rattle.chaining.specs.Given.{given, codes}
 use Rattle.mapper.specs.Asking.{ask_g_to_n, ask_n_to_g, ask_n_to_c, ask_c_to_n, ask_g_to_c, ask_c_to_g, ask_coding, ask_in_bounds}
 
-module _ (x : Lent) (a : Alignment) (c : Option Cds) (k : known_of x ≡ Ok (known.Aligned a c)) where
+module _ (x : Lent) (a : Alignment) (c : Option Cds) (k : known_of x ≡ Ok (known.Aligned c a)) where
   abbrev fact : Lies x a c
   fact = known_lies x a c k
 

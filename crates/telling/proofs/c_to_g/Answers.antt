@@ -25,7 +25,7 @@ question_is c =
     simp (read f.start, read f.«start_offset», read f.end, read f.«end_offset») at c.c_asked-asked.ensures
 
 -- what is lent, and how it lies
-known_is : (c : Then-tables_hold) → let a = c.args in known_of (lent a.head a.genome.now a.transcript.now a.letters.now a.exons.now) ≡ Ok (known.Aligned c.in-Ok-Aligned.at c.in-Ok-Aligned.cds)
+known_is : (c : Then-tables_hold) → let a = c.args in known_of (lent a.head a.genome.now a.transcript.now a.letters.now a.exons.now) ≡ Ok (known.Aligned c.in-Ok-Aligned.cds c.in-Ok-Aligned.at)
 known_is c = told_lies _ (sym c.told_of.ensures ∙ c.in-Ok-Aligned.is ∙ ap Ok c.in-Ok-Aligned.field-0-is) (sym c.tables_hold.ensures ∙ c.if-tables_hold.true)
 
 -- the name that was sought, and where it was seen

@@ -22,7 +22,7 @@ ends_are : (c : Then-tables_hold) → c.both_ends-ends.result ≡ given (g_asked
 ends_are c = c.both_ends-ends.ensures ∙ ap given (simp (read c.ranges.start, read c.ranges.end) at c.g_asked.ensures)
 
 -- what is lent, and how it lies
-known_is : (c : Then-tables_hold) → let a = c.args in known_of (lent a.head a.genome.now a.transcript.now a.letters.now a.exons.now) ≡ Ok (known.Aligned c.in-Ok-Aligned.at c.in-Ok-Aligned.cds)
+known_is : (c : Then-tables_hold) → let a = c.args in known_of (lent a.head a.genome.now a.transcript.now a.letters.now a.exons.now) ≡ Ok (known.Aligned c.in-Ok-Aligned.cds c.in-Ok-Aligned.at)
 known_is c = told_lies _ (sym c.told_of.ensures ∙ c.in-Ok-Aligned.is ∙ ap Ok c.in-Ok-Aligned.field-0-is) (sym c.tables_hold.ensures ∙ c.if-tables_hold.true)
 
 -- the base that was sought, and where it was seen
