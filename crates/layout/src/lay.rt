@@ -116,9 +116,9 @@ impl Laid for CPosition {
     }
 }
 
-// Nothing laid out: all is 0.
-pub fn blank() -> Answer
-    ensures { result ≡ refusal 0 }
+// A number alone, laid out: all else is 0. It is put together once, as an answer that is made of another is copied in other pieces than it was stored in.
+fn bare(number: u32) -> Answer
+    ensures { result ≡ refusal number }
 {
     let nowhere = Position {
         base: 0,
@@ -127,21 +127,25 @@ pub fn blank() -> Answer
         exon: 0,
     };
     Answer {
-        number: 0,
+        number,
         mark: 0,
         start: nowhere,
         end: nowhere,
     }
 }
 
+// Nothing laid out: all is 0.
+pub fn blank() -> Answer
+    ensures { result ≡ refusal 0 }
+{
+    bare(0)
+}
+
 // A refusal laid out: all but its number is 0.
 pub fn refusal_of(k: Refusal) -> Answer
     ensures { result ≡ refusal (number k) }
 {
-    Answer {
-        number: u32::from(k.number()),
-        ..blank()
-    }
+    bare(u32::from(k.number()))
 }
 
 // A certain answer of one position, with its exon.
