@@ -148,7 +148,10 @@ fn put_bytes(buffer: &mut [u8], at: usize, bytes: &[u8])
     requires { at + length bytes.now ≤ length buffer.old }
     ensures { buffer.new ≡ sets buffer.old at bytes.now }
 {
-    buffer[at..at + bytes.len()].copy_from_slice(bytes);
+    // A loop, since a slice's copy is a call of memmove, which the archive needs nowhere else.
+    for i in 0..bytes.len() {
+        buffer[at + i] = bytes[i];
+    }
 }
 
 // The byte of a strand.

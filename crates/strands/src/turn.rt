@@ -64,6 +64,17 @@ fn put_turned(allele: &[u8], buffer: &mut [u8])
     }
 }
 
+// An allele, as it stands, at the front of a buffer that has room for it.
+fn put_plain(allele: &[u8], buffer: &mut [u8])
+    requires { length allele.now ≤ length buffer.old }
+    ensures { buffer.new ≡ allele.now ++ drop (length allele.now) buffer.old }
+{
+    // A loop, since a slice's copy is a call of memmove, which the archive needs nowhere else.
+    for i in 0..allele.len() {
+        buffer[i] = allele[i];
+    }
+}
+
 // An allele of bases, turned, or as it stands, at the front of a buffer that has room for it.
 pub fn put_on_strand(allele: &[u8], back: bool, buffer: &mut [u8])
     requires { (are_bases allele.now ≡ true) × (length allele.now ≤ length buffer.old) }
@@ -72,7 +83,7 @@ pub fn put_on_strand(allele: &[u8], back: bool, buffer: &mut [u8])
     if back {
         put_turned(allele, buffer);
     } else {
-        buffer[..allele.len()].copy_from_slice(allele);
+        put_plain(allele, buffer);
     }
 }
 

@@ -1,15 +1,20 @@
--- `card::put_bytes` meets its contract: the part is made a copy of the bytes. Assumes nothing.
-use mathlib.Core.Path.{◌≡◌, sym, ◌∙◌}
-use Prim.Native.Nat.{◌+◌, ◌-◌}
-use native.Mathlib.Omega.{arith}
-use lib.ListN.{length, take, drop}
-use lib.Seq.{sets-eq}
-use Rattle.std.proofs.Common.{append_assoc, drop-drop}
+-- Each turn stores one byte more, and in the end the part is the bytes. Assumes nothing.
+use Rattle.std.specs.Prelude.{◌≡◌, ℕ, ◌+◌, ◌≤◌, List, length}
+use Rattle.std.proofs.Common.{sym, ◌∙◌, arith, add-one}
+use lib.Seq.{sets, sets-eq, paste, paste-zero, paste-suc, take_all}
 use Rattle.card.proofs.put_bytes.Goals as goal
 
-pub returns : goal.returns
-returns c =
+all : (d s : List ℕ) (at n : ℕ) → n ≡ length s → at + length s ≤ length d → paste d at s n ≡ sets d at s
+all d s at n h room = rw (take_all n s (omega arith), h) (sym (sets-eq s d at room))
+
+pub loop-i-init : goal.loop-i-init
+loop-i-init c = paste-zero c.args.buffer.now c.args.at c.args.bytes.now
+
+pub loop-i-preserved : goal.loop-i-preserved
+loop-i-preserved c =
     let a = c.args in
-    let size : a.at + length a.bytes.now - a.at ≡ length a.bytes.now = omega arith in
-    rw (size, c.copy_from_slice.ensures.after)
-    (sym (sets-eq a.bytes.now a.buffer.now a.at (omega arith) ∙ rw (drop-drop (length a.bytes.now) a.at a.buffer.now) (append_assoc (take a.at a.buffer.now) a.bytes.now (drop (a.at + length a.bytes.now) a.buffer.now))))
+    let l = c.loop-i in
+    rw (l.invariant, add-one l.i) (paste-suc a.buffer.now a.at a.bytes.now l.i 0 (omega arith) c.loop-i-test.true)
+
+pub returns : goal.returns
+returns c = c.loop-i.invariant ∙ all c.args.buffer.now c.args.bytes.now c.args.at c.loop-i.i (omega arith) c.requires
