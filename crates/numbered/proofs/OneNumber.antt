@@ -18,12 +18,16 @@ none_or a b =
     eq-eqb (bit_or a b) 0 (omega (arith, or_add_and a b, no_a, no_b)))
 
 -- a difference that wraps, by name
-pub wrapped16_is : (a b : ℕ) → a < 2 ^ 16 → b < 2 ^ 16 → (a + (2 ^ 16 - b)) % 2 ^ 16 ≡ wrapped16 a b
+pub wrapped16_is : (a b d : ℕ) → a < 2 ^ 16 → b < 2 ^ 16 → d < 2 ^ 16 → (d + b) % 2 ^ 16 ≡ a → d ≡ wrapped16 a b
 unfolding wrapped16
-wrapped16_is a b a< b< =
+wrapped16_is a b d a< b< d< e =
     by_test (leb b a)
     (λ t. let l = leb-true b a t in rw t (omega arith))
     (λ t. let l = leb-false b a t in rw t (omega arith))
+
+-- the one that the machine computes
+pub wrapped16_sub : (a b : ℕ) → a < 2 ^ 16 → b < 2 ^ 16 → (a + (2 ^ 16 - b)) % 2 ^ 16 ≡ wrapped16 a b
+wrapped16_sub a b a< b< = wrapped16_is a b _ a< b< (omega arith) (omega arith)
 
 -- nothing is above exactly where the step is no more than the most
 pub none_above : (step most : ℕ) → eqb (step - most) 0 ≡ leb step most

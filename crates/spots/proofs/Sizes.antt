@@ -14,7 +14,7 @@ use Rattle.numbering.specs.Numbers.{place_of_n}
 use Rattle.spots.specs.Mapping.{turned, signed}
 
 -- the machine's change of sign is the definition's
-negated : (z : ℤ) → pos 0 -ℤ z ≡ neg_ℤ z
+pub negated : (z : ℤ) → pos 0 -ℤ z ≡ neg_ℤ z
 negated z = omega (order, dif (pos 0) z, neg z)
 
 pub signed_40 : (forward : Bool) {z : ℤ} → Within 38 z → Within 40 (signed forward z)
@@ -23,7 +23,7 @@ signed_40 false {z} h = omega (arith, h.within, rw (negated z) at (mag_dif (pos 
 
 -- the turn of a place
 module _ {len : ℕ} (f : Fits w32 len) where
-  back_40 : {z : ℤ} → Within 38 z → Within 40 (pos len -ℤ pos 1 -ℤ z)
+  pub back_40 : {z : ℤ} → Within 38 z → Within 40 (pos len -ℤ pos 1 -ℤ z)
   back_40 {z} h = omega (arith, f.fits, h.within, mag_dif (pos len) (pos 1), mag_dif (pos len -ℤ pos 1) z)
 
   pub turned_40 : (forward : Bool) {z : ℤ} → Within 38 z → Within 40 (turned forward len z)
