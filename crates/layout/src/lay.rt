@@ -175,7 +175,8 @@ fn lay_interval<P: Laid>(mark: u32, exons: Exons, i: Interval<P>) -> Answer
     }
 }
 
-// An answer across the genome.
+// An answer across the genome. It is woven into its callers, so that the answer is stored once, where the host has it.
+#[inline(always)]
 pub fn lay<P: Laid>(a: positions::Answer<P>) -> Answer
     ensures { result ≡ laid P.place (through (paper_marked P.says) a) }
 {

@@ -1,4 +1,5 @@
 // The short way of a question about one base: whether an interval is one, where it is sought by its name, and what a host is told of a sure base by its spot, laid out.
+// Each is woven into its caller by word of the source, as a call hands an answer back through memory, where it is copied in other pieces than it was stored in and waits for them.
 #![tactic(auto)]
 
 ghost use Rattle.std.specs.Prelude.{◌≡◌, ◌≤◌, ◌<◌};
@@ -30,6 +31,7 @@ pub fn is_base(from: i32, to: i32) -> bool
 }
 
 // A position of any kind, or why there is none, as the answer of a base with this exon.
+#[inline(always)]
 fn laid_base<P: Laid>(exon: u16, end: Result<P, Refusal>) -> Answer
     ensures { result ≡ laid P.place (ends (certain (between exon exon)) (through P.says end) (through P.says end)) }
 {
@@ -40,6 +42,7 @@ fn laid_base<P: Laid>(exon: u16, end: Result<P, Refusal>) -> Answer
 }
 
 // The n. answer of a sure base, by its spot. The strands part here, so that nothing is turned on strand 1.
+#[inline(always)]
 pub fn sure_n(
     at: Alignment,
     transcript: &[u32; MOST_STARTS],
@@ -58,6 +61,7 @@ pub fn sure_n(
 }
 
 // The c. answer of a sure base, by its spot.
+#[inline(always)]
 #[tactic(auto, using(crate::proofs::Once::c_once))]
 pub fn sure_c(
     at: Alignment,
@@ -106,6 +110,7 @@ pub fn seek_name(
 }
 
 // The g. answer of a sure base, by its spot, with its number's own offset.
+#[inline(always)]
 pub fn sure_g(at: Alignment, exons: &[u16; MOST_SEGMENTS], spot: Spot, offset: i32) -> Answer
     requires { (at.count ≤ most_segments) × Small 37 spot × (spot.number < at.count) }
     ensures { result ≡ sure_g at exons.now (spot_said spot) offset }
