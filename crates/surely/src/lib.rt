@@ -1,5 +1,5 @@
 // The short way of a question about one base: whether an interval is one, where it is sought by its name, and what a host is told of a sure base by its spot, laid out.
-// Each is woven into its caller by word of the source, as a call hands an answer back through memory, where it is copied in other pieces than it was stored in and waits for them.
+// The four that lay an answer out are woven into their callers by word of the source, as a call hands an answer back through memory, where it is copied in other pieces than it was stored in, and the copy waits.
 #![tactic(auto)]
 
 ghost use Rattle.std.specs.Prelude.{◌≡◌, ◌≤◌, ◌<◌};
@@ -8,17 +8,17 @@ ghost use Rattle.whole.specs.Whole.{eq_z};
 ghost use Rattle.segments.specs.Paper.{Small, spot_said};
 ghost use Rattle.positions.specs.Answers.{certain, ends};
 ghost use Rattle.positions.specs.Positions.{between};
-ghost use Rattle.positions.specs.Paper.{paper_c_question, paper_n_end, paper_c_end};
-ghost use Rattle.refusals.specs.Outcome.{and_then, through};
+ghost use Rattle.positions.specs.Paper.{paper_c_question};
+ghost use Rattle.refusals.specs.Outcome.{through};
 ghost use Rattle.knowing.specs.Knowing.{paper_coding};
 ghost use Rattle.layout.specs.Layout.{laid};
-ghost use Rattle.surely.specs.Surely.{sure_n, sure_c, sure_g, one_coded, SoughtName};
+ghost use Rattle.surely.specs.Surely.{sure_n, sure_c, sure_g, SoughtName};
 
 use knowing::Cds;
 use layout::lay;
 use layout::lay::{Answer, Laid};
 use lone::Sought;
-use positions::{CPosition, CQuestion, NPosition};
+use positions::CQuestion;
 use refusals::{MOST_SEGMENTS, MOST_STARTS, Refusal};
 use segments::Spot;
 use spots::Alignment;
